@@ -116,18 +116,22 @@ def test_no_inputs(count, place):
 
 
 def test_closed_folders(count, place):
-    place.tree({"d/a": LINE, "d/closed/b": LINE, "d/open/b": LINE})
-    os.chmod(place.folder / "d/closed", 0)
+    place.tree({"d/a": LINE, "d/closed/b": LINE, "d/open/b": LINE, "d/run/b": LINE, "d/run/_sdtool/own": LINE, "d/_sdtool/own": LINE})
+    closed = [place.folder / name for name in ("d/closed", "d/run/_sdtool", "d/_sdtool")]
+    for folder in closed:
+        os.chmod(folder, 0)
     for folder in place.folder, *place.folder.parents:
         if os.stat(folder).st_uid == os.getuid() and str(folder).startswith(tempfile.gettempdir() + "/"):
             os.chmod(folder, 0o777)
-    for given, right in (["d"], {"a": "d/a", "open/b": "d/open/b"}), (["d/*/b"], {"b": "d/open/b"}):
+    for given, right, named in ((["d"], {"a": "d/a", "open/b": "d/open/b"}, ["d/closed", "d/run", "d/_sdtool"]),
+                                (["d/[co]*/b"], {"b": "d/open/b"}, ["d/closed"])):
         out = place.out()
         out.mkdir()
         os.chmod(out, 0o777)
         got = place.run(out, ["convert"], given, through=NOBODY if os.getuid() == 0 else ())
-        judge(count, place, f"a closed folder, {given}", got, out, right, ["d/closed"])
-    os.chmod(place.folder / "d/closed", 0o777)
+        judge(count, place, f"closed folders, {given}", got, out, right, named)
+    for folder in closed:
+        os.chmod(folder, 0o777)
 
 
 def test_names_of_runs(count, place):
@@ -259,6 +263,15 @@ def test_files_of_others(count, place):
     (out / "x").write_text("mine")
     got = place.run(out, ["convert"], ["one/x"], ["--parts"])
     count.add(got.status == 2 and (out / "x").read_text() == "mine", f"--parts over a file: {got}")
+    place.tree({"d/sub/x": LINE, "d/y": LINE})
+    for options in [], ["--parts"]:
+        out = place.out()
+        out.mkdir()
+        (out / "sub").write_text("mine")
+        got = place.run(out, ["convert"], ["d"], options)
+        (out / "sub").unlink()
+        answers = {name.split("/")[0]: data for name, data in runs.answers_in(out).items()}
+        judge(count, place, f"a file where a folder of answers has to be, {options}", got, out, {"y": "d/y"}, ["d/sub/x"], answers=answers)
 
 
 def test_records(count, place):
@@ -634,6 +647,20 @@ def test_words(count, place):
         got = runs.ended(place.start(["sh", "-c", command], stdout=subprocess.PIPE, stderr=subprocess.PIPE))
         is_right = got.status == status and runs.answers_in(out) == {"x": place.wanted(["convert"], "x")[0]}
         count.add(is_right and "Traceback" not in got.stderr, f"{ends}: {got}")
+    # What has no answers is said, and the status is right, whatever stream is full and whatever characters it has.
+    place.tree({"d/x": LINE, "d/\u65e5": LINE})
+    os.mkfifo(place.folder / "d/fifo")
+    full = "exec \"$@\" {}"
+    for through, files, status, said in (("2>/dev/full", ["d"], 3, ""), ("2>/dev/full", ["nosuch"], 2, ""),
+                                         (">/dev/full", ["d"], 3, "d/fifo has no answers")):
+        out = place.out()
+        got = place.run(out, ["convert"], files, through=["sh", "-c", full.format(through), "sh"])
+        is_right = got.status == status and said in got.stderr and "Traceback" not in got.stderr
+        count.add(is_right and len(runs.answers_in(out)) == 2 * (files == ["d"]), f"{files} {through}: {got}")
+    out = place.out()
+    got = place.run(out, ["convert"], ["d"], environment={"PYTHONIOENCODING": "latin-1"})
+    count.add(got.status == 3 and "d/\\u65e5\n" in got.stdout and "d/x\n" in got.stdout and "Traceback" not in got.stderr,
+              f"a name that standard output has no characters for: {got}")
     (place.folder / "file").write_text("no folder")
     got = place.run("file/below", ["convert"], ["x"])
     count.add(got.status == 3 and "x has no answers" in got.stderr and "Traceback" not in got.stderr, f"--out below a file: {got}")

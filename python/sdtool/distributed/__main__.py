@@ -1,5 +1,6 @@
 """The command line of runs on a Dask cluster, and what they report."""
 import argparse
+import codecs
 import contextlib
 import dataclasses
 import functools
@@ -12,7 +13,7 @@ import signal
 import sys
 import threading
 import uuid
-from typing import Callable, List, Optional, Tuple
+from typing import Callable, List, NoReturn, Optional, TextIO, Tuple, Union
 
 import dask.config
 import sdtool
@@ -22,15 +23,45 @@ from distributed.comm import CommClosedError
 
 from .crew import PATIENT_SECONDS, Crew
 from .inputs import Refused, Taking, opened
-from .work import OURS, RUN, UNFINISHED, Place, Work, modules_digest
+from .work import OURS, RUN, UNFINISHED, Given, Place, Work, modules_digest
 
 CLOSE_SECONDS = 5
 LEAST_THREADS = 4  # without a cluster: a task that hangs keeps its thread, and others go on
-say = functools.partial(print, "sdtool.distributed:", file=sys.stderr or open(os.devnull, "w"), flush=True)
+ESCAPED = "sdtool.distributed"  # how names are printed
 
 
-def take_over(work: Work, taking: Taking) -> None:
-    """Makes this run the owner of the output. What an earlier one has not finished is removed."""
+def put(text: str, stream: Optional[TextIO]) -> None:
+    """Writes what changes no status. A stream that is closed or full is passed over."""
+    with contextlib.suppress(OSError, ValueError):
+        if stream is not None:
+            stream.write(text)
+            stream.flush()
+
+
+def say(what: object) -> None:
+    put(f"sdtool.distributed: {what}\n", sys.stderr)
+
+
+def escape(error: UnicodeError) -> Tuple[Union[str, bytes], int]:
+    """Bytes of a name that are no text go out as they are, and characters that a stream does not have as their numbers."""
+    try:
+        return codecs.lookup_error("surrogateescape")(error)
+    except UnicodeError:
+        return codecs.lookup_error("backslashreplace")(error)
+
+
+codecs.register_error(ESCAPED, escape)
+
+
+class Parser(argparse.ArgumentParser):
+    def error(self, message: str) -> NoReturn:
+        put(f"{self.format_usage()}{self.prog}: error: {message}\n", sys.stderr)
+        sys.exit(2)
+
+
+def take_over(work: Work, crew: Crew) -> None:
+    """Makes this run the owner of the output. What an earlier one has not finished is removed. An input whose answers cannot have
+    their place costs no other one."""
     place = work.place
     place.fs.makedirs(work.mine, exist_ok=True)
     unfinished = f"{work.mine}/{uuid.uuid4().hex}"
@@ -40,11 +71,18 @@ def take_over(work: Work, taking: Taking) -> None:
         folder = told["name"].rstrip("/")
         if RUN.fullmatch(os.path.basename(folder)) and folder != work.mine:
             remove_run(place, folder)
-    for given in taking.inputs:
-        place.fs.makedirs(given.folder, exist_ok=True)
-        place.fs.makedirs(os.path.dirname(given.answers), exist_ok=True)
-        if work.is_parts:  # their evidence is beside them, and this is what says that they are whole
-            work.write_record(f"{given.folder}/{OURS}.json", {"lines": None, "url": given.url})
+    for job in crew.jobs:
+        try:
+            make_folders(work, job.given)
+        except OSError as error:
+            crew.close(job, f"{type(error).__name__}: {error}")
+
+
+def make_folders(work: Work, given: Given) -> None:
+    for folder in given.folder, os.path.dirname(given.answers):
+        work.place.fs.makedirs(folder, exist_ok=True)
+    if work.is_parts:  # their evidence is beside them, and this is what says that they are whole
+        work.write_record(f"{given.folder}/{OURS}.json", {"lines": None, "url": given.url})
 
 
 def remove_run(place: Place, folder: str) -> None:
@@ -75,7 +113,7 @@ def drive(wanted: argparse.Namespace, work: Work, taking: Taking) -> Crew:
     where = wanted.scheduler or "the one in this process"
     waiting = threading.Timer(PATIENT_SECONDS, say, [f"the scheduler does not answer: {where}"])
     try:
-        take_over(work, taking)
+        take_over(work, crew)
         waiting.start()
         client = client_of(wanted)
         waiting.cancel()
@@ -112,8 +150,8 @@ def counted(least: int, word: str) -> int:
 
 
 def wanted_of(words: List[str]) -> argparse.Namespace:
-    parser = argparse.ArgumentParser(prog="python3 -m sdtool.distributed", allow_abbrev=False,
-                                     usage="%(prog)s [--scheduler ADDRESS] --out URL [..] COMMAND [OPTIONS] -- INPUT..")
+    parser = Parser(prog="python3 -m sdtool.distributed", allow_abbrev=False,
+                    usage="%(prog)s [--scheduler ADDRESS] --out URL [..] COMMAND [OPTIONS] -- INPUT..")
     add = parser.add_argument
     add("--scheduler", metavar="ADDRESS", help="of Dask, as tcp://host:8786; without it, a cluster in this process")
     add("--out", metavar="URL", required=True, help="the folder of the answers")
@@ -153,16 +191,18 @@ class Report:
             return 3
         return int(any(each["errors"] for each in came))
 
-    def show(self) -> int:
-        """Says it all. Gives the status."""
+    def say_unanswered(self) -> None:
         for job in self.crew.jobs if self.crew else ():
-            if isinstance(job.came, dict):
-                print(f"{job.came['lines']:15,} lines {job.came['errors']:15,} errors  {job.given.url}")
-            else:
+            if not isinstance(job.came, dict):
                 say(f"{job.given.url} has no answers: {job.came}")
         for each in self.refused:
             say(f"{each.url} has no answers: it {each.reason}")
-        return self.status()
+
+    def print_counts(self) -> None:
+        for job in self.crew.jobs if self.crew else ():
+            if isinstance(job.came, dict):
+                print(f"{job.came['lines']:15,} lines {job.came['errors']:15,} errors  {job.given.url}")
+        sys.stdout.flush()
 
 
 def answered(wanted: argparse.Namespace) -> Report:
@@ -184,7 +224,7 @@ def main(words: List[str]) -> int:
     wanted = wanted_of(words)
     status, output, message = sdtool.run(wanted.words, b"")
     if status or output:  # wrong words, or help
-        print(output.decode() or message, end="", file=sys.stderr if status else sys.stdout)
+        put(output.decode() or message, sys.stderr if status else sys.stdout)
         return status
     try:
         report = answered(wanted)
@@ -201,24 +241,23 @@ def main(words: List[str]) -> int:
 
 
 def shown(report: Report) -> int:
-    """Prints the report. Counts that cannot be printed are not passed over."""
+    """Shows the report: first what has no answers, whatever becomes of the counts. Gives the status, which does not pass over
+    counts that cannot be printed."""
+    report.say_unanswered()
     if sys.stdout is None:
         say("standard output is closed, so the counts are not shown")
-        sys.stdout = open(os.devnull, "w")
-        report.show()
         return 3
     signal.signal(signal.SIGPIPE, signal.SIG_DFL)  # as programs do whose output is closed
     if isinstance(sys.stdout, io.TextIOWrapper):
-        sys.stdout.reconfigure(errors="surrogateescape")  # names of files need not be UTF-8
+        sys.stdout.reconfigure(errors=ESCAPED)  # names of files need not be UTF-8
     try:
-        status = report.show()
-        sys.stdout.flush()
-        return status
+        report.print_counts()
     except OSError as error:
         say(f"the counts cannot be printed: {error}")
         with contextlib.suppress(Exception):
             sys.stdout.close()
         return 3
+    return report.status()
 
 
 if __name__ == "__main__":

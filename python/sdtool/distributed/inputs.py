@@ -54,10 +54,11 @@ class Finder:
     def below(self, folder: str) -> Iterator[Found]:
         try:
             listed = self.listed(folder)
+            is_output = folder != self.above and has_run(self.fs, folder)
         except Exception as error:  # file systems have many
             yield Found(folder, self.name(folder), f"cannot be listed: {words_of(error)}")
             return
-        if folder != self.above and has_run(self.fs, folder):
+        if is_output:
             yield Found(folder, self.name(folder), "has the answers of a run, and is no input")
             return
         for told in listed:
@@ -197,7 +198,14 @@ class Taking:
                 raise ValueError(f"--out: {self.place.shown} is in the input {url}")
 
     def is_record(self, fs: Any, folder: str, one: Found) -> bool:
-        """Whether a run wrote this beside its answers: by the name, and by what is in it."""
+        """Whether a run wrote this beside its answers. What cannot be read is no such thing, and is named."""
+        try:
+            return self.is_of_run(fs, folder, one)
+        except Exception:  # file systems have many
+            return False
+
+    def is_of_run(self, fs: Any, folder: str, one: Found) -> bool:
+        """Whether a run wrote this, by its name and by what is in it."""
         if os.path.basename(one.path) == OURS and is_folder(fs, one.path):
             return has_run(fs, os.path.dirname(one.path))
         if one.problem:
@@ -220,7 +228,10 @@ class Taking:
         answers = f"{self.place.root}/{name}"
         folder = answers if self.is_parts else f"{self.place.ours}/inputs/{name}"
         given = Given(fs, one.path, kind, answers, folder, told)
-        problem = self.problem_of(given, name, number)
+        try:
+            problem = self.problem_of(given, name, number)
+        except OSError as error:
+            return f"cannot have its answers at {answers}: {words_of(error)}"
         if not problem:
             self.taken.update(dict.fromkeys([answers, *(f"{each}/" for each in above(answers))], number))
             self.inputs.append(given)
