@@ -17,6 +17,7 @@ MAGIC = re.compile(r"[*?\[]")
 OF_RUNS = re.compile(rf"(^|/){OURS}(-part-\d{{6,}})?\.json$")
 BELOW_RUNS = re.compile(rf"{OURS}/(run\.json|sdtool-[0-9a-f]{{32}}/[0-9a-f]{{32}}|"
                         rf"inputs/.*(/{OURS}(-part-\d{{6,}})?\.json|/part-\d{{6,}}))")
+OUTPUT = "has the answers of a run, and is no input"
 
 
 class Found(NamedTuple):
@@ -59,7 +60,7 @@ class Finder:
             yield Found(folder, self.name(folder), f"cannot be listed: {words_of(error)}")
             return
         if is_output:
-            yield Found(folder, self.name(folder), "has the answers of a run, and is no input")
+            yield Found(folder, self.name(folder), OUTPUT)
             return
         for told in listed:
             path = told["name"].rstrip("/")
@@ -100,14 +101,28 @@ class Finder:
             path = told["name"].rstrip("/")
             if part == "**":
                 if told["type"] == "directory":
-                    yield from self.matches(path, parts)
+                    yield from self.entered(path, parts)
                 elif not rest:
                     yield self.match(path)
             elif fnmatch.fnmatchcase(os.path.basename(path), part):
                 if not rest:
                     yield self.match(path)
                 elif told["type"] == "directory" or told.get("islink"):
-                    yield from self.matches(path, rest)
+                    yield from self.entered(path, rest)
+
+    def entered(self, folder: str, parts: List[str]) -> Iterator[Found]:
+        """What the parts lead to in a folder that a pattern has found and nobody has named. One of runs is not read."""
+        name = os.path.basename(folder)
+        try:
+            is_output = has_run(self.fs, folder)
+            is_of_run = name == OURS and has_run(self.fs, os.path.dirname(folder))
+        except Exception as error:
+            yield Found(folder, name, f"cannot be looked at: {words_of(error)}")
+            return
+        if is_output:
+            yield Found(folder, name, OUTPUT)
+        elif not is_of_run:
+            yield from self.matches(folder, parts)
 
     def named(self, path: str) -> Iterator[Found]:
         """A file that a pattern names, if it is there. Where that cannot be seen, it says so."""
@@ -138,7 +153,8 @@ def found(fs: Any, path: str) -> Iterator[Found]:
     elif MAGIC.search(path):
         at = MAGIC.search(path).start()  # type: ignore[union-attr]
         above, _, pattern = path[:at].rpartition("/")
-        yield from Finder(fs, above).matches(above, (pattern + path[at:]).split("/"))
+        by_path = {one.path: one for one in Finder(fs, above).matches(above, (pattern + path[at:]).split("/"))}
+        yield from by_path.values()  # ** may lead to a file in several ways
 
 
 def is_there(fs: Any, path: str) -> bool:
