@@ -73,6 +73,10 @@ def raised(call, *arguments, **named):
     return None
 
 
+def raise_it(problem):
+    raise problem
+
+
 def descriptors_of_rows():
     """The descriptors of the worked rows, as the independent implementation reads them."""
     of_hex, of_sddl = c_library.lines_of_rows()
@@ -395,6 +399,15 @@ def test_many(count):
         found = [first, *verdicts]
         count.add([isinstance(one, sdtool.Fault) and one.number == 5 or one.granted for one in found] ==
                   [True, False, True, True] * 3, f"{found}")
+    # A fault never passes for a verdict that is granted, and stays an exception like any other.
+    given = [*checker.many([b"short"]), *sdtool.plain_descriptors([b"short", "D:("])]
+    for fault in [*given, *map(copy.copy, given), *map(pickle.loads, map(pickle.dumps, given))]:
+        problem = raised(bool, fault)
+        count.add(type(problem) is sdtool.WrongType and fault.line in str(problem), f"the truth of {fault!r}: {problem!r}")
+    with concurrent.futures.ThreadPoolExecutor(1) as threads:
+        for call, argument in (raise_it, given[0]), (sdtool.to_sddl, b"short"):
+            problem = raised(threads.submit(call, argument).result)
+            count.add(type(problem) is sdtool.Fault and bool(problem), f"a fault that a thread raises: {problem!r}")
     count.add(list(checker.many([])) == [], "no descriptor")
     problem = raised(list, Checker(Token(["BU"])).many([yes]))
     count.add(isinstance(problem, sdtool.Fault) and problem.number == 50, f"no right: {problem!r}")

@@ -91,6 +91,7 @@ class Fault(_Numbered):
     """
 
     _where: Where = NOWHERE
+    _is_answer = False
 
     def __init__(self, number: int, name: str, part: Optional[str] = None, other_part: Optional[str] = None,
                  argument: Optional[str] = None, index: Optional[int] = None) -> None:
@@ -107,6 +108,17 @@ class Fault(_Numbered):
         fault = Fault(self.number, self.name, self.part, self.other_part, argument, index)
         fault._where = where or self._where
         return fault
+
+    def as_answer(self) -> "Fault":
+        """The same fault, in the place of a verdict or a descriptor. That is true if it is granted, so this is neither true nor
+        false, unless it is raised: an exception is true."""
+        self._is_answer = True
+        return self
+
+    def __bool__(self) -> bool:
+        if self._is_answer and self.__traceback__ is None:
+            raise WrongType(f"a Fault in the place of an answer is neither true nor false; ask isinstance: {self}")
+        return True
 
     @property
     def place(self) -> Optional[Place]:

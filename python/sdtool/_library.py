@@ -3,7 +3,7 @@ import functools
 import os
 import re
 import sys
-from typing import TYPE_CHECKING, NoReturn, Optional, Sequence
+from typing import TYPE_CHECKING, Any, NoReturn, Optional, Sequence
 
 from ._errors import ARGUMENT, ArgumentFault, Fault
 from ._places import PARTS, InBytes, InText
@@ -38,6 +38,11 @@ def fault_of(fault: int, part: int, other_part: int, argument: int, entry: int, 
     elif given is not None and fault in _OF_TEXTS:
         found._where = InText(given, domain, _transport.sddl_place)
     return found
+
+
+def answer_of_fault(*numbers: Any) -> Fault:
+    """The same, in the place of an answer."""
+    return fault_of(*numbers).as_answer()
 
 
 def _raises(fault: int, part: int, other_part: int, argument: int, entry: int, given: Optional[bytes],

@@ -4,7 +4,7 @@ import functools
 import itertools
 import struct
 import uuid
-from typing import (Any, Callable, ClassVar, Dict, FrozenSet, Iterable, Iterator, List, NamedTuple, NoReturn, Optional, Sequence,
+from typing import (Any, Callable, ClassVar, Dict, FrozenSet, Iterable, Iterator, NamedTuple, NoReturn, Optional, Sequence,
                     Tuple, Type, TypeVar, Union, overload)
 
 from . import _arguments, _library
@@ -564,8 +564,8 @@ class Checker(_Fixed, _library.Asking):
         _asked.fill(self, (holder, request))
 
     def many(self, descriptors: Iterable["DescriptorLike"], *, ahead: int = 1024) -> Iterator[Union[Verdict, Fault]]:
-        """The verdict on each descriptor, in order, and for one that has none its Fault. At most ahead descriptors are
-        taken before their verdicts come."""
+        """The verdict on each descriptor, in order, and for one that has none its Fault, which is neither true nor false. At most
+        ahead descriptors are taken before their verdicts come."""
         question = _library.asked(self)
         if question is None:
             raise not_made(self)
@@ -868,5 +868,5 @@ def _of_derivation(call: Callable[..., _Answer], parent: bytes, owner: SidLike, 
 
 
 _library.adopt(SecurityDescriptor, Acl, Acl.ABSENT, Acl.NULL, Verdict, Ace, Sid, tuple(map(_KIND_OF.get, range(256))),
-               tuple(_FLAGS_OF), _library.fault_of, _no_list, _arguments.text, sid_or_none, _arguments.layout,
+               tuple(_FLAGS_OF), _library.answer_of_fault, _no_list, _arguments.text, sid_or_none, _arguments.layout,
                _arguments.only, _guid_of)
