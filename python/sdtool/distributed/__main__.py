@@ -23,7 +23,7 @@ from distributed.comm import CommClosedError
 
 from .crew import PATIENT_SECONDS, Crew
 from .inputs import Refused, Taking, opened
-from .work import OURS, RUN, UNFINISHED, Given, Place, Work, modules_digest
+from .work import OURS, RUN, UNFINISHED, Given, Place, Unfit, Work, modules_digest, reason_of
 
 CLOSE_SECONDS = 5
 LEAST_THREADS = 4  # without a cluster: a task that hangs keeps its thread, and others go on
@@ -74,8 +74,10 @@ def take_over(work: Work, crew: Crew) -> None:
     for job in crew.jobs:
         try:
             make_folders(work, job.given)
-        except OSError as error:
-            crew.close(job, f"{type(error).__name__}: {error}")
+        except Unfit:
+            raise
+        except Exception as error:  # file systems have many
+            crew.close(job, reason_of(error))
 
 
 def make_folders(work: Work, given: Given) -> None:

@@ -246,7 +246,9 @@ class Taking:
         given = Given(fs, one.path, kind, answers, folder, told)
         try:
             problem = self.problem_of(given, name, number)
-        except OSError as error:
+        except Exception as error:
+            if type(error) is ValueError:
+                raise
             return f"cannot have its answers at {answers}: {words_of(error)}"
         if not problem:
             self.taken.update(dict.fromkeys([answers, *(f"{each}/" for each in above(answers))], number))
