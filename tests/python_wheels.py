@@ -1,8 +1,8 @@
 #!/usr/bin/env python3
 """python_wheels.py
 
-Tests the Python wheels of what is built in out/systems. The one for this machine is installed by pip into an empty virtual
-environment of the oldest and the newest Python 3 from 3.8 on that are there. The module has to use its extension; without the extension's file,
+Compiles the extension for each system, and tests the Python wheels of what is built in out/systems. The one for this machine is
+installed by pip into an empty virtual environment of the oldest and the newest Python 3 from 3.8 on that are there. The module has to use its extension; without the extension's file,
 and where the environment names another library, it has to give the same answers through ctypes. What a wheel for another
 system cannot show here is looked at: for which machine its files are, which C library and which names of Python they need,
 and what its tag and its record say. Two builds have to give the same bytes.
@@ -26,6 +26,9 @@ sys.dont_write_bytecode = True
 import preload  # noqa: E402
 
 TOP = pathlib.Path(__file__).resolve().parent.parent
+sys.path.insert(0, str(TOP / "packaging"))
+import extension  # noqa: E402
+
 SYSTEMS = TOP / "out/systems"
 SECONDS = 3000
 # What an installed module says: whether it has its extension, and some answers of each kind of call.
@@ -60,6 +63,20 @@ def ran(words, **others):
     ended = subprocess.run(list(map(str, words)), stdout=subprocess.PIPE, stderr=subprocess.STDOUT, timeout=SECONDS,
                            check=False, text=True, **others)
     return ended.stdout, ended.returncode
+
+
+def test_compiled(count, system):
+    """The extension compiles for a system, whose headers have names of their own, also where nothing else is built for it."""
+    problem = extension.missing(system)
+    if system == "linux-x86_64" and os.uname().machine != "x86_64":
+        problem = "its compiler is this machine's own"
+    if problem:
+        print(f"skipped: the extension of {system}, since {problem}")
+        return
+    with tempfile.TemporaryDirectory() as folder:
+        target = pathlib.Path(folder, extension.FILES[system])
+        printed, status = ran([sys.executable, TOP / "packaging/extension.py", system, target])
+        count.add(status == 0 and machine_of(target.read_bytes()) == MACHINES[system], f"the extension of {system}: {printed[:2000]}")
 
 
 def wheels_of(system, folder):
@@ -211,6 +228,8 @@ EXPECTED = [
 
 def main():
     count = preload.Count()
+    for system in MACHINES:
+        test_compiled(count, system)
     systems = [system for system in MACHINES if (SYSTEMS / system / NAMES[system][0]).is_file()]
     if not systems:
         print("skipped: nothing is built in out/systems")
