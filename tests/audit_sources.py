@@ -885,6 +885,15 @@ def test_pipes(place: Place) -> None:
         ended = subprocess.run(["bash", "-c", f"{sys.executable} -m sdtool.audit can S-1-1-0 write {words} --no-bar"], cwd=place.folder, capture_output=True,
                                text=True, env={**os.environ, "PYTHONPATH": str(TOP / "python"), "PYTHONDONTWRITEBYTECODE": "1"}, timeout=600)
         place.expect((ended.returncode, ended.stdout.splitlines()[-1:]), (0, ["3,000 objects: 3,000 nothing"]), f"can .. {words}: {ended.stderr[-300:]}")
+    # A pipe in non-blocking mode that has no bytes yet has not ended.
+    reader, writer = os.pipe()
+    os.set_blocking(reader, False)
+    os.write(writer, "".join(of_tsv_text(3)).encode())
+    ended = subprocess.run([sys.executable, "-m", "sdtool.audit", "can", "S-1-1-0", "write", "-", "--no-bar"], stdin=reader, capture_output=True, text=True,
+                           env={**os.environ, "PYTHONPATH": str(TOP / "python"), "PYTHONDONTWRITEBYTECODE": "1"}, timeout=600)
+    os.close(reader)
+    os.close(writer)
+    place.expect((ended.returncode, "non-blocking mode" in ended.stdout + ended.stderr), (3, True), f"a pipe that is open: {ended.stdout[-300:]} {ended.stderr[-300:]}")
 
 
 def test_jobs(place: Place) -> None:
