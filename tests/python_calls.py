@@ -365,19 +365,19 @@ def test_order(count, words):
                       line.decode().split("\n")[:-1], f"a pipe that had {line}")
         os.close(writing)
         count.add(list(answers) == ["error 25 sid-form"], "the end of a pipe")
-    # No bytes yet are not the end.
-    for buffering in -1, 0:
+    # No bytes yet are not the end, and what is there of a line is no line.
+    for mode, buffering in ("rb", -1), ("rb", 0), ("r", -1):
         reading, writing = os.pipe()
         os.set_blocking(reading, False)
-        with open(reading, "rb", buffering) as file:
+        with open(reading, mode, buffering) as file:
             os.write(writing, b"D:P\nO:")
-            answers = sdtool.lines(file, words)
+            answers = sdtool.lines(file, words, ahead=1)
             found = next(answers), type(raised(next, answers))
-            count.add(found == ("D:P", BlockingIOError), f"a pipe in non-blocking mode, {buffering}: {found}")
+            count.add(found == ("D:P", BlockingIOError), f"a pipe in non-blocking mode, {mode} {buffering}: {found}")
             answers = sdtool.lines(file, words)
             os.write(writing, b"D:")
             os.close(writing)
-            count.add(list(answers) == ["D:"], f"the end of a pipe in non-blocking mode, {buffering}")
+            count.add(list(answers) == ["D:"], f"the end of a pipe in non-blocking mode, {mode} {buffering}")
 
 
 def test_memory(count):

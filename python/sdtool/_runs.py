@@ -149,6 +149,8 @@ def lines(source: Source, words: Sequence[str], *, ahead: int = _AHEAD) -> Itera
         raise ArgumentFault(started.message.decode("ascii").rstrip("\n") or "the words ask for help", "words")
     if issubclass(type(source), (io.BufferedIOBase, io.RawIOBase)):
         return _answers_of_pieces(_pieces_of(source), started)
+    if issubclass(type(source), io.TextIOWrapper):
+        return _answers_of_pieces(_batches_of(_texts_of(source), most), started)
     given: Iterator[Any] = _arguments.iterator("source", source, "lines, or a file")
     return _answers_of_pieces(_batches_of(given, most), started)
 
@@ -160,6 +162,20 @@ def _pieces_of(file: Any) -> Iterator[bytes]:
         if not data:
             return
         yield data
+
+
+def _texts_of(file: Any) -> Iterator[str]:
+    """The lines of a text file. In non-blocking mode Python takes no bytes yet for the end, so whether it is that is asked first."""
+    for line in file:
+        if not line.endswith("\n"):
+            _require_end(file)
+        yield line
+    _require_end(file)
+
+
+def _require_end(file: Any) -> None:
+    if _never_waits(file) and piece_of(file.buffer, 1):
+        raise BlockingIOError("the file is in non-blocking mode, and had no bytes for a moment")
 
 
 def piece_of(file: Any, most: int) -> Any:
