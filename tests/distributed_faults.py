@@ -500,6 +500,9 @@ def test_hanging(count, place):
     judge(count, place, "a task that hangs", got, out, {"x": "x", "y": "y"})
     is_told = not (place.folder / "hung").exists() or "another one gets it" in got.stderr and "x" in got.stderr
     count.add(is_told, f"a task that hangs is told of: {got}")
+    code = "from sdtool.distributed import crew\nprint(sorted(told[5] for told in client.run_on_scheduler(crew.see, 'sdtool-').values()))"
+    busy = place.asked(address, code).strip()
+    count.add(busy == f"[False, {(place.folder / 'hung').exists()}]", f"which workers do what was taken back: {busy}")
     out = place.out()
     both = place.start_run(out, ["convert"], ["x", "y"], ["--block", "100000", *SOON], place.patched("hangs", HANGS))
     got = runs.ended(both)

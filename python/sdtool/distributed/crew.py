@@ -135,7 +135,7 @@ def see(name: str, dask_scheduler: Any = None) -> Dict[str, Tuple[Any, ...]]:
         # The keys of others are any values, as tuples.
         ours = [task.key for task in its.executing if str(task.key).startswith(name) and task in its.processing]
         others = sum(not str(task.key).startswith(name) for task in its.processing)
-        is_busy = its.metrics.get("executing", 0) > len(its.executing)
+        is_busy = its.metrics.get("task_counts", {}).get("executing", 0) > len(its.executing)
         told[address] = (time.time() - its.last_seen, its.status.name, its.nthreads, ours, others, is_busy)
     return told
 
