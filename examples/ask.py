@@ -4,6 +4,7 @@
 Asks PROGRAM, which is sdtool, one line of SDDL at a time whether the token may change anything of that file or folder,
 and prints each answer before it asks for the next one: yes, no, or unknown and why.
 """
+import os
 import re
 import subprocess
 import sys
@@ -23,6 +24,7 @@ def said(line, answer):
 
 
 def main():
+    os.set_blocking(sys.stdin.fileno(), True)  # else Python takes no line yet for the end
     command = [sys.argv[1], "check", "--from", "sddl", "--token", sys.argv[2], "--maximum"]
     # Without a buffer each line goes out at once; else both sides would wait.
     with subprocess.Popen(command, bufsize=0, stdin=subprocess.PIPE, stdout=subprocess.PIPE) as sdtool:

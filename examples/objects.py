@@ -5,11 +5,11 @@ list that cannot be taken apart raises Unread, and the scripts then end with a m
 """
 import argparse
 import base64
-import binascii
 import codecs
 import csv
 import io
 import json
+import os
 import re
 import struct
 import subprocess
@@ -322,10 +322,19 @@ def judged(item):
     return item
 
 
+def bytes_of(path):
+    """All of a file, or of standard input. That may be in non-blocking mode, in which Python takes no bytes yet for the end."""
+    if path != "-":
+        with open(path, "rb") as file:
+            return file.read()
+    os.set_blocking(sys.stdin.fileno(), True)
+    return sys.stdin.buffer.read()
+
+
 def read(options, path):
     """The objects of a list, in order."""
     try:
-        data = sys.stdin.buffer.read() if path == "-" else open(path, "rb").read()
+        data = bytes_of(path)
     except OSError as error:
         raise Unread(error) from None
     columns = Columns(options.name, options.descriptor, options.delimiter, options.form)

@@ -10,6 +10,7 @@ The answers to the descriptors below were worked out by hand. The last line is '
 """
 import argparse
 import base64
+import contextlib
 import csv
 import io
 import itertools
@@ -20,6 +21,7 @@ import re
 import subprocess
 import sys
 import tempfile
+import time
 from typing import NamedTuple
 
 sys.dont_write_bytecode = True
@@ -381,6 +383,19 @@ def lines(count):
         for words in (["sh", "may_change.sh", "WD"], [sys.executable, "-B", "ask.py", "sdtool", "WD"]):
             told = run(words, given).stdout.splitlines()
             count.add(told and all(says(answer, UNKNOWN) for answer in told), f"{words[1:]} {encoding}: {told}")
+    # Standard input may be in non-blocking mode, in which no line yet is not the end.
+    for words in (["ask.py", "sdtool", "WD"], ["named.py", "lines", "-", "convert"]):
+        reader, writer = os.pipe()
+        os.set_blocking(reader, False)
+        with subprocess.Popen([sys.executable, "-B", *words], cwd=EXAMPLES, stdin=reader, stdout=subprocess.PIPE) as child:
+            os.close(reader)
+            with contextlib.suppress(BrokenPipeError):
+                for line in b"O:BA\n", b"O:SY\n":
+                    os.write(writer, line)
+                    time.sleep(1)
+            os.close(writer)
+            told = child.stdout.read()
+        count.add(told.count(b"\n") == 2 and child.returncode == 0, f"{words}, lines that come late: {told}")
 
 
 USER = '"DOM\\ann","S-1-5-21-1-2-3-1001"\n'
