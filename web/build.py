@@ -2,14 +2,15 @@
 """build.py MODULE LIBRARY PAGE
 
 Puts the page together: one file, PAGE, of web/page.html, web/page.css, the ES modules of web/ from main.mjs on, the
-file LIBRARY (sdtool.mjs) and the file MODULE (sdtool.wasm), compressed and in base64. It leaves out comments and
-indentation, and changes nothing else but how a module gets what another exports: each becomes a function that is called
+file LIBRARY (sdtool.mjs) and the file MODULE (sdtool.wasm), compressed and in base64. It leaves out comments, indentation and the blanks of
+the style, and changes nothing else but how a module gets what another exports: each becomes a function that is called
 once, in the order in which a browser would. The script is no module, since browsers refuse modules in workers of a page
 from a disk; so it has no import.meta. What the page never calls is left out: of the module by binaryen's wasm-metadce,
 of the library by name. The page's policy allows this script and this style alone, by their hashes.
 """
 import argparse
 import base64
+import collections
 import gzip
 import hashlib
 import json
@@ -41,8 +42,11 @@ FEATURES = ["--enable-sign-ext", "--enable-mutable-globals", "--enable-bulk-memo
 IMPORT = re.compile(r'^import \{([^}]*)\} from "([^"]+)";\n', re.M)
 EXPORTED = re.compile(r"^export ((?:async )?(?:function|class|const|let)) ([A-Za-z_$][\w$]*)", re.M)
 EXPORTS = re.compile(r"^export \{([^}]*)\};\n", re.M)
-# What only a reader of the sources needs: comments that have lines of their own, and indentation.
-FOR_READERS = re.compile(r"^[ \t]*//.*\n|^[ \t]*/\*\*(?:.|\n)*?\*/\n|^[ \t]+", re.M)
+# What only a reader of the sources needs: comments, but for those behind code that have a quotation mark and so may be in a
+# text, and indentation.
+FOR_READERS = re.compile(r"^[ \t]*//.*\n|^[ \t]*/\*\*(?:.|\n)*?\*/\n|^[ \t]+|[ \t]+// [^\"'`\n]*$", re.M)
+# A function or a constant of the library.
+DECLARED = re.compile(r"^(?:function ([\w$]+)|const )[^\n]*\n(?:[ \t][^\n]*\n|\n(?=[ \t])|[}\])][^\n]*\n)*", re.M)
 LEFT = re.compile(r"^(?:import|export)\b", re.M)
 
 
@@ -54,7 +58,24 @@ def without_methods(text):
             raise SystemExit(f"the library has {count} methods called {name}")
     if text.count(MEANING) != 1:
         raise SystemExit("the library does not ask for the meaning of a fault in the form that this script knows")
-    return text.replace(MEANING, NO_MEANING)
+    return without_unnamed(text.replace(MEANING, NO_MEANING))
+
+
+def without_unnamed(text):
+    """The library without functions and constants that nothing else in it names."""
+    counts = collections.Counter(re.findall(r"[\w$]+", text))
+    for found in DECLARED.finditer(text):
+        own = collections.Counter(re.findall(r"[\w$]+", found[0]))
+        names = [found[1]] if found[1] else re.findall(r"(?:^const|,) ([\w$]+)(?= =)", found[0])
+        if names and all(counts[name] == own[name] for name in names):
+            return without_unnamed(text.replace(found[0], ""))
+    return text
+
+
+def packed_style(text):
+    """A style sheet without the blanks that mean nothing in it. None of its texts has a sign that ends one of its parts."""
+    text = re.sub(r"\s*\n\s*", " ", text)
+    return re.sub(r":[ ]+", ":", re.sub(r" ?([{};,]) ?", r"\1", text)).replace(";}", "}")
 
 
 def names_in(text):
@@ -151,7 +172,7 @@ def page(module, library):
     called = [name for name in NOT_CALLED if f".{name}(" in script]
     if called:
         raise SystemExit(f"the page calls {called}")
-    style = "\n" + (FOLDER / "page.css").read_text(encoding="utf-8")
+    style = packed_style((FOLDER / "page.css").read_text(encoding="utf-8"))
     if re.search(r"</(?:script|style)|<!--", script + style, re.I):
         raise SystemExit("a script or the style has a text that would end it")
     if shutil.which("wasm-metadce"):
