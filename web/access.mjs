@@ -13,6 +13,7 @@ const MAXIMUM_ALLOWED = 0x2000000;
 const RESERVED = 0xc000000; // bits that nobody may ask for
 const GENERIC = 0xf0000000;
 const OWNER_RIGHTS = "S-1-3-4";
+const MEDIUM = "S-1-16-8192"; // the level of an object without a label
 const FIRST_TRUSTEES = 100;
 const MOST_TYPES = 200; // of objects that the page asks about in turn
 
@@ -208,9 +209,15 @@ export const isRefusedRequest = (wanted, maximum) => (wanted === 0 && !maximum ?
         (wanted & RESERVED) !== 0                                              ? 51 :
                                                                                  0);
 
-// The verdict of check on a token and what is asked for, and the reason of each right that is asked for or granted.
+// The label of an object that counts, if it has one, and its integrity level.
+export const labelOf = ({sacl}) =>
+    sacl.aces.find((ace) => ace.kind === "ML" && !ace.flags.includes("IO") && /^S-1-16-\d+$/.test(ace.sid));
+export const levelOfObject = (model) => Number((labelOf(model)?.sid ?? MEDIUM).slice("S-1-16-".length));
+
+// The verdict of check on a token and what is asked for, and the reason of each right that is asked for or granted. RIGHTS are
+// those of the kind of object. Of a kind that has no mapping of its own the reasons say all that is granted.
 export function ask(library, descriptor, token, asked) {
-    const {wanted, maximum, mapping, level, object, self, security, takeOwnership} = asked;
+    const {wanted, maximum, mapping, rights: named, isOwn, level, object, self, security, takeOwnership} = asked;
     const request = {
         mapping,
         security,
@@ -220,11 +227,15 @@ export function ask(library, descriptor, token, asked) {
         ...(self ? {principalSelf: sidBytes(library, self)} : {}),
     };
     const verdict = granted(library, descriptor, token, {...request, wanted, maximum});
-    const named = rightsOfMapping(library, mapping);
     const isForAll = maximum || (wanted & MAXIMUM_ALLOWED) !== 0;
     const meant = meantBy(library, wanted, mapping);
     const rights = (meant | (isForAll ? named | (security ? SYSTEM_SECURITY : 0) : 0)) >>> 0;
     const reasons = reasonsOf(library, descriptor, token, request).filter(({bit}) => has(rights, bit));
+    if (isOwn && isForAll) {
+        const mask = maskOf(reasons, ({isGranted}) => isGranted);
+        const missing = (meant & ~mask) >>> 0;
+        Object.assign(verdict, {granted: mask !== 0 && missing === 0, mask: missing || mask});
+    }
     return {verdict, reasons: reasons.map((reason) => ({...reason, isWanted: has(meant, reason.bit)}))};
 }
 

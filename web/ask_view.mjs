@@ -1,5 +1,4 @@
 // The second view: what a token gets, and what decided about each right.
-import {bitsOf} from "./access.mjs";
 import {area, box, button, byId, input, labelled, make, select, show} from "./dom.mjs";
 import {maskText} from "./library.mjs";
 import {reasonKey} from "./look_view.mjs";
@@ -86,6 +85,7 @@ const faultsOf = (result) => [result.tokenFaults?.length ? say(WORDS.ask.tokenFa
     result.objectFault ? WORDS.objectFault : null,
     result.isNobody ? WORDS.ask.nobody : null,
     result.isTooMany ? WORDS.ask.tooMany : null,
+    result.isLevelUnknown ? WORDS.ask.levelUnknown : null,
     result.refused ? faultInWords({number: result.refused}) : null,
 ].filter(Boolean);
 
@@ -159,5 +159,3 @@ export function showAsk(result, {kind, names, texts}) {
                 make("tbody", {}, result.reasons.map((reason) => reasonRow(reason, kind, texts))))));
     return [`${isGranted ? WORDS.ask.granted : WORDS.ask.denied}. ${verdictText(result, kind)}`];
 }
-
-export const bitsInWords = (kind, mask) => bitsOf(mask).map((bit) => rightName(kind, bit));

@@ -1,6 +1,6 @@
 // The questions of the page, each answered as plain data, so that a worker can send it. Nothing here knows the
 // document.
-import {ask, gridOf, isRefusedRequest, maskOfText, meaningOf, typesOf} from "./access.mjs";
+import {ask, gridOf, isRefusedRequest, levelOfObject, maskOfText, meaningOf, typesOf} from "./access.mjs";
 import {descriptorsIn} from "./clipboard.mjs";
 import {compare} from "./comparing.mjs";
 import {placeOf} from "./faults.mjs";
@@ -16,6 +16,7 @@ import {warningsOf} from "./warnings.mjs";
 
 const MOST_SHOWN = 20_000; // characters of a descriptor as a whole
 const MOST_OF_KIND = 10_000; // characters of a text that tell of the kind of object
+const GENERIC = 0xf0000000;
 
 const plainFault = ({number, faultName, part, otherPart, place}) => ({number, faultName, part, otherPart, place});
 
@@ -186,9 +187,10 @@ function about(library, state, question) {
 }
 
 // What is asked for, read by the library: names of rights, or a number.
-function wantedOf(library, asked) {
+function wantedOf(library, asked, kind) {
     const named = asked.rights.reduce((mask, bit) => (mask | bit) >>> 0, 0);
-    return isEmpty(asked.want) ? named : (named | maskOfText(library, asked.want.trim())) >>> 0;
+    const mask = isEmpty(asked.want) ? named : (named | maskOfText(library, asked.want.trim())) >>> 0;
+    return hasOwnMapping(kind) ? withoutGeneric(mask, kind) : mask;
 }
 
 function levelOf(text, listed) {
@@ -202,7 +204,7 @@ function askAbout(library, {state, asked: question}) {
     return about(library, state, (descriptor, domain) => {
         const options = optionsOf(library, state, domain);
         const token = readToken(library, question.token, domain.text, question.exact);
-        const wanted = tried(() => wantedOf(library, question));
+        const wanted = tried(() => wantedOf(library, question, state.kind));
         const self = tried(() => (isEmpty(question.self) ? "" : sidText(library, question.self.trim(), domain.text)));
         const told = {
             entries: token.entries.map(({bytes, ...entry}) => entry),
@@ -223,6 +225,10 @@ function askAbout(library, {state, asked: question}) {
         }
         const model = explained(library, descriptor, domain, state.kind);
         const level = levelOf(question.level, token.level);
+        const isOwn = hasOwnMapping(state.kind);
+        if (isOwn && level !== null && level < levelOfObject(model)) {
+            return {...told, isLevelUnknown: true};
+        }
         return {
             ...told,
             wanted: wanted.value,
@@ -232,6 +238,8 @@ function askAbout(library, {state, asked: question}) {
                 wanted: wanted.value,
                 maximum: question.maximum,
                 mapping: options.mapping,
+                rights: options.rights,
+                isOwn,
                 level,
                 object: options.object,
                 self: self.value,
@@ -241,6 +249,10 @@ function askAbout(library, {state, asked: question}) {
         };
     });
 }
+
+// Whether a new object would get a generic right of an ACE, which then means the rights of its kind.
+const hasGeneric = (from, mustGoOn) => Boolean(from) && [from.model.dacl, from.model.sacl].some(({aces}) => aces.some(
+    ({mask, flags}) => (mask & GENERIC) !== 0 && (!mustGoOn || flags.includes("OI") || flags.includes("CI"))));
 
 function inheritFrom(library, {state, made}) {
     return about(library, state, (parent, domain) => {
@@ -271,6 +283,9 @@ function inheritFrom(library, {state, made}) {
             written: acesOf(library.toSddl(descriptor, printing))
         };
         const from = {parent: above(parent), creator: above(creator.value)};
+        if (hasOwnMapping(state.kind) && (hasGeneric(from.parent, true) || hasGeneric(from.creator, false))) {
+            return {isMappingUnknown: true};
+        }
         const passed = (who) => from[who] && passedOn(from[who], object.value.sources, who);
         return {
             object: madeNode(library, object.value, from, state.kind),

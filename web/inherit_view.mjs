@@ -86,8 +86,8 @@ export function showInherit(result, {kind, names, made}, isOver) {
         faults.push(
             make("p", {class: "fault-name"}, inherit.creator), faultBox(result.creatorFault, result.creatorPlace));
     }
-    if (result.fault) {
-        faults.push(make("p", {class: "fault-name"}, faultInWords(result.fault)));
+    if (result.fault || result.isMappingUnknown) {
+        faults.push(make("p", {class: "fault-name"}, result.fault ? faultInWords(result.fault) : inherit.mappingUnknown));
     }
     if (faults.length) {
         show(place, faults);

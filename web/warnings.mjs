@@ -1,7 +1,7 @@
 // What a reader should look at, each with its reason: {key, level, numbers, ...}. LEVEL is 'danger', 'caution' or
 // 'note'. The words are in words.mjs. What is risky is found by the rules of risks.mjs, which sdtool-audit has too.
 // Whether somebody gets a right is always an answer of check.
-import {DECIDING, has, meaningOf, reasonsOf, tokenOf} from "./access.mjs";
+import {DECIDING, has, labelOf, meaningOf, reasonsOf, tokenOf} from "./access.mjs";
 import {descriptorOfPieces, guidBytes, piecesOf} from "./library.mjs";
 import {doing} from "./meanings.mjs";
 import {risksOf} from "./risks.mjs";
@@ -137,8 +137,7 @@ function ofInheritance(model) {
 }
 
 function ofLabel(model) {
-    const label =
-        model.sacl.aces.find((ace) => ace.kind === "ML" && !ace.flags.includes("IO") && /^S-1-16-\d+$/.test(ace.sid));
+    const label = labelOf(model);
     return label ? [{
         key: "label",
         level: "note",

@@ -179,7 +179,6 @@ export const WORDS = {
             privilege: "a privilege",
             noPrivilege: "no privilege",
         },
-        theToken: "The token",
     },
 
     parts: {
@@ -503,6 +502,7 @@ export const WORDS = {
         denyOnly: "{who} (deny only)",
         nobody: "Give at least one SID.",
         tooMany: "A token has at most 1,024 SIDs.",
+        levelUnknown: "The level is below the object's. What that forbids is unknown for this kind of object.",
         tokenFault: "Not a SID: {what}. Replace names by SIDs.",
         selfFault: "Principal Self is no SID.",
         wantFault: "These are no rights. Write names such as FRFX, or one number.",
@@ -534,17 +534,16 @@ export const WORDS = {
         below: {container: "A folder in it", file: "A file in it"},
         nothing: "Nothing is inherited: the list is empty and grants nothing. " +
             "Windows would use the default of the creator's token instead.",
+        mappingUnknown: "What generic rights become in a new object of this kind is unknown.",
         notPassed: "not passed on",
         fault: "{field}: {fault}",
         arrow: "\u2190",
-        sddl: "Its text",
     },
     compare: {
         heading: "What differs?",
         other: "Second descriptor",
         same: "The two have the same content.",
         different: "The two differ.",
-        sameText: "same",
         states: {same: "same", moved: "moved", changed: "changed", added: "added", removed: "removed"},
         signs: {same: "=", moved: "\u2195", changed: "\u2260", added: "+", removed: "\u2212"},
         columns: {state: "", one: "First", other: "Second"},
