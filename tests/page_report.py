@@ -194,10 +194,9 @@ def judge_kinds(count, page, maker):
     count.add(shown, f"names of a report: {got['look'][:300]}")
     words = ("who", "change", maker.list("services.csv", [("Spooler", "O:BAD:(A;;CCDC;;;WD)")]), "--type", "service")
     local = opened(page, maker.report(*words))
-    got = local.call("reportRows")
-    text = local.do("return byId('report-table').textContent;")
-    is_right = not got[0]["isOpen"] and "no words for the rights of this kind of object (service)" in text
-    count.add(is_right and "D:(A;;CCDC;;;WD)" in text, f"a service in a report: {got} {text[:300]}")
+    got = local.call("openRow", local.call("reportRows")[0]["line"])
+    kind = local.do("return byId('kind').value;")
+    count.add(kind == "service" and "change configuration" in got["look"], f"a service in a report: {kind} {got['look'][:300]}")
 
 
 def judge_groups(count, page, maker):

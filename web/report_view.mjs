@@ -1,5 +1,6 @@
 // The view of a report: its objects as a table with filters, each with the page's own view of its descriptor.
 import {button, byId, input, labelled, make, select, show} from "./dom.mjs";
+import {tableOf} from "./meanings.mjs";
 import {visible} from "./naming.mjs";
 import {formatted, pagesBar} from "./parts_view.mjs";
 import {Report} from "./report.mjs";
@@ -9,12 +10,10 @@ const ROWS = 100;         // of a page of the table
 const MOST_FINDINGS = 20; // of an object in the table
 const MOST_GROUPS = 50;   // places above it
 const MOST_TEXT = 2000;   // characters of a name or a text
-const KINDS = ["key", "ds"];
 const FORMS = ["sddl", "hex", "base64"];
 
 // The kind of object that the page has words for, or null.
-const kindOf = ({kind, isFolder}) =>
-    (kind === "file" ? (isFolder ? "folder" : "file") : KINDS.includes(kind) ? kind : null);
+const kindOf = ({kind, isFolder}) => (kind === "file" && isFolder ? "folder" : tableOf(kind) ? kind : null);
 
 const cut = (text) => visible(text.length > MOST_TEXT ? `${text.slice(0, MOST_TEXT)} ..` : text);
 
@@ -222,8 +221,8 @@ export class ReportView {
 
     canShow(object) { return FORMS.includes(object.form) && kindOf(object) !== null; }
 
-    // Why there is no view of a descriptor: without one there is nothing to show, and the names of a service's rights
-    // are none that the page knows.
+    // Why there is no view of a descriptor: without one there is nothing to show, and the page has no words for the rights of a
+    // kind that it doesn't know.
     noView(object) {
         return object.form === "" || this.canShow(object) ?
             null :
