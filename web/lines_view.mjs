@@ -229,8 +229,9 @@ export class LinesView {
         byId("lines-stop").disabled = false;
         byId("lines-save").disabled = true;
         const {run} = this;
+        const {type = TYPES[0]} = this.lines.options;
         this.files.answerFile(
-            {file: this.file, words: wordsOf(this.lines), filters: filtersOf(this.lines, this.changeMask())},
+            {file: this.file, words: wordsOf(this.lines), filters: filtersOf(this.lines, this.changeMask(type))},
             (message) => run === this.run && this.hear(message));
     }
 

@@ -14,6 +14,7 @@ import {faultInWords, ownNames, visible} from "./naming.mjs";
 import {commaed, descriptorField, isLarge, shortened} from "./parts_view.mjs";
 import {nameOfObject, objectWords, placeOfObject, ReportView} from "./report_view.mjs";
 import {showKindQuestion} from "./kind_view.mjs";
+import {mappingOf} from "./meanings.mjs";
 import {knownGuids} from "./schema.mjs";
 import {addressOf, commandLine, takeAddress} from "./sharing.mjs";
 import {freshState} from "./state.mjs";
@@ -77,7 +78,7 @@ class Page {
         this.state.view = this.views[0];
         this.linesView = new LinesView(this.state.lines, {
             files: new FileDesk(source, bytes, isWorker),
-            changeMask: () => changing(this.state.kind),
+            changeMask: (type) => changing(mappingOf(this.state.kind) === type ? this.state.kind : type),
             onOpen: (text, form) => this.open(text, form),
             onCommand: () => this.showCommand(),
         });
