@@ -10,7 +10,7 @@ const IN_TEXT = {
     "inherited object type": "inherited"
 };
 const IN_BYTES = {kind: "type", flags: "aclFlags", size: "size", sid: "sid"};
-const OTHERS = {hex: /[^0-9a-f]/i, base64: /[^A-Za-z0-9+/=]/};
+const OTHERS = {hex: /[^0-9a-f]/iu, base64: /[^A-Za-z0-9+/=]/u};
 const LAST_OF_SPELLING = 4; // the numbers of faults up to it are about how bytes are spelled
 const [NO_SHAPE, TWICE, NO_KIND] = [20, 21, 29];
 
@@ -53,8 +53,8 @@ export function placeOf(library, form, text, fault) {
         return fault.place ? {...whole, ...inText(text, fault)} : whole;
     }
     if (fault.number <= LAST_OF_SPELLING) {
-        const at = text.search(valueIn(OTHERS, form));
-        return at < 0 ? whole : {...whole, start: at, end: at + 1, field: "digits"};
+        const other = valueIn(OTHERS, form).exec(text);
+        return other ? {...whole, start: other.index, end: other.index + other[0].length, field: "digits"} : whole;
     }
     const bytes = bytesOf(form, text), place = placeOfBytes(library, bytes);
     return {...whole, text: hexOf(bytes), end: 2 * bytes.length, ...(place && inDigits(bytes, place))};

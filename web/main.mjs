@@ -14,7 +14,7 @@ import {faultInWords, ownNames, visible} from "./naming.mjs";
 import {commaed, descriptorField, isLarge, shortened} from "./parts_view.mjs";
 import {nameOfObject, objectWords, placeOfObject, ReportView} from "./report_view.mjs";
 import {showKindQuestion} from "./kind_view.mjs";
-import {mappingOf} from "./meanings.mjs";
+import {isDirectory, mappingOf} from "./meanings.mjs";
 import {knownGuids} from "./schema.mjs";
 import {addressOf, commandLine, takeAddress} from "./sharing.mjs";
 import {freshState} from "./state.mjs";
@@ -59,9 +59,6 @@ const placeOf = (view) => byId(view === "look" ? "view-look" : `${view}-result`)
 const errorWords = (error) => (error instanceof TooSlow ? say(WORDS.tooSlow, {seconds: SECONDS_TO_ANSWER}) :
                                                           say(WORDS.broke, {reason: visible(error.message)}));
 
-// Whether an address says the kind of object.
-const isKindIn = (hash) => /[#&]kind=/.test(hash);
-
 class Page {
     constructor({desk, isWorker}, source, bytes, report) {
         Object.assign(
@@ -83,7 +80,6 @@ class Page {
             onCommand: () => this.showCommand(),
         });
         this.unread = takeAddress(this.state, location.hash.slice(1));
-        this.state.isKindChosen = isKindIn(location.hash);
         this.makeControls();
         this.makeViews();
         this.listen();
@@ -95,7 +91,7 @@ class Page {
     // Whether an option applies that is among the ones that can be folded away.
     get hasOptions() {
         const {domain, object, common, kind} = this.state;
-        return domain !== "" || !common || (kind === "ds" && object !== "");
+        return domain !== "" || !common || (isDirectory(kind) && object !== "");
     }
 
     openOptions() { byId("more-options").open ||= this.hasOptions; }
@@ -157,7 +153,7 @@ class Page {
                     labelled(WORDS.domainLabel,
                         input("domain", state.domain, setter("domain"), {"aria-describedby": "domain-hint"}),
                         WORDS.domainHint),
-                    make("div", {id: "object-field", hidden: state.kind !== "ds"},
+                    make("div", {id: "object-field", hidden: !isDirectory(state.kind)},
                         labelled(WORDS.objectLabel,
                             input("object", state.object, setter("object"),
                                 {list: "guids", "aria-describedby": "object-hint"}),
@@ -299,7 +295,7 @@ class Page {
         this.state.kind = kind;
         this.state.isKindChosen = isChosen;
         byId("kind").value = kind;
-        byId("object-field").hidden = kind !== "ds";
+        byId("object-field").hidden = !isDirectory(kind);
         this.openOptions();
         showAskRights(this.state.ask, kind, () => this.refreshView());
     }

@@ -57,7 +57,8 @@ export function addressOf(state, fresh) {
         }
     }
     for (const [name, holder, key] of CHOICES) {
-        if (holder(state)[key] !== holder(fresh)[key]) {
+        // A kind that somebody chose stands against what the text tells of.
+        if (holder(state)[key] !== holder(fresh)[key] || (name === "kind" && state.isKindChosen)) {
             words.set(name, holder(state)[key]);
         }
     }
@@ -85,8 +86,10 @@ const READERS = new Map([
         return value === "0" || value === "1";
     }]),
     ...CHOICES.map(([name, holder, key, known]) => [name, (state, value) => {
-        holder(state)[key] = known.includes(value) ? value : holder(state)[key];
-        return known.includes(value);
+        const isKnown = known.includes(value);
+        holder(state)[key] = isKnown ? value : holder(state)[key];
+        state.isKindChosen ||= isKnown && name === "kind";
+        return isKnown;
     }]),
     ["level", takeLevel],
     ["rights", takeRights],

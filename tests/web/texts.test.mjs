@@ -5,11 +5,13 @@ import {test} from "node:test";
 
 import {readToken} from "../../web/tokens.mjs";
 import {descriptorsIn} from "../../web/clipboard.mjs";
+import {placeOf} from "../../web/faults.mjs";
 import {descriptorOf} from "../../web/library.mjs";
 import {nameOf, ownNames} from "../../web/naming.mjs";
 import {Report} from "../../web/report.mjs";
 import {addressOf, commandLine, takeAddress} from "../../web/sharing.mjs";
 import {freshState} from "../../web/state.mjs";
+import {KINDS} from "../../web/windows.mjs";
 
 const OBJECT = ["C:\\Data", "list.csv", 7, "found", "sddl", "D:(A;;FA;;;WD)", "file", true, "", "", 
                 [["everyone", "WD", "FA", "", "", "high", [1], false, [[1, "(A;;FA;;;WD)", "FA", true]]]]];
@@ -85,7 +87,7 @@ test("an address is taken, and what of it can't be read is said", () => {
 });
 
 test("an address brings back the state that it was made of", () => {
-    const state = {...freshState(), text: "D:(A;;FA;;;WD)", kind: "ds", object: "x", chosen: 3, common: false};
+    const state = {...freshState(), text: "D:(A;;FA;;;WD)", kind: "ds", isKindChosen: true, object: "x", chosen: 3, common: false};
     state.ask = {...state.ask, level: " 777", rights: [0x1, 0x100], takeOwnership: true, self: "WD", want: "FR"};
     state.made = {...state.made, kind: "file", creator: "D:"};
     const [unread, found] = taken(addressOf(state, freshState()));
@@ -159,4 +161,23 @@ test("what the clipboard has", () => {
     assert.deepEqual(one("  Key\n    Security    REG_BINARY    0100\n"), ["Security", "hex", "0100", ["before"]]);
     assert.deepEqual(one("dn: CN=x \u2028 y\nnTSecurityDescriptor::  AQ==\n"), ["CN=x \u2028 y", "base64", "AQ==", ["before"]]);
     assert.deepEqual(one("Path : \"C:\\a\",\nSddl : O:BA"), ["C:\\a", "sddl", "O:BA", ["before", "before"]]);
+});
+
+test("what spells no bytes is marked as a whole character", () => {
+    for (const [form, text, number] of [["hex", "01\u{1f600}02", 2], ["base64", "AQ\u{1f600}AE", 4]]) {
+        const {start, end} = placeOf(refusing, form, text, {number, part: null});
+        assert.deepEqual([start, end], [2, 4], form);
+    }
+});
+
+test("an address says which kind of object somebody chose", () => {
+    for (const kind of Object.keys(KINDS)) {
+        const state = {...freshState(), kind, isKindChosen: true};
+        const taken = freshState();
+        assert.deepEqual(takeAddress(taken, addressOf(state, freshState())), [], kind);
+        assert.deepEqual([taken.kind, taken.isKindChosen], [kind, true]);
+    }
+    const taken = freshState();
+    assert.deepEqual(takeAddress(taken, "kind=x"), ["kind=x"]);
+    assert.deepEqual([taken.kind, taken.isKindChosen], ["folder", false]);
 });
