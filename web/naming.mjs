@@ -1,6 +1,7 @@
 // Words for what the library answers: names of SIDs, rights of a mask, where an ACE applies.
 import {bitsOf, has} from "./access.mjs";
 import {maskText} from "./library.mjs";
+import {isForNothing} from "./meanings.mjs";
 import {afterBlanks} from "./scanning.mjs";
 import {guidNames} from "./schema.mjs";
 import {valueIn} from "./tables.mjs";
@@ -121,7 +122,7 @@ export function guidInWords(guid, mask) {
 export function whereOf(kind, ace) {
     const words = valueIn(WORDS.where, kind) ?? WORDS.where.other;
     const flags = ["OI", "CI", "IO"].filter((flag) => ace.flags.includes(flag)).join("");
-    const place = flags === "" ? words.here : flags === "IO" ? WORDS.where.nothing : valueIn(words, flags);
+    const place = flags === "" ? words.here : isForNothing(ace, kind) ? WORDS.where.nothing : valueIn(words, flags);
     const more = [
         ace.flags.includes("NP") && /OI|CI/.test(flags) ? WORDS.where.oneLevel : null,
         ace.inherited ? say(WORDS.where.ofClass, {name: guidInWords(ace.inherited)}) : null,

@@ -1,9 +1,9 @@
 // What a reader should look at, each with its reason: {key, level, numbers, ...}. LEVEL is 'danger', 'caution' or
 // 'note'. The words are in words.mjs. What is risky is found by the rules of risks.mjs, which sdtool-audit has too.
 // Whether somebody gets a right is always an answer of check.
-import {DECIDING, has, labelOf, meaningOf, reasonsOf, tokenOf} from "./access.mjs";
+import {DECIDING, has, labelOf, reasonsOf, tokenOf} from "./access.mjs";
 import {descriptorOfPieces, guidBytes, piecesOf} from "./library.mjs";
-import {doing} from "./meanings.mjs";
+import {doing, isForNothing} from "./meanings.mjs";
 import {risksOf} from "./risks.mjs";
 import {valueIn} from "./tables.mjs";
 
@@ -58,9 +58,9 @@ function ofOrder(model) {
 }
 
 // Why an ACE can't apply to anything, or null.
-function whyUseless(ace, model) {
+function whyUseless(ace, model, kindOfObject) {
     const {kind, flags} = ace;
-    if (flags.includes("IO") && !flags.includes("OI") && !flags.includes("CI")) {
+    if (isForNothing(ace, kindOfObject)) {
         return "inheritsNothing";
     }
     if (ace.list === "dacl" && !DECIDING.includes(kind)) {
@@ -81,8 +81,8 @@ function whyUseless(ace, model) {
     return null;
 }
 
-function ofUseless(model) {
-    const useless = [...model.dacl.aces, ...model.sacl.aces].map((ace) => ({ace, why: whyUseless(ace, model)}));
+function ofUseless(model, kind) {
+    const useless = [...model.dacl.aces, ...model.sacl.aces].map((ace) => ({ace, why: whyUseless(ace, model, kind)}));
     const warnings = useless.filter(({why}) => why).map(({ace, why}) => ({
         key: "useless",
         why,
@@ -122,7 +122,7 @@ function ofLateDenies(library, model, descriptor, {mapping, object}) {
     const cut = descriptorOfPieces(library, {...pieces, dacl: {...pieces.dacl, aces: before}});
     return denies
         .filter((ace) => {
-            const wanted = (meaningOf(library, ace.mask, mapping) & ~0x0f000000) >>> 0;
+            const wanted = (ace.meaning & ~0x0f000000) >>> 0;
             const sid = ace.sid === OWNER_RIGHTS && model.owner ? model.owner.sid : ace.sid;
             const request = {mapping, objectType: guidBytes(library, ace.object ?? object)};
             const reasons = reasonsOf(library, cut, tokenOf(library, [sid, EVERYONE]), request);
@@ -187,7 +187,7 @@ export function warningsOf(library, descriptor, model, grid, options) {
     const all = [
         ...ofRisks(library, model, {kind, domain}),
         ...ofOrder(model),
-        ...ofUseless(model),
+        ...ofUseless(model, kind),
         ...ofMaskZero(model),
         ...ofLateDenies(library, model, descriptor, options),
         ...ofInheritance(model),

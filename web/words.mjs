@@ -268,16 +268,14 @@ export const WORDS = {
             OI: "this key",
             OICIIO: "subkeys only",
             CIIO: "subkeys only",
-            OIIO: "nothing",
         },
         ds: {
             here: "this object",
             OICI: "this object and all below",
             CI: "this object and all below",
-            OI: "this object and leaves below",
+            OI: "this object",
             OICIIO: "objects below only",
             CIIO: "objects below only",
-            OIIO: "leaves below only",
         },
         other: {
             here: "this object",
@@ -340,7 +338,7 @@ export const WORDS = {
     acesOne: "ACE {numbers} is",
     acesMany: "ACEs {numbers} are",
     useless: {
-        inheritsNothing: "it is inherit-only, but neither files nor folders inherit it.",
+        inheritsNothing: "it is inherit-only, but nothing inherits it.",
         labelInDacl: "a label counts only in the SACL.",
         auditInDacl: "an audit ACE counts only in the SACL.",
         accessInSacl: "an ACE that allows or denies counts only in the DACL.",

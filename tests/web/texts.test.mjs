@@ -7,11 +7,12 @@ import {readToken} from "../../web/tokens.mjs";
 import {descriptorsIn} from "../../web/clipboard.mjs";
 import {placeOf} from "../../web/faults.mjs";
 import {descriptorOf} from "../../web/library.mjs";
-import {nameOf, ownNames} from "../../web/naming.mjs";
+import {nameOf, ownNames, whereOf} from "../../web/naming.mjs";
 import {Report} from "../../web/report.mjs";
 import {addressOf, commandLine, takeAddress} from "../../web/sharing.mjs";
 import {freshState} from "../../web/state.mjs";
 import {KINDS} from "../../web/windows.mjs";
+import {WORDS} from "../../web/words.mjs";
 
 const OBJECT = ["C:\\Data", "list.csv", 7, "found", "sddl", "D:(A;;FA;;;WD)", "file", true, "", "", 
                 [["everyone", "WD", "FA", "", "", "high", [1], false, [[1, "(A;;FA;;;WD)", "FA", true]]]]];
@@ -180,4 +181,15 @@ test("an address says which kind of object somebody chose", () => {
     const taken = freshState();
     assert.deepEqual(takeAddress(taken, "kind=x"), ["kind=x"]);
     assert.deepEqual([taken.kind, taken.isKindChosen], ["folder", false]);
+});
+
+test("an ACE for children applies to nothing where none inherits it", () => {
+    const where = (kind, ...flags) => whereOf(kind, {flags, inherited: null});
+    for (const [kind, ...flags] of [["folder", "IO"], ["key", "OI", "IO"], ["ds", "OI", "IO"], ["service", "CI", "IO"], ["wmi", "OI", "IO"]]) {
+        assert.equal(where(kind, ...flags), WORDS.where.nothing, `${kind} ${flags}`);
+    }
+    for (const [kind, ...flags] of [["folder", "OI", "IO"], ["key", "CI", "IO"], ["ds", "CI", "IO"], ["printer", "OI", "IO"], ["service", "CI"]]) {
+        assert.notEqual(where(kind, ...flags), WORDS.where.nothing, `${kind} ${flags}`);
+        assert.ok(where(kind, ...flags), `${kind} ${flags}`);
+    }
 });
