@@ -201,7 +201,7 @@ export class FileDesk {
         const broke = (event) => {
             worker.terminate();
             this.end = null;
-            this.hear({kind: "failed", message: event.message || "the worker broke", id: this.current});
+            this.hear({kind: "failed", message: event.message || "the worker broke", id: this.last});
         };
         worker.onmessage = ({data}) => this.hear(data);
         Object.assign(worker, {onerror: broke, onmessageerror: broke});

@@ -2,7 +2,7 @@
 import assert from "node:assert/strict";
 import {test} from "node:test";
 
-import {Desk, SECONDS_TO_ANSWER, TooSlow} from "../../web/worker.mjs";
+import {Desk, FileDesk, SECONDS_TO_ANSWER, TooSlow} from "../../web/worker.mjs";
 
 const SECONDS = 0.05;
 const pause = (milliseconds) => new Promise((resolve) => setTimeout(resolve, milliseconds));
@@ -90,4 +90,26 @@ test("an error of a question is its own", async () => {
     await assert.rejects(desk.ask("look", 1), /RangeError: x/);
     await pause(2000 * SECONDS);
     assert.equal(ends[0].isOver, false);
+});
+
+test("a file whose worker breaks is told to have failed, also after it was to stop", async () => {
+    const workers = [];
+    globalThis.Worker = class {
+        constructor() {
+            workers.push(this);
+            this.isOver = false;
+        }
+        addEventListener() {}
+        terminate() { this.isOver = true; }
+        postMessage({bytes}) { bytes && queueMicrotask(() => this.onmessage({data: {kind: "ready"}})); }
+    };
+    const files = new FileDesk("", new Uint8Array(1), true);
+    const heard = [];
+    for (const isStopped of [false, true]) {
+        await files.answerFile({file: {}}, ({kind}) => heard.push(kind));
+        isStopped && files.stop();
+        workers.at(-1).onerror({message: "broke"});
+    }
+    assert.deepEqual([heard, workers.map(({isOver}) => isOver)], [["failed", "failed"], [true, true]]);
+    delete globalThis.Worker;
 });
