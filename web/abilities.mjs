@@ -3,11 +3,13 @@ import {everybodyClass, isTrusted, meaningOfSid} from "./meanings.mjs";
 import {guidNames} from "./schema.mjs";
 import {ABILITIES, HARMLESS} from "./windows.mjs";
 
+const VALIDATED = 0x8;
+const WRITE = 0x20;
 const EXTENDED = 0x100;
 const TEMPLATE = "pKICertificateTemplate";
 const WIDEST = ["S-1-5-11", "S-1-5-32-545"];
 const OF_CHILDREN = 0x3; // rights whose object type is a class
-const CHANGING = 0x1 | 0x2 | 0x8 | 0x20; // rights of an object type beside the extended ones
+const CHANGING = 0x1 | 0x2 | VALIDATED | WRITE; // rights of an object type beside the extended ones
 
 // The object types of abilities that need several rights together.
 export const WHOLE_TYPES = [...new Set(ABILITIES.filter(({all}) => all).flatMap(({types}) => types))];
@@ -39,13 +41,15 @@ function hasAll(ability, got, whole) {
     return isOwn && ability.types.every((one) => ((whole.get(one) ?? 0) & ability.right) !== 0);
 }
 
-// The rights that may give an ability, with their object types.
+// The rights that may give an ability, with their object types. No ability is that of all validated writes, and whoever may write
+// all properties needs none.
 function waysOf(ability, got, classes) {
     const isTemplate = classes.at(-1) === TEMPLATE;
     const typed = got.typed.filter(({object}) => isBy(ability, object));
-    const isWhole = ability.types.includes("") ? !(ability.right === EXTENDED && isTemplate) :
-                                                 isTemplate && ability.right === EXTENDED && ability.on.length === 1 &&
-            ability.on[0] === TEMPLATE;
+    const isWhole = ability.types.includes("") ?
+        !(ability.right === EXTENDED && isTemplate) :
+        (isTemplate && ability.right === EXTENDED && ability.on.length === 1 && ability.on[0] === TEMPLATE) ||
+            (ability.right === VALIDATED && (got.mask & WRITE) === 0);
     return isWhole ? [{object: "", mask: got.mask}, ...typed] : typed;
 }
 

@@ -103,6 +103,9 @@ class Abilities:
                 yield "", got.mask
         elif ability.right == _EXTENDED and ability.on == {_TEMPLATE} and classes and classes[-1] == _TEMPLATE:
             yield "", got.mask
+        elif ability.right == _VALIDATED and not got.mask & _WRITE:
+            # No ability is that of all validated writes. Whoever may write all properties needs none.
+            yield "", got.mask
         for one, mask in got.by_type:
             if ability.is_by(one):
                 yield one, mask
