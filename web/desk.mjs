@@ -190,7 +190,7 @@ function about(library, state, question) {
 function wantedOf(library, asked, kind) {
     const named = asked.rights.reduce((mask, bit) => (mask | bit) >>> 0, 0);
     const mask = isEmpty(asked.want) ? named : (named | maskOfText(library, asked.want.trim())) >>> 0;
-    return hasOwnMapping(kind) ? withoutGeneric(mask, kind) : mask;
+    return hasOwnMapping(kind) && (mask & GENERIC) !== 0 ? withoutGeneric(mask, kind) : mask;
 }
 
 function levelOf(text, listed) {

@@ -53,11 +53,21 @@ export const mappingOf = (kind) => tableOf(kind).library || "file";
 
 export const hasOwnMapping = (kind) => tableOf(kind).library === "";
 
-// A mask whose generic rights are replaced by those of the table.
+// A mask whose generic rights are replaced by those of the table, and so is a right that means others where it is alone.
 export function withoutGeneric(mask, kind) {
-    return GENERIC_BITS.reduce((all, bit, at) => ((mask & bit) === 0 ? all : all | tableOf(kind).mapping[at]),
-               mask & ~GENERIC) >>>
-        0;
+    const {mapping, alone: [right, meant]} = tableOf(kind);
+    const plain = replaced(mask, mapping);
+    return ((plain & meant) === right ? plain | meant : plain) >>> 0;
+}
+
+const replaced = (mask, mapping) =>
+    GENERIC_BITS.reduce((all, bit, at) => ((mask & bit) === 0 ? all : all | mapping[at]), mask & ~GENERIC) >>> 0;
+
+// The same of the mask of an ACE in what inherits it.
+export function maskBelow({mask, flags}, kind) {
+    const others = tableOf(kind).below.filter(([flag]) => flags.includes(flag));
+    return others.length ? others.reduce((all, [, mapping]) => (all | replaced(mask, mapping)) >>> 0, 0) :
+                           withoutGeneric(mask, kind);
 }
 
 const maskOf = (rights) => rights.reduce((mask, [bit]) => (mask | bit) >>> 0, 0);

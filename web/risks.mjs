@@ -3,7 +3,7 @@
 import {abilitiesOf, classesOf, isHarmless, mayGive, restOf, WHOLE_TYPES} from "./abilities.mjs";
 import {grantedOf, tokenOf} from "./access.mjs";
 import {descriptorOfPieces, guidBytes} from "./library.mjs";
-import {atRisk, doing, everybodyClass, inheritedBy, isDirectory, isTrusted, mappingOf, meaningOfSid,
+import {atRisk, doing, everybodyClass, inheritedBy, isDirectory, isTrusted, mappingOf, maskBelow, meaningOfSid,
     relativeOf, rightsOfKind, tableOf, withoutGeneric} from "./meanings.mjs";
 import {valueIn} from "./tables.mjs";
 import {DEFAULTS, RULES, SIDS} from "./windows.mjs";
@@ -24,7 +24,8 @@ const QUIET = ["stand-in", "package"];
 // Kinds whose rights run code as another account: there the accounts that services share aren't trusted.
 const STRICT = ["service", "service-manager"];
 const ALLOWS = ["A", "OA"];
-const DECIDES = ["A", "OA", "D", "OD"];
+const DENIES = ["D", "OD"];
+const DECIDES = [...ALLOWS, ...DENIES];
 const SEVERITIES = Object.fromEntries(RULES.map(([name, severity]) => [name, severity]));
 
 // Whether nobody in particular has a SID, or an account of the system that may have any right to this kind.
@@ -50,12 +51,12 @@ function wantedOf(sid, kind, domain) {
 }
 
 // Whether an ACE is one that Windows itself gives.
-function isDefault(ace, mask, {kind, domain, classes}) {
+function isDefault(ace, mask, ofChildren, {kind, domain, classes}) {
     const relative = relativeOf(ace.sid);
     const isKnown = relative && (!domain || relative.domain === domain);
     return DEFAULTS.some(([kinds, ofClasses, at, who, allowed, object, inherited, below, known]) => {
         const isTrustee = who === ace.sid || (isKnown && who === relative.number);
-        if (!isTrustee || !kinds.includes(kind) || (mask & ~allowed) !== 0) {
+        if (!isTrustee || !kinds.includes(kind) || ((below ? ofChildren : mask) & ~allowed) !== 0) {
             return false;
         }
         if ((object !== "*" && object !== (ace.object ?? "")) || (inherited !== "" && inherited !== ace.inherited)) {
@@ -126,23 +127,27 @@ function caseOf(model, options) {
     const {kind, domain} = options;
     const [here, below, kept] = [new Map(), new Map(), []];
     const inherited = inheritedBy(kind);
+    // What an ACE that denies takes here, children may get all the same; and a generic right may mean more for them.
+    const isDenied = model.dacl.aces.some((ace) => DENIES.includes(ace.kind));
     for (const ace of model.dacl.aces) {
         const sid = ace.sid === OWNER_RIGHTS ? model.owner?.sid : ace.sid;
-        const mask = withoutGeneric(ace.mask, kind);
-        if (ALLOWS.includes(ace.kind) && sid && concerns(ace, mask, sid, kind, domain)) {
-            if (isDefault(ace, mask, options)) {
+        const [mask, ofChildren] = [withoutGeneric(ace.mask, kind), maskBelow(ace, kind)];
+        const isBelow = ace.flags.includes("IO");
+        const goesOn = ace.flags.some((flag) => inherited.includes(flag));
+        const given = (isBelow ? 0 : mask) | (goesOn ? ofChildren : 0);
+        if (ALLOWS.includes(ace.kind) && sid && concerns(ace, given, sid, kind, domain)) {
+            if (isDefault(ace, mask, ofChildren, options)) {
                 continue;
             }
-            const isBelow = ace.flags.includes("IO");
             if (!isBelow) {
                 here.set(sid, [...(here.get(sid) ?? []), ace.number]);
             }
-            if (ace.flags.some((flag) => inherited.includes(flag)) &&
-                (isDirectory(kind) || (isBelow && everybodyClass(ace.sid)))) {
+            const hasMore = isBelow || isDenied || (ofChildren & ~mask) !== 0;
+            if (goesOn && (isDirectory(kind) || (hasMore && everybodyClass(ace.sid)))) {
                 below.set(sid, [...(below.get(sid) ?? []), ace]);
             }
         }
-        kept.push({ace, mask});
+        kept.push({ace, mask, ofChildren});
     }
     return {here, below, kept};
 }
@@ -258,7 +263,7 @@ function ofBelow(library, {below, kept, own, types, beyond, wanted, ofSid}, opti
     const inherited = inheritedBy(kind);
     const child = viewOf(library, kind, null,
         kept.filter(({ace}) => DECIDES.includes(ace.kind) && ace.flags.some((flag) => inherited.includes(flag)))
-            .map(({ace, mask}) => aceText(ace, [], mask)));
+            .map(({ace, ofChildren}) => aceText(ace, [], ofChildren)));
     return [...below].flatMap(([sid, aces]) => {
         const numbers = aces.map(({number}) => number);
         const got = beyond(child, sid, below);

@@ -72,11 +72,15 @@ def read_sids():
     return {"SIDS": sids, "OF_A_DOMAIN": relative, "FAMILIES": families, "USUAL": usual}
 
 
+def mapping_of(row):
+    return tuple(row[word] for word in ("read", "write", "execute", "all"))
+
+
 def read_kinds():
     given = table("kinds")
     kinds = {}
     for row in given["kind"]:
-        expect(set(row) <= {"name", "title", "library", "mapping", "inherits", "child", "owner", "masks", "rights", "like"},
+        expect(set(row) <= {"name", "title", "library", "mapping", "alone", "inherits", "child", "below", "owner", "masks", "rights", "like"},
                f"{row['name']}: another key")
         expect(row["inherits"] in ("", "CI", "OICI"), f"{row['name']}: inherits")
         own = row.get("rights") or next(other["rights"] for other in given["kind"] if other["name"] == row["like"])
@@ -88,11 +92,13 @@ def read_kinds():
             rights.append((right["bit"], right["name"], right["short"], right.get("says", right["name"]),
                            column(right["does"]), tuple(word for word in right["does"] if word != "look"), right.get("risk", "")))
         distinct((right[0] for right in rights), f"{row['name']}: a bit")
-        mapping = tuple(row["mapping"][word] for word in ("read", "write", "execute", "all"))
+        mapping = mapping_of(row["mapping"])
         expect(all(mask & ~mapping[3] == 0 for mask in mapping), f"{row['name']}: GENERIC_ALL lacks rights of another one")
+        expect(all(flag in row["inherits"] for flag in row.get("below", ())), f"{row['name']}: below")
         kinds[row["name"]] = {
-            "title": row["title"], "library": row.get("library", ""), "mapping": mapping, "inherits": row["inherits"],
-            "child": row.get("child", ""), "owner": row.get("owner", ""),
+            "title": row["title"], "library": row.get("library", ""), "mapping": mapping, "alone": tuple(row.get("alone", ())),
+            "below": tuple((flag, mapping_of(of_flag)) for flag, of_flag in row.get("below", {}).items()),
+            "inherits": row["inherits"], "child": row.get("child", ""), "owner": row.get("owner", ""),
             "masks": tuple((mask, name) for name, mask in sorted(row["masks"].items(), key=lambda one: -one[1])),
             "rights": tuple(rights)}
     distinct((row["name"] for row in given["kind"]), "a kind")

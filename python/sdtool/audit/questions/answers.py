@@ -8,7 +8,7 @@ from typing import Dict, Iterable, List, NamedTuple, Optional, Sequence, Tuple, 
 import sdtool
 from sdtool._values import decisions
 from sdtool.audit.sources.opening import AS_THEY_CAME
-from sdtool.audit.questions.rights import GENERIC, GENERIC_MEANINGS, MAPPINGS, SYSTEM_SECURITY, WITHOUT_MAPPING
+from sdtool.audit.questions.rights import ALONE, BELOW, GENERIC, GENERIC_BITS, GENERIC_MEANINGS, MAPPINGS, SYSTEM_SECURITY, WITHOUT_MAPPING
 
 # Kinds of ACEs whose meaning is known here; an object with another one is unknown.
 ALLOWS, DENIES, OTHERS = frozenset({"A", "OA"}), frozenset({"D", "OD"}), frozenset({"AU", "OU", "ML"})
@@ -444,13 +444,30 @@ def _meanings(kind: str) -> Dict[int, int]:
 
 
 def mapped(mask: int, kind: str) -> int:
-    """A mask whose generic rights are replaced by what they mean for a kind, as a check replaces them."""
-    if not mask & GENERIC:
-        return mask
-    for bit, of_bit in _meanings(kind).items():
-        if mask & bit:
-            mask |= of_bit
-    return mask & ~GENERIC
+    """A mask whose generic rights are replaced by what they mean for a kind, as a check replaces them, and so is a right that
+    means others where it is alone."""
+    if mask & GENERIC:
+        for bit, of_bit in _meanings(kind).items():
+            if mask & bit:
+                mask |= of_bit
+        mask &= ~GENERIC
+    if kind in ALONE:
+        alone, meant = ALONE[kind]
+        if mask & meant == alone:
+            mask |= meant
+    return mask
+
+
+def mapped_below(ace: Ace, kind: str) -> int:
+    """The same of the mask of an ACE in what inherits it."""
+    mappings = [mapping for flag, mapping in BELOW.get(kind, ()) if ace.flags & flag]
+    if not mappings or not ace.mask & GENERIC:
+        return mapped(ace.mask, kind)
+    mask = ace.mask & ~GENERIC
+    for mapping in mappings:
+        for bit, of_bit in zip(GENERIC_BITS, mapping):
+            mask |= of_bit if ace.mask & bit else 0
+    return mask
 
 
 _FLAG_NAMES = tuple((bit, name) for name, bit in FLAGS.items())
@@ -477,15 +494,15 @@ def spelled(descriptor: Descriptor, dacl: Sequence[str]) -> str:
 
 
 def with_mapping(descriptor: Descriptor, kind: str) -> str:
-    """A descriptor in SDDL whose generic rights are replaced."""
+    """A descriptor in SDDL whose masks are replaced by what they mean for a kind."""
     return spelled(descriptor, [ace_text(ace, ace.flags, mapped(ace.mask, kind)) for ace in descriptor.aces])
 
 
 def answerable(form: str, texts: Sequence[str], descriptors: Sequence[Union[Descriptor, Refusal]], kind: str,
                ) -> Tuple[str, Sequence[str]]:
-    """The texts that the library is asked about. Where it has no mapping for a kind, generic rights are replaced in them."""
-    if kind not in WITHOUT_MAPPING or not any(isinstance(one, Descriptor) and any(ace.mask & GENERIC for ace in one.aces)
-                                              for one in descriptors):
+    """The texts that the library is asked about. Where it has no mapping for a kind, masks are replaced in them."""
+    if kind not in WITHOUT_MAPPING or not any(
+            isinstance(one, Descriptor) and any(mapped(ace.mask, kind) != ace.mask for ace in one.aces) for one in descriptors):
         return form, texts
     return "sddl", [with_mapping(one, kind) if isinstance(one, Descriptor) else "G:S-1-0-0" for one in descriptors]
 

@@ -6,7 +6,7 @@ from sdtool.audit.questions import names as sids
 from sdtool.audit.questions import rights
 from sdtool.audit.questions.answers import (ALLOWS, DENIES, INHERITED, OTHERS, Ace, AnswersFault, Descriptor, Refusal,
                                             Reasons, Token, answerable, explained, granted, granted_by_each, layouts,
-                                            mapped, reason_of, text_of)
+                                            mapped, mapped_below, reason_of, text_of)
 from sdtool.audit.questions.groups import Groups, Membership
 from sdtool.audit.sources.items import WITHOUT_OWNER
 from sdtool.audit.questions.names import Names
@@ -219,7 +219,8 @@ def mark_of(descriptor: Descriptor, trustees: Container[str], mask: int, kind: s
     first: Optional[Ace] = None
     handed_on = rights.inherits(kind)
     for number, ace in enumerate(descriptor.aces, 1):
-        if (ace.flags & handed_on if is_below else ace.decides) and ace.kind in ALLOWS and mapped(ace.mask, kind) & mask \
+        meant = mapped_below(ace, kind) if is_below else mapped(ace.mask, kind)
+        if (ace.flags & handed_on if is_below else ace.decides) and ace.kind in ALLOWS and meant & mask \
                 and as_owner(ace.sid, descriptor) in trustees and (types is None or not ace.object_type or ace.object_type in types):
             numbers.append(number)
             first = first or ace

@@ -29,6 +29,13 @@ GENERIC_BITS = (0x80000000, 0x40000000, 0x20000000, 0x10000000)
 GENERIC_MEANINGS: Dict[str, Tuple[Tuple[int, int], ...]] = {
     kind: tuple(zip(GENERIC_BITS, row["mapping"])) for kind, row in _KINDS.items()}
 
+# A right that means others too where a mask has none of them.
+ALONE: Dict[str, Tuple[int, int]] = {kind: row["alone"] for kind, row in _KINDS.items() if row["alone"]}
+
+# The mappings of what inherits by a flag, where these are others.
+BELOW: Dict[str, Tuple[Tuple[int, Tuple[int, ...]], ...]] = {
+    kind: tuple(({"OI": 0x1, "CI": 0x2}[flag], mapping) for flag, mapping in row["below"]) for kind, row in _KINDS.items() if row["below"]}
+
 BITS: Dict[str, Tuple[Tuple[int, str], ...]] = {
     kind: tuple((right[0], right[1]) for right in row["rights"]) for kind, row in _KINDS.items()}
 _WORDS = ("change", "write", "delete", "permissions", "owner", "read", "execute", "attributes", "start", "stop", "control", "remote")
@@ -157,9 +164,12 @@ def risk_of(kind: str, risks: Tuple[str, ...]) -> int:
     return sum(right[0] for right in _KINDS[kind]["rights"] if right[6] in risks)
 
 
+_INHERITS: Dict[str, int] = {kind: {"": 0, "CI": 0x2, "OICI": 0x3}[row["inherits"]] for kind, row in _KINDS.items()}
+
+
 def inherits(kind: str) -> int:
     """The flags by which children inherit an ACE."""
-    return {"": 0, "CI": 0x2, "OICI": 0x3}[_KINDS[kind]["inherits"]]
+    return _INHERITS[kind]
 
 
 def child_of(kind: str) -> str:

@@ -8,7 +8,7 @@ from sdtool.audit.questions import names as sids
 from sdtool.audit.questions import rights
 from sdtool.audit.questions.abilities import Abilities, class_names, is_harmless
 from sdtool.audit.questions.answers import (ALLOWS, DENIES, INHERIT_ONLY, INHERITED, NO_DACL, PROTECTED, Ace, Descriptor, Refusal,
-                                            ace_text, explained, mapped, spelled)
+                                            ace_text, explained, mapped, mapped_below, spelled)
 from sdtool.audit.sources.items import WITHOUT_OWNER
 from sdtool.audit.questions.asking import (LESSER, NO_MARK, NOTHING, OWNER_KEY, SEVERITIES as ORDER, Answer, Because, Checks,
                                            Finding, Got, Mark, Question, Rule, answer_of, as_owner, ask_all, complete, got_of, mark_of, parts_of,
@@ -193,7 +193,8 @@ class Risks:
                 return True
             if is_harmless(ace):
                 return False
-        return bool(mapped(ace.mask, kind) & (wanted.mask | wanted.read))
+        mask = mapped_below(ace, kind) if ace.flags & rights.inherits(kind) else 0
+        return bool((mask | mapped(ace.mask, kind) if ace.decides else mask) & (wanted.mask | wanted.read))
 
     def _case(self, views: _Views, at: int, descriptor: Descriptor, kind: str, place: Place) -> _Case:
         whole = views.plain(at)
@@ -202,6 +203,8 @@ class Risks:
         if descriptor.dacl != "list":
             return _Case(whole, whole, None, here, below, "", ())
         is_directory, inheriting = kind in rights.DIRECTORY, rights.inherits(kind)
+        # What an ACE that denies takes here, children may get all the same; and a generic right may mean more for them.
+        is_denied = any(ace.kind in DENIES for ace in descriptor.aces)
         kept: List[int] = []
         for number, ace in enumerate(descriptor.aces, 1):
             if ace.kind in ALLOWS:
@@ -212,7 +215,8 @@ class Risks:
                         continue
                     if ace.decides:
                         here[sid] = wanted
-                    if ace.flags & inheriting and (is_directory or ace.flags & INHERIT_ONLY and sids.everybody_class(ace.sid)):
+                    has_more = is_denied or ace.flags & INHERIT_ONLY or mapped_below(ace, kind) & ~mapped(ace.mask, kind)
+                    if ace.flags & inheriting and (is_directory or has_more and sids.everybody_class(ace.sid)):
                         below.setdefault(sid, []).append(ace.inherited_type)
             kept.append(number)
         case = _Case(whole, whole, None, here, below, self._asked_owner(descriptor, kind), ())
@@ -410,7 +414,7 @@ def _is_handed_on(ace: Ace, kind: str) -> bool:
 
 def _child_text(descriptor: Descriptor, aces: Iterable[Ace], kind: str) -> str:
     """A descriptor with the ACEs that a child inherits, as ACEs for the child itself. It has no owner."""
-    return spelled(descriptor._replace(owner="", sacl_aces=()), [ace_text(ace, 0, mapped(ace.mask, kind)) for ace in aces])
+    return spelled(descriptor._replace(owner="", sacl_aces=()), [ace_text(ace, 0, mapped_below(ace, kind)) for ace in aces])
 
 
 def _only(got: Got, mask: int) -> Got:

@@ -3,7 +3,7 @@ from typing import Dict, List, NamedTuple, Sequence, Tuple, Union
 
 from sdtool._windows import DEFAULTS
 from sdtool.audit.questions import names as sids
-from sdtool.audit.questions.answers import INHERIT_ONLY, INHERITED, Ace, mapped
+from sdtool.audit.questions.answers import INHERIT_ONLY, INHERITED, Ace, mapped, mapped_below
 
 _PART = "\1"  # between the parts of a place; no name of a class has it
 
@@ -75,7 +75,7 @@ class Defaults:
 
 
 def _fits(row: Default, ace: Ace, kind: str, place: Place) -> bool:
-    if kind not in row.kinds or mapped(ace.mask, kind) & ~row.mask:
+    if kind not in row.kinds or (mapped_below(ace, kind) if row.below else mapped(ace.mask, kind)) & ~row.mask:
         return False
     if row.object_type not in ("*", ace.object_type) or row.inherited_type not in ("", ace.inherited_type):
         return False
