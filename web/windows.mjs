@@ -546,7 +546,7 @@ export const KINDS = {
                 "manage the server",
                 "change",
                 ["change", "write"],
-                "everybody",
+                "takeover",
             ],
             [2, "view the server", "View server", "view the server", "read", ["read"], ""],
             [
@@ -641,8 +641,8 @@ export const KINDS = {
         "mapping": [1179785, 1179926, 1179808, 2032127],
         "alone": [],
         "below": [],
-        "inherits": "",
-        "child": "",
+        "inherits": "OICI",
+        "child": "what is made in it",
         "owner": "",
         "masks": [
             [2032127, "full control"],
@@ -755,7 +755,7 @@ export const KINDS = {
                 "write all classes and instances",
                 "change",
                 ["change", "write"],
-                "everybody",
+                "takeover",
             ],
             [8, "write instances", "Partial write", "write instances", "change", ["change", "write"], "everybody"],
             [16, "write for providers", "Provider write", "write for providers", "change", ["change"], ""],
@@ -1321,6 +1321,17 @@ export const HARMLESS = [
 ];
 export const DEFAULTS = [
     [["printer"], [], [], "S-1-15-2-1", 983088, "*", "", true, false],
+    [
+        ["printer", "print-server"],
+        [],
+        [],
+        "S-1-15-3-1024-4044835139-2658482041-3127973164-329287231-3865880861-1938685643-461067658-1087000422",
+        983088,
+        "*",
+        "",
+        true,
+        false,
+    ],
     [["printer"], [], [], "S-1-5-32-549", 983100, "*", "", false, false],
     [["printer"], [], [], "S-1-5-32-550", 983100, "*", "", false, false],
     [["print-server"], [], [], "S-1-15-2-1", 983088, "*", "", true, false],

@@ -490,7 +490,7 @@ KINDS: Dict[str, Dict[str, Any]] = {
         "owner": "",
         "masks": ((0xf0003, "full control"),),
         "rights": (
-            (1, "manage the server", "Manage server", "manage the server", "change", ("change", "write"), "everybody"),
+            (1, "manage the server", "Manage server", "manage the server", "change", ("change", "write"), "takeover"),
             (2, "view the server", "View server", "view the server", "read", ("read",), ""),
             (4, "manage printers", "Manage printers", "manage printers", "change", ("change", "control"), "everybody"),
             (8, "print", "Print", "print", "other", ("execute",), ""),
@@ -560,8 +560,8 @@ KINDS: Dict[str, Dict[str, Any]] = {
         "mapping": (0x120089, 0x120116, 0x1200a0, 0x1f01ff),
         "alone": (),
         "below": (),
-        "inherits": "",
-        "child": "",
+        "inherits": "OICI",
+        "child": "what is made in it",
         "owner": "",
         "masks": (
             (0x1f01ff, "full control"),
@@ -666,7 +666,7 @@ KINDS: Dict[str, Dict[str, Any]] = {
                 "write all classes and instances",
                 "change",
                 ("change", "write"),
-                "everybody",
+                "takeover",
             ),
             (8, "write instances", "Partial write", "write instances", "change", ("change", "write"), "everybody"),
             (16, "write for providers", "Provider write", "write for providers", "change", ("change",), ""),
@@ -1187,6 +1187,17 @@ HARMLESS: Tuple[str, ...] = (
 # Windows' own ACEs: kinds, classes, places, trustee, mask, object type, inherited type, below, known.
 DEFAULTS: Tuple[Tuple[Any, ...], ...] = (
     (("printer",), (), (), "S-1-15-2-1", 0xf0030, "*", "", True, False),
+    (
+        ("printer", "print-server"),
+        (),
+        (),
+        "S-1-15-3-1024-4044835139-2658482041-3127973164-329287231-3865880861-1938685643-461067658-1087000422",
+        0xf0030,
+        "*",
+        "",
+        True,
+        False,
+    ),
     (("printer",), (), (), "S-1-5-32-549", 0xf003c, "*", "", False, False),
     (("printer",), (), (), "S-1-5-32-550", 0xf003c, "*", "", False, False),
     (("print-server",), (), (), "S-1-15-2-1", 0xf0030, "*", "", True, False),
