@@ -105,6 +105,27 @@ def of_audit():
         yield row, found
 
 
+# Attributes with a password of the older LAPS and of Windows LAPS, by their documentation.
+PASSWORDS = ("ms-Mcs-AdmPwd", "msLAPS-Password", "msLAPS-EncryptedPassword", "msLAPS-EncryptedPasswordHistory",
+             "msLAPS-EncryptedDSRMPassword", "msLAPS-EncryptedDSRMPasswordHistory")
+
+
+def judge_schema(count):
+    """An attribute whose GUID a schema alone knows."""
+    from sdtool.audit.questions import risks
+    from sdtool.audit.questions.asking import Question
+    from sdtool.audit.questions.names import Names
+    from sdtool.audit.questions.windows_defaults import Place
+
+    guid = "12345678-0000-4000-8000-0000000000ab"
+    computer = Place(("top", "person", "organizationalPerson", "user", "computer")).text()
+    for name, wanted in (*((name, ["laps-read"]) for name in PASSWORDS), ("msLAPS-PasswordExpirationTime", [])):
+        question = risks.Risks(Question("", Names()), risks.Lists(named_types={name: guid}))
+        text = f"O:{DOMAIN}-512D:(OA;;CR;{guid};;{DOMAIN}-1105)"
+        found = [one.rule for one in question.answer("sddl", "ds", [text], computer)[0].findings]
+        count.add(found == wanted, f"{name} of a schema: {found}")
+
+
 def of_page(library):
     given = json.dumps(rows())
     ended = subprocess.run(["node", str(TOP / "tests/risk_rows.mjs"), library], input=given, capture_output=True, text=True,
@@ -131,6 +152,8 @@ def main():
         wrong = difference(found, row)
         count.add(not wrong, f"{row['kind']} {row.get('place', '')} {row['sddl']}\n  {wrong}")
     count.add(told == len(rows()), f"{told} of {len(rows())} rows have run")
+    if not chosen.page:
+        judge_schema(count)
     if not page_schema.FOLDER.exists():
         print("skipped: the classes of a schema (Debian: samba-ad-provision)")
     return count.end()

@@ -58,7 +58,7 @@ function waysOf(ability, got, classes) {
 export function abilitiesOf(sid, got, whole, classes, hasAccounts, domain) {
     const found = new Map();
     for (const ability of ABILITIES) {
-        if (found.has(ability.name) || !isFor(ability, sid, domain) || !means(ability, classes)) {
+        if (found.has(ability.name) || found.has(ability.unless) || !isFor(ability, sid, domain) || !means(ability, classes)) {
             continue;
         }
         const told = {rule: ability.name, mask: ability.right, object: "", severity: ability.severity, says: ability.says};

@@ -26,6 +26,9 @@ SEVERITIES = ("high", "medium", "low", "note")
 TYPES = ("right", "write", "set", "class", "attribute")
 # What an ACE may grant for each type: MS-ADTS 5.1.3.3.
 BITS_OF_TYPE = {"right": 0x100, "write": 0x8, "set": 0x30, "class": 0x3, "attribute": 0x30}
+# Attributes that LAPS adds to a schema. Their GUIDs are those of the forest.
+OF_LAPS = ("ms-Mcs-AdmPwd", "msLAPS-Password", "msLAPS-EncryptedPassword", "msLAPS-EncryptedPasswordHistory",
+           "msLAPS-EncryptedDSRMPassword", "msLAPS-EncryptedDSRMPasswordHistory")
 GUID = re.compile(r"[0-9a-f]{8}-[0-9a-f]{4}-[0-9a-f]{4}-[0-9a-f]{4}-[0-9a-f]{12}")
 SID = re.compile(r"S-1(-[0-9]+)+")
 
@@ -137,13 +140,13 @@ def read_directory(schema):
     kinds_of_right = {"CR": ("right", "set"), "WP": ("attribute", "set"), "RP": ("attribute", "set"), "SW": ("write",)}
     abilities = []
     for row in given["ability"]:
-        expect(set(row) <= {"name", "right", "types", "all", "on", "only", "also", "known", "severity", "says"}, f"{row['name']}: another key")
+        expect(set(row) <= {"name", "right", "types", "all", "unless", "on", "only", "also", "known", "severity", "says"}, f"{row['name']}: another key")
         expect(row["severity"] in SEVERITIES, f"{row['name']}: severity")
         types, named = [], []
         for name in row["types"]:
             if name in ("", "*"):
                 types.append(name)
-            elif name == "ms-Mcs-AdmPwd":
+            elif name in OF_LAPS:
                 named.append(name)
             else:
                 types.append(schema.guid(name, *kinds_of_right[row["right"]]))
@@ -152,7 +155,7 @@ def read_directory(schema):
         for name in row.get("on", ()):
             expect(name in schema.guids["class"], f"{row['name']}: {name} is no class")
         abilities.append({"name": row["name"], "right": RIGHTS[row["right"]], "types": tuple(types), "named": tuple(named),
-                          "all": row.get("all", False), "on": tuple(row.get("on", ())), "only": row.get("only", ""),
+                          "all": row.get("all", False), "unless": row.get("unless", ""), "on": tuple(row.get("on", ())), "only": row.get("only", ""),
                           "also": tuple(row.get("also", ())), "known": row.get("known", False), "severity": row["severity"], "says": row["says"]})
     harmless = tuple(schema.guid(name, "right") for name in given["harmless"]["rights"])
     return {"ABILITIES": tuple(abilities), "HARMLESS": harmless}
@@ -293,10 +296,17 @@ def folded_types(rows):
     return " ".join(words)
 
 
+def of_page(name, table_of):
+    """A table as the page needs it: nobody gives it a schema."""
+    if name == "ABILITIES":
+        return tuple({key: value for key, value in row.items() if key != "named"} for row in table_of)
+    return table_of
+
+
 def script_text(tables, schema):
     lines = ["// What Windows means by SIDs, rights, kinds of objects and object types. windows/write.py writes this file."]
     for name in ("SIDS", "OF_A_DOMAIN", "FAMILIES", "USUAL", "KINDS", "ABILITIES", "HARMLESS", "DEFAULTS", "RULES", "ATTRIBUTES", "PRIVILEGES"):
-        lines.append(f"export const {name} = {json_value(plain(tables[name]), '')};")
+        lines.append(f"export const {name} = {json_value(plain(of_page(name, tables[name])), '')};")
     lines.append("// Of each type the end of GUIDs, and then for each GUID with that end its first eight digits and its name.")
     lines.append(f"export const TYPES = {json_value({kind: folded_types(schema.rows[kind]) for kind in TYPES}, '')};")
     lines.append("// The rights that an ACE may grant for an object type of a type.")

@@ -20,6 +20,7 @@ class Ability(NamedTuple):
     right: int
     types: Tuple[str, ...]
     needs_all: bool
+    unless: str
     on: FrozenSet[str]
     only: str
     also: Tuple[str, ...]
@@ -53,7 +54,7 @@ class Had(NamedTuple):
 
 def _ability(row: Dict[str, Any], named_types: Dict[str, str]) -> Ability:
     types = row["types"] + tuple(named_types[name] for name in row["named"] if name in named_types)
-    return Ability(row["name"], row["right"], types, row["all"], frozenset(row["on"]), row["only"], row["also"], row["known"],
+    return Ability(row["name"], row["right"], types, row["all"], row["unless"], frozenset(row["on"]), row["only"], row["also"], row["known"],
                    row["says"])
 
 
@@ -76,7 +77,7 @@ class Abilities:
         """The abilities of a trustee, each once. whole has its rights by the object types of whole_types."""
         found: Dict[str, Had] = {}
         for ability in self._all:
-            if ability.name in found or not ability.is_for(sid, self._trust) or not ability.means(classes):
+            if ability.name in found or ability.unless in found or not ability.is_for(sid, self._trust) or not ability.means(classes):
                 continue
             if ability.needs_all:
                 if has_accounts and self._has_all(ability, got, whole):
