@@ -1780,6 +1780,7 @@ export const PRIVILEGES = {
     "SeTakeOwnershipPrivilege": ["take-ownership", ""],
     "SeBackupPrivilege": ["", "read any object"],
     "SeRestorePrivilege": ["", "write any object and its permissions"],
+    "SeDebugPrivilege": ["", "open any process with every right"],
 };
 // Of each type the end of GUIDs, and then for each GUID with that end its first eight digits and its name.
 export const TYPES = {

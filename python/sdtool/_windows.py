@@ -1658,6 +1658,7 @@ PRIVILEGES: Dict[str, Tuple[str, str]] = {
     "SeTakeOwnershipPrivilege": ("take-ownership", ""),
     "SeBackupPrivilege": ("", "read any object"),
     "SeRestorePrivilege": ("", "write any object and its permissions"),
+    "SeDebugPrivilege": ("", "open any process with every right"),
 }
 # Names of object types.
 OBJECT_TYPES: Dict[str, str] = {
