@@ -192,6 +192,13 @@ def test_links(count, page, _):
     opened_at(page, {"d": text, "kind": "ds", "object": "bf9679c0-0de6-11d0-a285-00aa003049e2", "common": "0"})
     got = page.do("return [byId('object').checkVisibility(), byId('common').checkVisibility(), byId('common').checked];")
     count.add(got == [True, True, False], f"an object type of a link is not shown: {got}")
+    opened_at(page, {"d": text, "kind": "template", "object": "0e10c968-78fb-11d2-90d4-00c04f79dc55"})
+    count.add(page.do("return byId('object').checkVisibility();"), "an object type of a link for a template is not shown")
+    # A link that is followed while the page is open.
+    page.do("location.hash = '#kind=process&d=O:SYD:(A;;0x1fffff;;;BA)(A;;0x2;;;BU)'; await until(() => byId('kind').value === 'process');")
+    page.do("await until(() => isIdle() && document.querySelector('.summary'));")
+    got = page.do("return [byId('kind').value, byId('view-look').textContent];")
+    count.add(got[0] == "process" and "Users can create threads" in got[1], f"the kind of a link that is followed: {got}")
     opened_at(page, {"d": text, "object": "bf9679c0-0de6-11d0-a285-00aa003049e2"})
     got = page.do(
         "const before = byId('more-options').open; put('kind', 'ds'); await until(isIdle); return [before, byId('object').checkVisibility()];"

@@ -175,3 +175,17 @@ def test_stop(count, page, _):
     given = {"data": base64.b64encode(piece).decode(), "times": 40, "stopAfter": 300}
     got = page.call("bigFile", given)
     count.add("Stopped after" in got["status"], f"a run that is stopped: {got}")
+
+
+def test_filter_of_type(count, page, _):
+    """Which rights change an object depends on its type: of three directory objects Users may write one."""
+    page.open()
+    page.view("lines")
+    page.do(
+        "put('lines-command', 'check'); put('lines-from', 'sddl'); put('lines-type', 'ds'); put('lines-token', 'BU'); "
+        "put('lines-maximum', true); put('lines-filter-token', 'BU');"
+    )
+    piece = b"D:(A;;RP;;;BU)\nD:(A;;WP;;;BU)\nD:(A;;LC;;;BU)\n"
+    page.call("bigFile", {"data": base64.b64encode(piece).decode(), "times": 1, "isShort": True})
+    kept = page.do("await lastOfFilter('change'); return Array.from(document.querySelectorAll('table.lines tbody th'), (one) => one.textContent);")
+    count.add(kept == ["2"], f"lines of a directory that Users may change: {kept}")
