@@ -190,8 +190,8 @@ if "${MAKE:-make}" --no-print-directory program; then
         start_lane tests/audit.py tests/audit_sources.py tests/audit_reports.py tests/audit_reasons.py tests/audit_package.py \
             tests/risk_rows.py
         start_lane "tests/distributed.py $program" "tests/distributed_faults.py $program"
-        start_lane "tests/page.py $program" tests/page_schema.py tests/page_kinds.py tests/page_questions.py tests/page_units.py "tests/risk_rows.py --page" tests/lowering.py \
-            "tests/systems.py $program"
+        start_lane "tests/page.py $program" tests/page_schema.py tests/windows_headers.py tests/page_kinds.py tests/page_questions.py \
+            tests/page_units.py "tests/risk_rows.py --page" tests/lowering.py "tests/systems.py $program"
     else
         echo "the library is not built, so its tests have not run"
         ((failed += 1))
