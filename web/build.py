@@ -2,9 +2,9 @@
 """build.py MODULE LIBRARY PAGE
 
 Puts the page together: one file, PAGE, of web/page.html, web/page.css, the ES modules of web/ from main.mjs on, the
-file LIBRARY (sdtool.mjs) and the file MODULE (sdtool.wasm), compressed and in base64. It leaves out comments, indentation and the blanks of
-the style, and changes nothing else but how a module gets what another exports: each becomes a function that is called
-once, in the order in which a browser would. The script is no module, since browsers refuse modules in workers of a page
+file LIBRARY (sdtool.mjs) and the file MODULE (sdtool.wasm), compressed and in base64. It leaves out comments, indentation,
+most line ends and the blanks of the style, and changes nothing else but how a module gets what another exports: each becomes
+a function that is called once, in the order in which a browser would. The script is no module, since browsers refuse modules in workers of a page
 from a disk; so it has no import.meta. What the page never calls is left out: of the module by binaryen's wasm-metadce,
 of the library by name. The page's policy allows this script and this style alone, by their hashes.
 """
@@ -45,6 +45,8 @@ EXPORTS = re.compile(r"^export \{([^}]*)\};\n", re.M)
 # What only a reader of the sources needs: comments, but for those behind code that have a quotation mark and so may be in a
 # text, and indentation.
 FOR_READERS = re.compile(r"^[ \t]*//.*\n|^[ \t]*/\*\*(?:.|\n)*?\*/\n|^[ \t]+|[ \t]+// [^\"'`\n]*$", re.M)
+# A line without a comment, behind whose end nothing has to begin a line.
+GOES_ON = re.compile(r"^((?:(?!//)[^\n])*[,;{(\[])\n", re.M)
 # A function or a constant of the library.
 DECLARED = re.compile(r"^(?:function ([\w$]+)|const )[^\n]*\n(?:[ \t][^\n]*\n|\n(?=[ \t])|[}\])][^\n]*\n)*", re.M)
 LEFT = re.compile(r"^(?:import|export)\b", re.M)
@@ -129,6 +131,7 @@ def wrapped(name, text):
     text = FOR_READERS.sub("", text)
     if LEFT.search(text):
         raise SystemExit(f"{name} has an import or an export of a form that this script does not know")
+    text = GOES_ON.sub(r"\1", text)
     return f'modules["{name}"] = (() => {{\n{text}return {{ {", ".join(exports)} }};\n}})();\n'
 
 

@@ -20,16 +20,16 @@ export function relativeOf(sid) {
 export function meaningOfSid(sid) {
     const known = valueIn(SIDS, sid);
     if (known) {
-        return {name: known[1], who: known[2], also: known[3].filter((one) => one !== sid), family: null};
+        return {name: known[1], who: known[2], also: (known[3] ?? USUAL).filter((one) => one !== sid), family: null};
     }
     const relative = relativeOf(sid);
     if (relative) {
         const row = relative.number < BUILT_IN_BELOW ? valueIn(OF_A_DOMAIN, String(relative.number)) : undefined;
-        return row ? {name: row[1], who: row[2], also: row[3], family: null} :
+        return row ? {name: row[1], who: row[2], also: row[3] ?? USUAL, family: null} :
                      {name: null, who: "other", also: USUAL, family: null};
     }
     const family = FAMILIES.find(([begins]) => sid.startsWith(begins));
-    return family ? {name: null, who: family[2], also: family[3], family: family[1]} :
+    return family ? {name: null, who: family[2], also: family[3] ?? USUAL, family: family[1]} :
                     {name: null, who: "other", also: USUAL, family: null};
 }
 

@@ -296,17 +296,24 @@ def folded_types(rows):
     return " ".join(words)
 
 
-def of_page(name, table_of):
-    """A table as the page needs it: nobody gives it a schema."""
+def of_page(name, tables):
+    """A table as the page needs it: nobody gives it a schema, and what a token has besides is null where it is the usual."""
+    table_of = tables[name]
     if name == "ABILITIES":
         return tuple({key: value for key, value in row.items() if key != "named"} for row in table_of)
-    return table_of
+    if name in ("SIDS", "OF_A_DOMAIN"):
+        return {key: without_usual(row, tables) for key, row in table_of.items()}
+    return tuple(without_usual(row, tables) for row in table_of) if name == "FAMILIES" else table_of
+
+
+def without_usual(row, tables):
+    return (*row[:3], None if row[3] == tables["USUAL"] else row[3], *row[4:])
 
 
 def script_text(tables, schema):
     lines = ["// What Windows means by SIDs, rights, kinds of objects and object types. windows/write.py writes this file."]
     for name in ("SIDS", "OF_A_DOMAIN", "FAMILIES", "USUAL", "KINDS", "ABILITIES", "HARMLESS", "DEFAULTS", "RULES", "ATTRIBUTES", "PRIVILEGES"):
-        lines.append(f"export const {name} = {json_value(plain(of_page(name, tables[name])), '')};")
+        lines.append(f"export const {name} = {json_value(plain(of_page(name, tables)), '')};")
     lines.append("// Of each type the end of GUIDs, and then for each GUID with that end its first eight digits and its name.")
     lines.append(f"export const TYPES = {json_value({kind: folded_types(schema.rows[kind]) for kind in TYPES}, '')};")
     lines.append("// The rights that an ACE may grant for an object type of a type.")
