@@ -4,7 +4,7 @@
 # deb.sh [ARCHITECTURE [FOLDER]]: out/PACKAGE_VERSION_ARCHITECTURE.deb, or in another folder. For arm64 those of program,
 # library and module, with what 'make linux-aarch64' built. The module's extension is compiled for the same architecture. The
 # same tree gives the same bytes.
-set -eu
+set -euo pipefail
 cd "$(dirname "$0")/.."
 . packaging/surroundings.sh
 version=$(sed -n 's/^Version: //p' packaging/control)

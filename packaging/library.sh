@@ -1,7 +1,7 @@
 #!/usr/bin/env bash
 # Builds the static and the shared library from what 'rt lib' made: out/lib/libsdtool.a and out/lib/libsdtool.so.
 # The toolchain's archive that calls malloc and free goes into both; only symbols that begin with sdtool_ can be linked to.
-set -eu
+set -euo pipefail
 cd "$(dirname "$0")/.."
 cc=${CC:-cc}
 major=0

@@ -200,8 +200,18 @@ def test_packages(count, folder):
         print("skipped: there is no lintian")
 
 
+def test_scripts(count):
+    """A package or a library for another system is not made where a part of it failed, also in front of a pipe."""
+    scripts = [path for folder in ("packaging", "systems") for path in sorted((TOP / folder).glob("*.sh"))]
+    run = [path for path in scripts if os.access(path, os.X_OK)]
+    count.add(len(run) > 3, "scripts that make packages")
+    for path in run:
+        count.add("\nset -euo pipefail\n" in path.read_text(encoding="utf-8"), path.name)
+
+
 def main():
     count = preload.Count()
+    test_scripts(count)
     if not shutil.which("pkg-config"):
         print("skipped: there is no pkg-config")
         return count.end()
