@@ -1,6 +1,6 @@
 """What samba-tool ntacl get prints without --as-sddl: dumps of Samba's structures, one for each file."""
 import re
-from typing import Dict, Iterator, List, Optional, Tuple
+from typing import Dict, Iterator, List, Optional, Set, Tuple
 
 from sdtool.audit.sources.frame import Format, Lines, Look, Piece
 from sdtool.audit.sources.items import Item, item_of, unreadable
@@ -40,20 +40,29 @@ class _Dump:
         self.sids: Dict[str, str] = {}
         self.acls: Dict[str, Optional[List[Dict[str, str]]]] = {}
         self._acl: Optional[List[Dict[str, str]]] = None
+        self._awaited: Set[str] = {"owner_sid", "group_sid", "sacl", "dacl"}  # what has to come
         self._count = 0  # of the ACEs that the dump says there are
 
     def add(self, name: str, value: str) -> None:
         if name == "num_aces":
             self._count += _number(value)
+            self._awaited.discard("num_aces")
         elif name == "type" and self.control is None:
             self.control = _number(value)
         elif name in ("owner_sid", "group_sid") and value.startswith("S-1-"):
             if name[0].upper() in self.sids:
                 raise Unknown(f"two lines have {name}")
             self.sids[name[0].upper()] = value
+            self._awaited.discard(name)
+        elif name in ("owner_sid", "group_sid") and value == "NULL":
+            self._awaited.discard(name)
         elif name in ("sacl", "dacl") and value in ("NULL", "*"):
+            if name in self.acls or "num_aces" in self._awaited:
+                raise Unknown("the dump is cut")
             self._acl = None if value == "NULL" else []
             self.acls[name] = self._acl
+            self._awaited.discard(name)
+            self._awaited |= set() if self._acl is None else {"num_aces"}
         elif name == "aces" and value == "struct security_ace" and self._acl is not None:
             self._acl.append({})
         elif self._acl:
@@ -78,9 +87,13 @@ class _Dump:
             ace["mask"] = hex(_number(value))
         elif name == "trustee":
             ace["sid"] = value
+        elif name == "size":
+            ace["size"] = str(_number(value))
+        elif name == "ignored":
+            ace["rest"] = value
 
     def sddl(self) -> str:
-        if self.control is None or not self.control & _SELF_RELATIVE or self._count != sum(len(aces) for aces in self.acls.values() if aces is not None):
+        if self._awaited or self.control is None or not self.control & _SELF_RELATIVE or self._count != sum(len(aces) for aces in self.acls.values() if aces is not None):
             raise Unknown("the dump is cut")
         text = "".join(f"{part}:{sid}" for part, sid in self.sids.items())
         for part, present, names in (("dacl", 0x4, CONTROL_NAMES), ("sacl", 0x10, _SACL_NAMES)):
@@ -99,6 +112,10 @@ def _ace_text(ace: Dict[str, str]) -> str:
         raise Unknown("the dump is cut")
     if ace["type"].startswith("O") and int(ace.get("types", "-1")) & 3 != ("object" in ace) + 2 * ("inherited" in ace):
         raise Unknown("the dump is cut: an object type is missing")
+    # A SID that is cut may be another one. Behind the SID other bytes may stand.
+    length = 8 + 4 * ace["type"].startswith("O") + 16 * (("object" in ace) + ("inherited" in ace)) + 8 + 4 * (ace["sid"].count("-") - 2)
+    if length < int(ace.get("size", "0")) and "length=" not in ace.get("rest", ""):
+        raise Unknown("the dump is cut: a SID is shorter than its ACE says")
     return f"({ace['type']};{ace['flags']};{ace['mask']};{ace.get('object', '')};{ace.get('inherited', '')};{ace['sid']})"
 
 
@@ -114,6 +131,8 @@ def sddl_of(lines: List[str]) -> str:
 
 def _item(number: int, block: List[str], label: str, kind: str) -> Item:
     try:
+        if not _HEAD.match(block[0]):
+            raise Unknown("the first line of the dump is missing")
         return item_of(f"{label}:{number}", label, number, sddl_of(block), kind)
     except Unknown as error:
         return unreadable(f"{label}:{number}", label, number, str(error), _HELP, kind)
@@ -140,7 +159,7 @@ def _read(source: Lines, label: str, options: SourceOptions) -> Iterator[Piece]:
         if _HEAD.match(line):
             yield from ended()
             block.append((number, line))
-        elif block and _is_dumped(line):
+        elif _is_dumped(line):
             block.append((number, line))
         else:
             yield from ended()
@@ -152,4 +171,4 @@ def _read(source: Lines, label: str, options: SourceOptions) -> Iterator[Piece]:
     yield from ended()
 
 
-FORMAT = Format("ndr", "samba-tool ntacl get", "a dump, and any line outside of one", (_BLANK,), _recognizes, _read)
+FORMAT = Format("ndr", "samba-tool ntacl get", "a dump, also without its first line, and any other line", (_BLANK,), _recognizes, _read)

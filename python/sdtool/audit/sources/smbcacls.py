@@ -35,10 +35,10 @@ def _sddl(block: List[str]) -> str:
         if not found or found[2].lower() not in _KINDS:
             raise Unknown(f"{line.strip()[:200]!r} names no SID or isn't numeric")
         aces.append(f"({_KINDS[found[2].lower()]};{flags_text(int(found[3], 0))};{found[4]};;;{found[1]})")
-    for part in ("OWNER", "GROUP"):
+    for part in ("REVISION", "OWNER", "GROUP"):
         if part not in fields:
             raise Unknown(f"the line with {part} is missing")
-        if fields[part] and not _SID.match(fields[part]):
+        if part != "REVISION" and fields[part] and not _SID.match(fields[part]):
             raise Unknown(f"{part.lower()} {fields[part]!r} is a name")
     control = fields.get("CONTROL", "")
     if not re.fullmatch("0x[0-9a-fA-F]+", control):
@@ -59,6 +59,12 @@ def _item(number: int, block: List[str], label: str, kind: str) -> Item:
         return unreadable(f"{label}:{number}", label, number, str(error), _HELP, kind)
 
 
+def _begins(word: str, block: List[Tuple[int, str]]) -> bool:
+    """Whether a line is of another descriptor than those before it, of which the first may be missing."""
+    words = {line.partition(":")[0].upper() for _, line in block}
+    return word == "REVISION" or word == "CONTROL" and bool(words & {"CONTROL", "ACL"})
+
+
 def _read(source: Lines, label: str, options: SourceOptions) -> Iterator[Piece]:
     kind = options.kind or "file"
     block: List[Tuple[int, str]] = []
@@ -70,8 +76,9 @@ def _read(source: Lines, label: str, options: SourceOptions) -> Iterator[Piece]:
             block.clear()
 
     for number, line in enumerate(source, 1):
-        if _WORD.match(line) and (block or line[:9].upper() == "REVISION:"):
-            if line[:9].upper() == "REVISION:":
+        found = _WORD.match(line)
+        if found:
+            if _begins(found[1].upper(), block):
                 yield from ended()
             block.append((number, line))
             continue
@@ -84,4 +91,4 @@ def _read(source: Lines, label: str, options: SourceOptions) -> Iterator[Piece]:
     yield from ended()
 
 
-FORMAT = Format("smbcacls", "smbcacls --numeric", "the lines from REVISION on, and any other line", (_BLANK,), _recognizes, _read)
+FORMAT = Format("smbcacls", "smbcacls --numeric", "the lines of a descriptor, also without REVISION, and any other line", (_BLANK,), _recognizes, _read)
