@@ -1,4 +1,5 @@
 """Registry exports, which reg export and regedit write."""
+import collections
 import re
 from typing import Iterator, List, NamedTuple, Optional, Tuple, Union
 
@@ -14,12 +15,14 @@ _OPEN_TEXT = re.compile(r'"(?:[^"\\]|\\.)*\\?\Z', re.S)
 _BINARY = re.compile(r"hex(?:\([0-9a-f]+\))?:(.*)", re.I | re.S)
 _NUMBER = re.compile(r"(dword:[0-9a-f]{1,8}|-)\s*\Z", re.I)
 _SHORT = re.compile(r"dword:[0-9a-f]{1,7}\s*\Z", re.I)
+_GOES_ON = re.compile(r"\s*[0-9a-f]{2}(?:,|\s*\\?\s*\Z)", re.I)  # a further line of hex digits
 _DIGITS = re.compile(r"\s*(?:[0-9a-f]{2}(?:,[0-9a-f]{2})*)?\s*\Z", re.I)
 _ACL = re.compile(r"[DSOG]:(?![\\/])", re.I)  # D:\Data is a path
 # Names of values that hold a descriptor, beside those of a key whose name ends with Security.
 _NAMES = re.compile(r"security|.*permission|.*sd|.*securitydescriptor|.*dacl", re.I)
 _TEXT_NAMES = re.compile(r".*sd|.*securitydescriptor", re.I)
 _MOST_LINES = 100_000  # of a value
+_MOST_PIECES = 100_000  # of a key, until they are given
 # What a value protects, by its key and its name. The first that fits counts.
 _KINDS = [(re.compile(pattern, re.I), kind) for pattern, kind in (
     (r"\\Shares\\Security\\", "share"),
@@ -126,7 +129,7 @@ def _binary_value(begin: int, name: str, data: str, lines: _Numbered) -> _Value:
         if not is_open:
             return _Value(begin, begin + 1 + count, name, "hex:" + re.sub(r"[\s,]", "", "".join(parts)).lower())
         following = lines.next()
-        if following is None or count >= _MOST_LINES or not re.match(r"\s*[0-9a-f]{2}(?:,|\s*\\?\s*\Z)", following, re.I):
+        if following is None or count >= _MOST_LINES or not _GOES_ON.match(following):
             if following is not None:
                 lines.give_back([following])
             return _Value(begin, begin + 1 + count, name, "", "the value is cut: it goes on in a line that isn't there")
@@ -165,8 +168,18 @@ def _taken(key: Optional[str], value: _Value, label: str, options: SourceOptions
         if text and (_ACL.match(_unescaped(text[1])) or _TEXT_NAMES.fullmatch(value.name)):
             found = item_of(full, label, value.begin, _unescaped(text[1]), kind)
     if key is None and isinstance(found, Item):
-        return unreadable(full, label, value.begin, "the line with its key is damaged", _AGAIN, kind)
+        return unreadable(full, label, value.begin, "the line with its key is damaged or not there", _AGAIN, kind)
     return found
+
+
+def _without_rivals(pieces: List[Piece]) -> Iterator[Piece]:
+    """The pieces of a key. Of values with one name none is known, since a key has each name once."""
+    counts = collections.Counter(piece.taken.name.lower() for piece in pieces if isinstance(piece.taken, Item))
+    for piece in pieces:
+        one = piece.taken
+        if isinstance(one, Item) and one.form and counts[one.name.lower()] > 1:
+            piece = piece._replace(taken=unreadable(one.name, one.source, one.line, "the key has two values with this name", _AGAIN, one.kind))
+        yield piece
 
 
 def _line(text: str) -> Tuple[str, str]:
@@ -184,28 +197,45 @@ def _line(text: str) -> Tuple[str, str]:
 
 def _read(source: Lines, label: str, options: SourceOptions) -> Iterator[Piece]:
     """The values that are descriptors, in binary or as SDDL, and lines that are damaged."""
-    key: Optional[str] = ""
+    key: Optional[str] = None
     lines = _Numbered(source)
+    pieces: List[Piece] = []  # of the key
     while True:
         text = lines.next()
         if text is None:
+            yield from _without_rivals(pieces)
             return
         number = lines.number
         found = _NAME.match(text)
         if found:
             value = _value(text, found, lines)
-            yield Piece(value.begin, value.end, _taken(key, value, label, options), bool(value.reason))
+            pieces.append(Piece(value.begin, value.end, _taken(key, value, label, options), bool(value.reason)))
             continue
         word, named = _line(text)
+        if word == _KEY_LINE or len(pieces) > _MOST_PIECES:
+            yield from _without_rivals(pieces)
+            pieces = []
         if word:
             key = named if word == _KEY_LINE else key
-            yield Piece(number, number + 1, word)
+            pieces.append(Piece(number, number + 1, word))
             continue
         name = f"{key}: {text[:100]}" if key else f"{label}:{number}"
         lost = unreadable(name, label, number, "the line is neither a key nor a value", _AGAIN, options.kind or _kind_of(key or "", ""))
         if text.startswith("[") or text.rstrip().endswith("]") or "HKEY_" in text:
             key = None
-        yield Piece(number, number + 1, lost, True)
+        elif _GOES_ON.match(text):
+            _skip_digits(lines)
+        pieces.append(Piece(number, lines.number + 1, lost, True))
+
+
+def _skip_digits(lines: _Numbered) -> None:
+    """Goes behind the lines of hex digits that follow, which belong to the value of the line at hand."""
+    while True:
+        following = lines.next()
+        if following is None or not _GOES_ON.match(following):
+            break
+    if following is not None:
+        lines.give_back([following])
 
 
 FORMAT = Format("reg", "reg export KEY FILE", "a value that is a descriptor by its name, its key or its bytes, or that is damaged",
