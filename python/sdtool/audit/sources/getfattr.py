@@ -11,7 +11,7 @@ from sdtool.audit.sources.samba import NO_ATTRIBUTE, item_of_attribute
 
 _START = "# file: "
 _COMMENT_LINE = re.compile(r"# (owner|group|flags): ")
-_ATTRIBUTE = re.compile(r"[\w.\\-]+(=|\Z)")
+_ATTRIBUTE = re.compile(r"\w+\.[^\s=]+(=|\Z)")  # its namespace, a dot and its name
 _BLANK, _COMMENT, _OTHER = "a blank line", "a comment", "another attribute"
 _VALUE = "the attribute of the file above"
 
@@ -54,6 +54,7 @@ def _read(source: Lines, label: str, options: SourceOptions) -> Iterator[Piece]:
     name: Optional[Tuple[int, str]] = None
     found: List[Tuple[str, str]] = []
     held: List[Piece] = []  # what stands behind the name
+    is_lost = False  # whether a line that isn't known stands for the file of the attributes that follow
 
     def ended() -> Iterator[Piece]:
         if name is not None:
@@ -65,24 +66,24 @@ def _read(source: Lines, label: str, options: SourceOptions) -> Iterator[Piece]:
     for number, line in enumerate(source, 1):
         if line.startswith(_START):
             yield from ended()
-            name = number, _unescaped(line[len(_START):])
+            name, is_lost = (number, _unescaped(line[len(_START):])), False
             continue
         attribute, equals, value = line.partition("=")
         if not line.strip():
-            piece = Piece(number, number + 1, _BLANK)
+            piece, is_lost = Piece(number, number + 1, _BLANK), False
         elif _COMMENT_LINE.match(line):
             piece = Piece(number, number + 1, _COMMENT)
         elif name is not None and attribute in options.attributes:
             found.append((attribute, value))
             piece = Piece(number, number + 1, _VALUE)
-        elif name is not None and _ATTRIBUTE.match(line):
+        elif (name is not None or is_lost) and _ATTRIBUTE.match(line):
             piece = Piece(number, number + 1, _OTHER)
         else:
             lost = unreadable(f"{label}:{number}", label, number, f"{line[:80]!r} is neither a name nor an attribute",
                               "run getfattr again", kind)
             piece = Piece(number, number + 1, lost, True)
             yield from ended()
-            name = None  # what follows may be of another file
+            name, is_lost = None, True  # what follows may be of another file
         held.append(piece)
         if name is None:
             yield from ended()

@@ -15,8 +15,10 @@ _BLANK = "a blank line before a name"
 def _recognizes(look: Look) -> bool:
     """Whether some ACL stands behind a name."""
     full = look.full()
-    return any(_ACL_LINE.match(acl) and _ACL_END.search(acl) and not _ACL_LINE.match(name) and "\t" not in name and not looks_like_descriptor(name)
-               for name, acl in zip(full, full[1:])) and not all(map(_ACL_LINE.match, full))
+    pairs = sum(bool(_ACL_LINE.match(acl) and _ACL_END.search(acl)) and not _ACL_LINE.match(name) and "\t" not in name
+                and not looks_like_descriptor(name) for name, acl in zip(full, full[1:]))
+    # Lines of a list may be hex and base64 beside SDDL.
+    return pairs > sum(not _ACL_LINE.match(line) and looks_like_descriptor(line) for line in full)
 
 
 def _read(source: Lines, label: str, options: SourceOptions) -> Iterator[Piece]:
@@ -29,11 +31,11 @@ def _read(source: Lines, label: str, options: SourceOptions) -> Iterator[Piece]:
             if is_acl:
                 lost = unreadable(f"{label}:{number}", label, number, "no name stands before this ACL", _AGAIN, kind)
                 yield Piece(number, number + 1, lost, True)
-            elif not line:
+            elif not line.strip():
                 yield Piece(number, number + 1, _BLANK)
             else:
                 name = number, line
-        elif is_acl or not line:
+        elif is_acl or not line.strip():
             yield Piece(name[0], number + 1, item_of(name[1], label, name[0], line, kind)._replace(place=WITHOUT_OWNER))
             name = None
         else:

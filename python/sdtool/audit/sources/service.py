@@ -13,10 +13,9 @@ _BLANK = "an empty line before a descriptor or at the end"
 
 
 def _recognizes(look: Look) -> bool:
-    """Whether empty lines and descriptors stand by turns, in all that was looked at."""
-    pairs = list(zip(look.lines[0::2], look.lines[1::2]))
-    last = look.lines[-1:] if len(look.lines) % 2 else []
-    return bool(pairs) and all(not empty.strip() and _ACL_LINE.match(text) for empty, text in pairs) and not "".join(last).strip()
+    """Whether each descriptor of what was looked at stands behind an empty line."""
+    before = [line for line, text in zip(["-", *look.lines], look.lines) if _ACL_LINE.match(text)]
+    return bool(before) and not any(line.strip() for line in before)
 
 
 def _read(source: Lines, label: str, options: SourceOptions) -> Iterator[Piece]:

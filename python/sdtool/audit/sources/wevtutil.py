@@ -40,11 +40,14 @@ def _read(source: Lines, label: str, options: SourceOptions) -> Iterator[Piece]:
             yield from without_descriptor()
             name = number, rest
         elif word == "channelaccess":
-            if name is not None:
-                yield Piece(name[0], name[0] + 1, _NAME)
+            if name is None:
+                lost = unreadable(f"{label}:{number}", label, number, "no name stands before this channelAccess", _AGAIN, kind)
+                yield Piece(number, number + 1, lost, True)
+                continue
+            yield Piece(name[0], name[0] + 1, _NAME)
             yield from held
             held.clear()
-            yield Piece(number, number + 1, item_of(name[1] if name else f"{label}:{number}", label, number, rest, kind))
+            yield Piece(number, number + 1, item_of(name[1], label, number, rest, kind))
             name = None
         else:
             piece = _other(line, word, label, number, kind)
