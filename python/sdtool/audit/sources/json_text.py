@@ -236,16 +236,30 @@ def _is_rival(first: Any, other: Any) -> bool:
     return isinstance(other, str) and looks_like_descriptor(other) and other.strip() != str(_pair_text(first)).strip()
 
 
-def _inside(value: Any) -> Iterator[Tuple[str, Dict[str, Any]]]:
-    """The objects with a descriptor inside an element, each with the member that has them."""
+# Names that no member has but one with a descriptor, also where it is empty.
+_SURE_NAMES = frozenset({"sddl", "securitydescriptor", "ntsecuritydescriptor", "securitydescriptorsddl", "sddlstring"})
+
+
+def _is_described(key: str, value: Any, chosen: Optional[str]) -> bool:
+    """Whether a member makes what it is in an object with a descriptor, or with none that can be read."""
+    name = plain_name(key)
+    if key == chosen:
+        return True
+    if name not in DESCRIPTOR_NAMES:
+        return False
+    text = _pair_text(value)
+    return isinstance(text, str) and looks_like_descriptor(text) or name in _SURE_NAMES and (text is None or isinstance(text, str))
+
+
+def _inside(value: Any, chosen: Optional[str] = None) -> Iterator[Tuple[str, Dict[str, Any]]]:
+    """The objects with a descriptor inside an element, each with the member that has them. chosen is the member that words name."""
     waiting: List[Tuple[str, Any]] = [(key, inner) for key, inner in value.items() if isinstance(inner, (dict, list))] \
         if isinstance(value, dict) else []
     while waiting:
         key, inner = waiting.pop(0)
         if isinstance(inner, list):
             waiting = [(key, one) for one in inner if isinstance(one, (dict, list))] + waiting
-        elif any(plain_name(name) in DESCRIPTOR_NAMES and isinstance(text, str) and looks_like_descriptor(text)
-                 for name, text in inner.items()):
+        elif any(_is_described(name, text, chosen) for name, text in inner.items()):
             yield key, inner
         if isinstance(inner, dict):
             waiting = [(key, one) for one in inner.values() if isinstance(one, (dict, list))] + waiting
@@ -264,7 +278,7 @@ def _items(value: Any, label: str, line: int, options: SourceOptions, place: str
     kind = options.kind or kind_of_name(parts.name)
     found = [unreadable(parts.name, label, line, parts.reason, parts.help, kind) if parts.reason else
              item_of(parts.name, label, line, parts.text, kind)]
-    for key, inner in _inside(value) if any(type(inner) in (dict, list) for inner in value.values()) else ():
+    for key, inner in _inside(value, options.descriptor_column) if any(type(inner) in (dict, list) for inner in value.values()) else ():
         name = _parts(inner, place, options).name
         found.append(unreadable(name, label, line, f"it is inside member {key} of {parts.name}", "export a list without lists inside",
                                 options.kind or kind_of_name(name)))
@@ -307,18 +321,27 @@ def _whole(value: Any, label: str, line: int, options: SourceOptions, place: str
         pairs = _pairs(value)
         if any(isinstance(inner, list) for _, inner in pairs):
             return _items_around(value, label, line, options)
-        if not _named(value, NAME_NAMES, options.name_column) and any(True for _ in _inside(value)) and not any(
+        if not _named(value, NAME_NAMES, options.name_column) and any(True for _ in _inside(value, options.descriptor_column)) and not any(
                 isinstance(inner, str) and looks_like_descriptor(inner) for _, inner in pairs):
             return _items_of_members(value, label, line, options)
     return _items(value, label, line, options, place)
 
 
 def _items_of_members(value: Dict[str, Any], label: str, line: int, options: SourceOptions) -> List[Item]:
-    """The objects of an object that has none but in members. Those without a name have that of their member."""
+    """The objects of an object that has none but in members. Those without a name have that of their member. If some have a
+    descriptor of their own, the others lack it."""
     found: List[Item] = []
+    chosen, kind = options.descriptor_column, options.kind
+    own = sum(isinstance(inner, dict) and bool(_named(inner, DESCRIPTOR_NAMES, chosen)) for _, inner in _pairs(value))
+    # A few texts among objects say why an object has no descriptor; others say something of the whole.
+    texts_count = sum(isinstance(inner, str) for _, inner in _pairs(value)) < own
     for key, inner in _pairs(value):
-        if isinstance(inner, dict) and (any(True for _ in _inside({key: inner})) or _named(inner, DESCRIPTOR_NAMES, options.descriptor_column)):
+        if isinstance(inner, dict) and any(True for _ in _inside({key: inner}, chosen)):
             found += _whole(inner, label, line, options, key)
+        elif own and (inner is None or isinstance(inner, dict)):
+            found += _items(inner or {}, label, line, options, key)
+        elif texts_count and isinstance(inner, str):
+            found.append(item_of(key, label, line, inner, kind or kind_of_name(key)))
     for key, inner in _pairs(value):
         if not isinstance(inner, dict):
             found += _beside(key, inner, len(found), label, line)
