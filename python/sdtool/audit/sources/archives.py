@@ -392,7 +392,7 @@ def members_of(head: bytes, stream: Any, label: str) -> Optional[Iterator[Union[
     """The files of an archive, or None if a stream is none."""
     if head.startswith((_LOCAL, _END)):
         return _guarded(_Zip(_Bytes(stream), label).members, label)
-    if _is_tar_head(head[:512]) or head[257:262] == b"ustar":  # the first head may be damaged
+    if _is_tar_head(head[:512]) or head[257:262] == b"ustar" and b"\0" in head[:100]:  # the first head may be damaged
         source = _Bytes(stream)
         return _guarded(lambda: _tar_members(source, label), label)
     return None

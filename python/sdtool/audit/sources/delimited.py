@@ -175,8 +175,9 @@ def _delimiter(sample: List[str]) -> str:
         if width < 2:
             continue
         whole = [row for row in rows if len(row) == width]
-        # A delimiter that stands in descriptors leaves parts of them.
-        described = sum(any(looks_like_descriptor(cell) and cell.count("(") == cell.count(")") for cell in row) for row in whole)
+        # A delimiter that stands in descriptors leaves parts of them, and another one leaves a name behind them.
+        described = sum(any(looks_like_descriptor(cell) and cell.count("(") == cell.count(")") and "\t" not in cell for cell in row)
+                        for row in whole)
         score = (described, len(whole))
         if score > best_score:
             best, best_score = delimiter, score
@@ -215,8 +216,18 @@ def _is_titles(row: List[str], options: SourceOptions) -> bool:
     words = [word.strip().lower() for word in (options.name_column, options.descriptor_column) if word and not word.isdigit()]
     if any(cell.strip().lower() in words for cell in row):
         return True
-    return all(cell.strip() for cell in row) and (bool(_named_columns(row, DESCRIPTOR_NAMES)) or
-                                                  bool(_named_columns(row, NAME_NAMES)) and len(row) > 1)
+    descriptors, names = _named_columns(row, DESCRIPTOR_NAMES), _named_columns(row, NAME_NAMES)
+    return bool(descriptors and names) or all(cell.strip() for cell in row) and bool(descriptors or names and len(row) > 1)
+
+
+def _titles_at(rows: List[List[str]], options: SourceOptions) -> int:
+    """Which of the first rows has the titles; -1 if none has. What stands before it has another number of fields."""
+    for at, row in enumerate(rows[:_SAMPLE_LINES]):
+        if _is_titles(row, options):
+            return at if all(len(one) != len(row) for one in rows[:at]) else -1
+        if any(map(looks_like_descriptor, row)):
+            break
+    return -1
 
 
 def _columns(rows: List[List[str]], header: Optional[List[str]], options: SourceOptions) -> Columns:
@@ -269,6 +280,9 @@ def _looks_delimited(look: Look) -> bool:
     if any(map(_TYPE_LINE.match, look.lines[:begin])):
         return True
     rows = _sample_rows(sample, _delimiter(sample))
+    if _usual_width(rows) == 1:
+        # One column under its title.
+        return bool(_named_columns(rows[0], DESCRIPTOR_NAMES)) and any(looks_like_descriptor(row[0]) for row in rows[1:])
     if _usual_width(rows) < 2 or looks_like_descriptor(sample[0]) and not _has_column_of_descriptors(rows):
         return False
     is_headed = bool(_named_columns(rows[0], DESCRIPTOR_NAMES)) and bool(_named_columns(rows[0], NAME_NAMES))
@@ -319,9 +333,10 @@ def layout_of(first: List[str], label: str, options: SourceOptions) -> Layout:
     delimiter = options.delimiter or (named[1] if named else _delimiter(sample))
     rows = _sample_rows(sample, delimiter, options.quotes) or [sample[:1] or [""]]
     is_typed = any(map(_TYPE_LINE.match, first[:skipped]))
-    has_header = options.has_header if options.has_header is not None else is_typed or _is_titles(rows[0], options)
-    header = rows[0] if has_header else None
-    columns = _columns(rows[1:] if has_header else rows, header, options)
+    titles = 0 if options.has_header or is_typed else _titles_at(rows, options) if options.has_header is None else -1
+    has_header = titles >= 0
+    header = rows[titles] if has_header else None
+    columns = _columns(rows[titles + 1:], header, options)
     heads = [row for line in first[:skipped] if line.strip() for row in _sample_rows([line], delimiter, options.quotes)]
     may_be = options.has_header is None and not has_header and not any(map(looks_like_descriptor, rows[0]))
     return Layout(label, columns, delimiter, options.quotes, options.kind, has_header, skipped,

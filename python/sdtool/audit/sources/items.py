@@ -83,12 +83,13 @@ def bytes_item(name: str, source: str, line: int, data: bytes, kind: str = "file
 def looks_like_descriptor(text: str) -> bool:
     """Whether a text is meant as a descriptor; the library says whether it is one."""
     text = text.strip()
-    return bool(_SDDL_DESCRIPTOR.match(text) or _HEX_DESCRIPTOR.match(text) or _SEPARATED_HEX.match(text)
+    return bool(_SDDL_DESCRIPTOR.match(text) or _SEPARATED_HEX.match(text)
+                or _HEX_DESCRIPTOR.match(text) and _has_offsets(bytes.fromhex(text[2:42] if text[1] in "xX" else text[:40]))
                 or _BASE64_DESCRIPTOR.match(text) and _has_offsets(base64.b64decode(text[:28].ljust(28, "="))))
 
 
 def _has_offsets(data: bytes) -> bool:
-    """Whether the head of a descriptor says where its parts are, which no word in base64 does."""
+    """Whether the head of a descriptor says where its parts are, which no word in base64 and no digest in hex does."""
     return len(data) >= 20 and all(not at or 20 <= at < _MOST_BYTES for at in struct.unpack_from("<4I", data, 4))
 
 

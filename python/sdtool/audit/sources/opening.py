@@ -198,7 +198,7 @@ def _decompressed(head: bytes, stream: io.BufferedReader) -> Optional[io.RawIOBa
     """The stream below one layer of compression, or None if there is none."""
     if head.startswith(b"\x1f\x8b"):
         return _Unpacked(stream, lambda: _Inflater(zlib.decompressobj(31)), (b"\x1f\x8b\x08",), True)
-    if head.startswith(b"BZh") and head[4:10] == b"1AY&SY":
+    if head.startswith(b"BZh") and head[4:10] == b"1AY&SY" and not head[:64].isascii():
         return _Unpacked(stream, _bzip2, (b"BZh",), False)
     if head.startswith((b"\xfd7zXZ\0", b"\x5d\0\0\x80\0")):
         return _Unpacked(stream, lambda: _Unpacker(lzma.LZMADecompressor()), (b"\xfd7zXZ\0", b"\x5d\0\0"), True)
@@ -345,26 +345,33 @@ def chunks(stream: io.BufferedReader, encoding: str) -> Iterator[str]:
 
 
 def whole_lines(texts: Iterator[str]) -> Iterator[str]:
-    """A text in parts that end with an LF, but for the last, as many lines together as were read at once. Of a line that is
-    too long, the first part, and words that say so."""
-    rest = ""
+    """A text in parts that end with an LF, but for the last, as many lines together as were read at once: a last line without an
+    LF comes with those before it. Of a line that is too long, the first part, and words that say so."""
+    ready = rest = ""
     is_dropping = False
-    for text in texts:
-        if is_dropping:
-            at = text.find("\n")
-            if at < 0:
-                continue
-            text, is_dropping = _TOO_LONG + text[at:], False
-        at = text.rfind("\n") + 1
-        if at:
-            yield rest + text[:at]
-            rest = text[at:]
-        else:
-            rest += text
-        if len(rest) > LONGEST_LINE:
-            rest, is_dropping = rest[:LONGEST_LINE], True
-    if rest:
-        yield rest + _TOO_LONG if is_dropping else rest
+    try:
+        for text in texts:
+            if is_dropping:
+                at = text.find("\n")
+                if at < 0:
+                    continue
+                text, is_dropping = _TOO_LONG + text[at:], False
+            at = text.rfind("\n") + 1
+            if at:
+                if ready:
+                    yield ready
+                ready, rest = rest + text[:at], text[at:]
+            else:
+                rest += text
+            if len(rest) > LONGEST_LINE:
+                rest, is_dropping = rest[:LONGEST_LINE], True
+    except READ_FAULTS:
+        if ready:
+            yield ready
+        raise
+    last = rest + _TOO_LONG if is_dropping else rest
+    if ready or last:
+        yield ready + last
 
 
 def blocks(texts: Iterator[str]) -> Iterator[List[str]]:

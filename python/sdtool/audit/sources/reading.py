@@ -21,6 +21,7 @@ _BY_NAME: Dict[str, Format] = {one.name: one for one in FORMATS}
 NAMES = tuple(name for name in _BY_NAME if name != unsupported.FORMAT.name) + ("tree",)
 _TEXTS = tuple(one for one in FORMATS if one.takes != "bytes")
 _DATABASE = b"SQLite format 3\0"
+_HIVE = b"regf"
 _UNPACK = "unpack it, and name its files"
 # How a stream begins that is no text, the reason why it isn't read, and what helps.
 _REFUSED = (
@@ -28,7 +29,7 @@ _REFUSED = (
     (b"7z\xbc\xaf\x27\x1c", "an archive of 7-Zip isn't read", _UNPACK), (b"Rar!\x1a\x07", "an archive of RAR isn't read", _UNPACK),
     (b"\x28\xb5\x2f\xfd", "what Zstandard compressed isn't read", _UNPACK), (b"MSCF\0\0\0\0", "a cabinet isn't read", _UNPACK),
     (b"PK\3\4", "the archive is inside of too many others", _UNPACK), (b"\x1f\x8b\x08", "it is compressed too many times", _UNPACK),
-    (b"regf", "a hive of the registry isn't read", "reg export KEY FILE writes what can be read"))
+    (_HIVE, "a hive of the registry isn't read", "reg export KEY FILE writes what can be read"))
 
 
 class Table(NamedTuple):
@@ -77,7 +78,8 @@ def _try(one: Format, look: Look, options: SourceOptions) -> _Trial:
 def _told(look: Look, options: SourceOptions) -> Format:
     """The format that reads most of what was looked at.
 
-    One that its first lines tell stays unless it meets what no rule of it explains, and another reads more than twice as much.
+    One that its first lines tell stays unless another reads most of the text and it none, or it meets what no rule of it explains
+    and another reads more than twice as much.
     """
     candidates = [(one, _try(one, look, options)) for one in _TEXTS if one.recognizes(look)]
     sure = [(one, trial) for one, trial in candidates if one.is_sure]
@@ -87,8 +89,9 @@ def _told(look: Look, options: SourceOptions) -> Format:
     if sure:
         first, of_first = max(sure, key=lambda pair: (pair[1].good, -pair[1].strange))
         # A first name may look like the first line of another format, which then reads none of what follows.
-        is_other = not of_first.good and trial.good > trial.unread
-        if not is_other and (not of_first.strange or 2 * of_first.good >= trial.good):
+        is_other = 2 * of_first.good < trial.good and of_first.strange if of_first.good else \
+            trial.good > trial.unread or of_first.strange and 2 * trial.good > trial.unread
+        if not is_other:
             return first
     return best
 
@@ -119,7 +122,8 @@ def _check_words(look: Look, label: str, options: SourceOptions) -> None:
 
 def _read_stream(stream: Stream, options: SourceOptions, tables: bool, is_first: bool,
                  accounts: List[Account]) -> Iterator[Any]:
-    refused = next((one for one in _REFUSED if stream.head.startswith(one[0])), None) if options.format is None else None
+    refused = next((one for one in _REFUSED if stream.head.startswith(one[0]) and (one[0] != _HIVE or b"\0" in stream.head[:32])), None) \
+        if options.format is None else None  # a first name may begin as a hive does
     if refused:
         yield unreadable(stream.label, stream.label, 0, *refused[1:])
         return
