@@ -18,6 +18,7 @@ import lzma
 import os
 import pathlib
 import random
+import re
 import struct
 import subprocess
 import sys
@@ -526,6 +527,13 @@ def test_titles(place: Place) -> None:
     place.answers("a blank line behind a type", f"#TYPE a.b\n\nPath,Sddl\na,{FR}\n", [("a", READ)])
     place.answers("a malformed line before titles", f'"x\nPath,Sddl\na,{FR}\nb,{FR}\n', [('"x', UNKNOWN), ("a", READ), ("b", READ)])
     place.answers("a title without a list", "Path,Sddl\n", [("source", UNKNOWN)])
+    place.answers("a line before titles", f"# of Monday\nPath,Sddl\na,{FR}\nb,{FR}\n", [("# of Monday", UNKNOWN), ("a", READ), ("b", READ)])
+    place.answers("titles with an empty one", f"Path,Sddl,\na,{FR},\nb,{FR},\n", [("a", READ), ("b", READ)])
+    place.answers("one column under its title", f'"Sddl"\n"{FR}"\n"{FR}"\n', [("source:2", READ), ("source:3", READ)])
+    for name in ("two\nlines", "\nlead", "a\n\nb"):
+        place.answers(f"one row, {name!r}, without a line end", f'"{name}","{FR}"', [(name, READ)])
+    for name in ("01" + "ab" * 19, "01" + "cd" * 31, "AQ" + "Ab" * 20):
+        place.answers(f"a name that is a digest, {name}", f"{name}\t{FR}\n", [(name, READ)])
     place.answers("a long name of letters", f"Adobe,AccessibilityAndCompatibility,{FR}\n", [("Adobe", READ)])
 
 
@@ -565,6 +573,20 @@ def test_others(place: Place) -> None:
                   f"channelAccess: {FR}\n", [("A", READ), ("source:4", UNKNOWN), ("B", READ)])
     place.answers("getfattr, one failed", f"# file: a\nsystem.ntfs_acl=0x{descriptor(1).hex()}\n\ngetfattr: b: Permission denied\n# file: c\n"
                   f"system.ntfs_acl=0x{descriptor(1).hex()}\n", [("a", READ), ("source:4", UNKNOWN), ("c", READ)])
+    failed = "[SC] OpenService FAILED 5:\n\nAccess is denied.\n\n"
+    found = place.read("".join(f"\n{sddl(at)}\n" for at in range(20)) + failed + "".join(f"\n{sddl(at)}\n" for at in range(20)))
+    place.expect((len(found.objects), len(found.unknown)), (40, 3), "sc of many services, one failed")
+    found = place.read(failed + "".join(f"\n{sddl(at)}\n" for at in range(20)))
+    place.expect((len(found.objects), len(found.unknown)), (20, 3), "sc of many services, the first failed")
+    place.answers("wevtutil, two descriptors of a log", f"name: A\nchannelAccess: {FR}\nchannelAccess: {FR}\nname: B\nenabled: true\nchannelAccess: {FR}\n",
+                  [("A", READ), ("source:3", UNKNOWN), ("B", READ)])
+    place.answers("getfattr, streams of Samba", f"# file: a\nsecurity.selinux=\"x\"\nsystem.ntfs_acl=0x{descriptor(1).hex()}\n"
+                  f"user.DosStream.Zone.Identifier:$DATA=0x00\n\n# file: b\nsystem.ntfs_acl=0x{descriptor(1).hex()}\n", [("a", READ), ("b", READ)])
+    place.answers("getfattr, a head that is damaged", f"? file: a\nuser.x=0x00\nsystem.ntfs_acl=0x{descriptor(1).hex()}\n\nxyz\n", [("source:1", UNKNOWN), ("source:5", UNKNOWN)],
+                  format="getfattr")
+    place.answers("smbcacls, a first line that is missing", _block() + _block(2).partition("\n")[2] + _block(3),
+                  [("source:1", READ), ("source:6", UNKNOWN), ("source:10", READ)])
+    place.answers("icacls, a line of blanks", "a\n  \nD:(A;;FR;;;WD)\nc\nD:(A;;FR;;;WD)\n", [("a", UNKNOWN), ("source:3", UNKNOWN), ("c", READ)])
     place.answers("secedit, a title that is misspelled", f'[Unicode]\nUnicode=yes\n[File Securty]\n"a",2,"{FR}"\n', [("a", UNKNOWN)])
     place.answers("secedit, a row in another section", f'[Version]\nRevision=1\n"a",2,"{FR}"\n[File Security]\n"b",2,"{FR}"\n',
                   [("a", UNKNOWN), ("b", READ)])
@@ -582,8 +604,31 @@ def test_others(place: Place) -> None:
         place.says(f"output of {what}", text, 1, word)
 
 
+def test_dumps(place: Place) -> None:
+    """What a dump of Samba lacks is never taken for an empty list, or for no owner."""
+    whole = of_ndr(1)[0].text
+    lines = whole.split("\n")
+    for at, line in enumerate(lines[:-2]):
+        cut = place.read("\n".join(lines[:at + 1]) + "\n", format="ndr")
+        place.count.add(not cut.objects and len(cut.unknown) == 1 or at == len(lines) - 3, f"a dump that ends with {line!r}: {cut}")
+        if re.search("_sid .*S-1|sacl|dacl|type|num_aces|mask|trustee|flags", line):
+            found = place.read(whole.replace(line + "\n", "", 1) + whole, format="ndr")
+            # The head of the list has no field of its own.
+            is_head = line.strip() == "dacl: struct security_acl" or line.strip().startswith(("type                     : SEC", "flags"))
+            place.count.add(len(found.unknown) == 1 and len(found.objects) == 1 or is_head, f"a dump without {line!r}: {found}")
+    place.says("a SID that is cut", whole.rstrip()[:-6], 1, "shorter", format="ndr")
+    place.says("a dump without its first line", whole.partition("\n")[2] + whole, 1, "first line", reads=1)
+    null = whole[:whole.index("dacl                     : *")] + "dacl                     : NULL\n"
+    place.answers("a dump without a list", null, [("source:1", READ)])
+
+
 def test_registry(place: Place) -> None:
     """Cut and open values of a registry export."""
+    place.says("a value twice in a key", f'{HEAD}[{KEY}]\n"Security"=hex:{hexed(7)}\n"security"=hex:{hexed(8)}\n[{KEY}2]\n"Security"=hex:{hexed(7)}\n',
+               2, "two values", reads=1)
+    place.says("a value before any key", f'{HEAD}"Security"=hex:{hexed(7)}\n', 1, "not there")
+    place.says("a line amid digits", f'{HEAD}[{KEY}]\n"Security"=hex:{hexed(7)[:60]}\\\nxyz\n  {hexed(7)[60:120]}\\\n  {hexed(7)[120:]}\n"SD"=hex:{hexed(7)}\n',
+               3, "goes on", reads=1)
     good = f'"Security"=hex:{hexed(7)}\n'
     place.answers("a cut value before a key", f'{HEAD}[{KEY}]\n"Security"=hex:{hexed(7)[:30]}\\\n[{KEY}2]\n{good}',
                   [(f"{KEY}\\Security", UNKNOWN), (f"{KEY}2\\Security", READ)])
@@ -664,6 +709,11 @@ def test_json(place: Place) -> None:
         place.says(f"{member} beside a list", json.dumps({"value": [one], member: "x"}), 1, member, reads=1)
     place.says("an empty list beside others", json.dumps({"value": [], "Count": 0}), 1, "no objects")
     place.says("an empty list", "[]", 1, "no objects")
+    place.says("children without a descriptor", json.dumps([{**one, "Children": [{"Path": "b", "Sddl": None}, {"Path": "c", "Sddl": ""}]}]), 2, "Children", reads=1)
+    place.says("children by a word", json.dumps([{"Path": "a", "R": FR, "Children": [{"Path": "b", "R": FR}]}]), 1, "Children", reads=1, descriptor_column="R")
+    place.answers("bytes in a list inside of others", json.dumps({"d": {"results": [{"Path": "a", "SD": list(descriptor(7))}]}}), [("a", READ)])
+    place.answers("names of objects, some denied", json.dumps({"a": {"Sddl": FR}, "b": {"Sddl": FR}, "c": {"error": "x"}, "d": None, "e": "denied"}),
+                  [("a", READ), ("b", READ), ("c", UNKNOWN), ("d", UNKNOWN), ("e", UNKNOWN)])
     place.says("children", json.dumps([{**one, "Children": [{"Path": "b", "Sddl": FR}]}]), 1, "Children", reads=1)
     place.says("a list that is cut", json.dumps({"value": [one, one]})[:-20], 1, "cut", reads=1)
     place.says("a map that is cut", json.dumps({"C:\\a": FR, "C:\\b": FR, "C:\\c": FR})[:-30], 1, "cut", reads=2)
@@ -826,10 +876,12 @@ def test_more(place: Place) -> None:
 def test_looks(place: Place) -> None:
     """A format is told by all that is looked at: a first name may look like another one."""
     for name in ("[2024] a.txt", "{8E2C}\\x", "REGEDIT4 x", "Windows Registry Editor notes", "#TYPE a", "dn: x", "# file: x", "name: x",
-                 "[Version]", "REVISION:1 a", "version: 1", "Acl", "sep=;"):
+                 "[Version]", "REVISION:1 a", "version: 1", "Acl", "sep=;", "regf", "BZh91AY&SY"):
         acl = f"D:AI(A;;FR;;;{DOMAIN}-1)"
         place.answers(f"icacls, a first name {name}", f"{name}\n{acl}\nb\n{acl}\nc\n{acl}\n", [(name, READ), ("b", READ), ("c", READ)])
         place.answers(f"a table, a first name {name}", f"{name}\t{FR}\nb\t{FR}\nc\t{FR}\n", [(name, READ), ("b", READ), ("c", READ)])
+    place.answers("hex and base64 beside SDDL", f"xyz\n{FR}\n{B64}\nD:(A;;FR;;;WD)\n{B64}\n", [("source:1", UNKNOWN), *((f"source:{at}", READ) for at in range(2, 6))])
+    place.answers("titles behind a descriptor", f"{FR}\tx,y\n", [("x,y", READ)])
     place.answers("an empty line before icacls", f"\na\n{FR}\nb\n{FR}\n", [("a", READ), ("b", READ)])
     place.answers("an empty line before a table", f"\na\t{FR}\nb\t{FR}\n", [("a", READ), ("b", READ)])
     place.answers("an empty line before lines", f"\n{FR}\n{FR}\n", [("source:1", UNKNOWN), ("source:2", READ), ("source:3", READ)])
@@ -1047,7 +1099,7 @@ def test_help(place: Place) -> None:
             place.count.add(f"\n| {' | '.join(cells)} |\n" in text, f"docs/AUDIT.md: the row of {one.name} isn't {cells}")
 
 
-TESTS = (test_whole, test_damage, test_damaged_bytes, test_volume, test_bytes, test_titles, test_twice, test_others, test_registry, test_archives, test_json, test_layouts, test_json_behind_damage,
+TESTS = (test_whole, test_damage, test_damaged_bytes, test_volume, test_bytes, test_titles, test_twice, test_others, test_dumps, test_registry, test_archives, test_json, test_layouts, test_json_behind_damage,
          test_ldif, test_more, test_looks, test_encodings, test_pipes, test_jobs, test_parts, test_help)
 
 
