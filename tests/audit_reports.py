@@ -653,6 +653,32 @@ def test_baselines(place: Place) -> None:
     place.write("many.csv.gz", gzip.compress((place.folder / many).read_bytes())[:6000])
     answers = {one["answer"] for one in place.objects("risks", "many.csv.gz", "--baseline", "many.jsonl")}
     place.expect(answers, {"known", "unknown"}, "a source that is cut, with a baseline")
+    same = place.table([("x", FOUND), ("x", FOUND), ("y", GOOD), ("x", GOOD)], "same.csv")
+    place.write("same.jsonl", place.ask("risks", same, "--to", "jsonl").stdout)
+    place.expect([one["answer"] for one in place.objects("risks", same, "--baseline", "same.jsonl")], ["known", "known", "nothing", "nothing"],
+                 "objects of one name, with a baseline")
+    less = place.table([("x", FOUND), ("y", GOOD)], "less.csv")
+    place.expect([one["answer"] for one in place.objects("risks", less, "--baseline", "same.jsonl")], ["known", "nothing", "mended"],
+                 "an object less of one name, with a baseline")
+
+
+def test_cut_lists(place: Place) -> None:
+    """What may be behind the cut of the other list is neither new nor gone, also where a format has no end."""
+    from audit_sources import MADE, packed
+    for name, made in MADE.items():
+        parts = made.make(6)
+        text = "".join(part.text for part in parts)
+        at = sum(len(part.text) for part in parts[:len(parts) // 2])
+        whole = place.write("whole", text)
+        cut = place.write("cut", text[:at + len(parts[len(parts) // 2].text) * 2 // 3])
+        for words, other in ((("diff", whole, cut), "gone"), (("diff", cut, whole), "added"))[:1 + (name in ("csv", "json"))]:
+            ended = place.ask(*words, "--to", "jsonl")
+            answers = [one["answer"] for one in ended.objects]
+            place.expect((ended.status, answers.count(other), "unknown" in answers), (3, 0, True), f"diff of a list that is cut, {name}: {ended}")
+    whole = packed([("a", f"a\t{GOOD}\n"), ("b", f"b\t{GOOD}\n")])
+    place.write("whole", whole)
+    place.write("cut", whole[:whole.index(b"PK\3\4", 4)])
+    place.expect({one["name"]: one["answer"] for one in place.objects("diff", "whole", "cut")}.get("b"), "unknown", "diff of an archive that is cut")
 
 
 def test_lost_objects(place: Place) -> None:
@@ -676,7 +702,7 @@ def test_lost_objects(place: Place) -> None:
 
 TESTS = (test_closed_streams, test_without_rich, test_words_come_first, test_files_named_twice, test_signals, test_databases,
          test_one_bad_source, test_comparing, test_groups, test_processes, test_severities, test_trusted, test_words, test_abilities, test_spreadsheet,
-         test_markdown, test_long_names, test_baselines, test_lost_objects)
+         test_markdown, test_long_names, test_baselines, test_cut_lists, test_lost_objects)
 
 
 if __name__ == "__main__":

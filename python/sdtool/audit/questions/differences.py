@@ -1,13 +1,13 @@
 """What changed between two lists of the same objects."""
 import collections
-from typing import Any, Callable, Counter, Dict, Iterable, Iterator, List, NamedTuple, Optional, Sequence, Tuple, Union
+from typing import Any, Callable, Dict, Iterable, Iterator, List, NamedTuple, Optional, Sequence, Tuple, Union
 
 from sdtool.audit.questions import names as sids
 from sdtool.audit.questions import rights
 from sdtool.audit.questions.answers import FLAGS, Ace, Descriptor, Refusal, answerable, converted, explained
 from sdtool.audit.reports.describing import ace_in_words
 from sdtool.audit.engine import NO_PLACES, Answered, Engine
-from sdtool.audit.questions.trees import is_rest, unnamed
+from sdtool.audit.questions.trees import Repeats, is_cut, is_rest, unnamed
 from sdtool.audit.reports.summing import ADDED, CHANGED, GONE, SAME
 from sdtool.audit.sources.items import HEX, SDDL, UNREADABLE, Item, unreadable
 from sdtool.audit.sources.opening import OpeningFault
@@ -66,10 +66,13 @@ class Differences:
 
     def _noted(self, table: str, items: Iterable[Item]) -> Iterator[Item]:
         """The objects of a list. What stands for its rest is noted."""
+        item = None
         for item in items:
             if is_rest(item):
                 self._cut.setdefault(table, item)
             yield item
+        if item is not None and is_cut(item):
+            self._cut.setdefault(table, item)
 
     def answered(self, engine: Engine) -> Iterator[Answered]:
         """Every object of both lists with its answer: those of the new list in its order, then those that are gone. What may
@@ -222,19 +225,11 @@ def _key(name: str, root: str) -> str:
 
 def _numbered(items: Iterable[Item], root: str) -> Iterator[Tuple[Any, ...]]:
     """Rows of objects; objects with the same key are told apart by their number."""
-    seen: Dict[int, int] = {}
-    repeated: Counter[str] = collections.Counter()
+    repeats = Repeats()
     for item in items:
-        # A hash stands for a key, so that keys need not be kept. Keys whose hashes are equal only get a higher number,
-        # in both lists alike if their order is alike.
         key = unnamed(item)
         key = _key(key, root) if key == item.name else key
-        mark = hash(key)
-        nth = seen.get(mark, 0)
-        if nth:
-            nth = repeated[key] = repeated[key] + 1
-        seen[mark] = 1
-        yield (*row_of(item), stored(key), nth)
+        yield (*row_of(item), stored(key), repeats.number_of(key))
 
 
 def _joined(scratch: Scratch, cut: Dict[str, Item]) -> Iterator[Item]:

@@ -5,7 +5,7 @@ from typing import Any, Dict, Iterable, Iterator, List, NamedTuple, Set, Tuple
 
 from sdtool.audit.engine import Answered
 from sdtool.audit.questions.asking import ACCEPTED, FOUND, UNKNOWN, Answer, Finding, unknown
-from sdtool.audit.questions.trees import is_rest, unnamed
+from sdtool.audit.questions.trees import Repeats, is_cut, is_rest, unnamed
 from sdtool.audit.reports.summing import CHANGED, KNOWN, MENDED, NEW
 from sdtool.audit.sources.items import SDDL, Item
 from sdtool.audit.sources.opening import OpeningFault
@@ -37,62 +37,66 @@ class Baseline:
 
     def __init__(self) -> None:
         self._scratch = Scratch()
-        self._scratch.database.execute("CREATE TABLE old(id INTEGER PRIMARY KEY, name, source, line, rule, who, trustee, rights, text, "
+        self._scratch.database.execute("CREATE TABLE old(id INTEGER PRIMARY KEY, name, nth, source, line, rule, who, trustee, rights, text, "
                                        "severity, seen INTEGER)")
         self._names: Set[int] = set()
         self.gone = 0
 
     def fill(self, answered: Iterable[Answered]) -> None:
         """Takes the answers of the baseline."""
-        self._scratch.database.executemany("INSERT INTO old VALUES (NULL, ?, ?, ?, ?, ?, ?, ?, ?, ?, 0)", self._rows(answered))
+        self._scratch.database.executemany("INSERT INTO old VALUES (NULL, ?, ?, ?, ?, ?, ?, ?, ?, ?, ?, 0)", self._rows(answered))
         self._scratch.database.execute("CREATE INDEX old_name ON old(name)")
 
     def _rows(self, answered: Iterable[Answered]) -> Iterator[Tuple[Any, ...]]:
+        repeats = Repeats()
         for item, answer in answered:
             key = unnamed(item)
+            nth = repeats.number_of(key)
             for finding in answer.findings:
                 if finding.counts or finding.accepted:
                     self._names.add(hash(key))
-                    yield (stored(key), stored(item.source), item.line, finding.rule, _who(finding.trustee), finding.trustee,
+                    yield (stored(key), nth, stored(item.source), item.line, finding.rule, _who(finding.trustee), finding.trustee,
                            finding.rights, stored(finding.text), finding.severity)
 
-    def _of(self, key: str) -> List[Tuple[_Old, str]]:
+    def _of(self, key: str, nth: int) -> List[Tuple[_Old, str]]:
         if hash(key) not in self._names:
             return []
-        rows = self._scratch.database.execute("SELECT id, rule, trustee, rights, text, severity, who FROM old WHERE name = ? AND seen = 0",
-                                              (stored(key),))
+        rows = self._scratch.database.execute("SELECT id, rule, trustee, rights, text, severity, who FROM old WHERE name = ? AND nth = ? "
+                                              "AND seen = 0", (stored(key), nth))
         return [(_Old(number, rule, trustee, rights, restored(text), severity), who)
                 for number, rule, trustee, rights, text, severity, who in rows.fetchall()]
 
     def compared(self, answered: Iterable[Answered]) -> Iterator[Answered]:
         """Each object with what is new about it, then the objects that came no more."""
-        is_cut = False
+        is_open, item = False, None
+        repeats = Repeats()
         for item, answer in answered:
-            is_cut = is_cut or is_rest(item)
-            yield Answered(item, self._answer(item, answer))
-        query = "SELECT name, source, line, rule, trustee, rights, text, severity FROM old WHERE seen = 0 ORDER BY id"
+            is_open = is_open or is_rest(item)
+            key = unnamed(item)
+            yield Answered(item, self._answer(self._of(key, repeats.number_of(key)), answer))
+        is_open = is_open or is_cut(item)
+        query = "SELECT name, nth, source, line, rule, trustee, rights, text, severity FROM old WHERE seen = 0 ORDER BY id"
         last: Dict[str, Any] = {}
-        for name, source, line, rule, trustee, rights, text, severity in self._scratch.select(query):
-            place = (restored(name), restored(source), line)
+        for name, nth, source, line, rule, trustee, rights, text, severity in self._scratch.select(query):
+            place = (restored(name), restored(source), line, nth)
             if last and last["place"] != place:
-                yield self._gone(last, is_cut)
+                yield self._gone(last, is_open)
                 last = {}
             last.setdefault("place", place)
             last.setdefault("findings", []).append(Finding(rule, trustee, rights, f"{MENDED}; {restored(text)}".rstrip("; "), False, "", severity))
         if last:
-            yield self._gone(last, is_cut)
+            yield self._gone(last, is_open)
 
-    def _gone(self, last: Dict[str, Any], is_cut: bool) -> Answered:
+    def _gone(self, last: Dict[str, Any], is_open: bool) -> Answered:
         self.gone += 1
-        name, source, line = last["place"]
+        name, source, line, _ = last["place"]
         item = Item(name, source, line, SDDL, "")
-        if is_cut:
+        if is_open:
             return Answered(item, unknown("the baseline has findings of it, and the source is cut before it", "export the objects again"))
         findings = [finding._replace(text=f"{finding.text}; the object is gone") for finding in last["findings"]]
         return Answered(item, Answer(MENDED, tuple(findings)))
 
-    def _answer(self, item: Item, answer: Answer) -> Answer:
-        old = self._of(unnamed(item))
+    def _answer(self, old: List[Tuple[_Old, str]], answer: Answer) -> Answer:
         if not old and not answer.findings:
             return answer
         left = dict(old)
