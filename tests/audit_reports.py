@@ -118,7 +118,7 @@ def test_words_come_first(place: Place) -> None:
         place.write(f"{name}.toml", entry + more)
     wrong = [["risks", "--accept", f"{name}.toml"] for name in ("time", "zone", "clock", "text", "trustee", "rights", "nothing")]
     wrong += [["risks", "--rules", "nonsense"], ["risks", "--domain", "bob"], ["risks", "--trusted", "bob"], ["risks", "--owner", "bob"],
-              ["risks", "--schema", "nothing"], ["risks", "--sid-names", "nothing"], ["risks", "--encoding", "nonsense"],
+              ["risks", "--schema", "nothing"], ["risks", "--sid-names", "nothing"], ["risks", "--encoding", "nonsense"], ["risks", "--encoding", "hex"],
               ["risks", "--delimiter", "ab"], ["risks", "--out", "nowhere/x"], ["risks", "--into", "nowhere/x"], ["risks", "--most", "-1"],
               ["risks", "--most", "5", "--to", "csv"], ["risks", "--baseline", "nothing"], ["risks", "--min-severity", "grave"],
               ["risks", "--fail-on", "note"], ["risks", "--spreadsheet"], ["risks", "--spreadsheet", "--to", "html"],

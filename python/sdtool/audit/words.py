@@ -121,9 +121,11 @@ def _common(given: Dict[str, Any]) -> Common:
     encoding = given.pop("encoding")
     if encoding:
         try:
-            codecs.getincrementaldecoder(encoding)("strict").decode(b"")
-        except (LookupError, TypeError) as error:
+            is_text = isinstance(codecs.getincrementaldecoder(encoding)("strict").decode(b""), str)
+        except Exception as error:  # each codec has faults of its own
             raise OpeningFault(f"--encoding: {encoding!r} is no encoding of text") from error
+        if not is_text:
+            raise OpeningFault(f"--encoding: {encoding!r} is no encoding of text")
     sid_names = given.pop("sid_names")
     object_names = given.pop("object_names")
     options = SourceOptions(
