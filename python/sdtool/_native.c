@@ -178,6 +178,21 @@ static void keep(PyObject **place, PyObject *object)
     Py_XDECREF(other);
 }
 
+/* Keeps an object where none is kept yet, and says whether it did. */
+static PyObject *keep_once(PyObject **place, PyObject *object)
+{
+    if (*place != NULL)
+        return counted(Py_False);
+    keep(place, object);
+    return counted(Py_True);
+}
+
+/* What is kept, or None. */
+static PyObject *kept_or_none(PyObject *object)
+{
+    return counted(object == NULL ? Py_None : object);
+}
+
 /* An object that holds the bytes of a descriptor, and what was found in them. Only lay() and parts() set these. */
 struct layout {
     PyObject_HEAD
@@ -386,6 +401,19 @@ static PyObject *tuple_of(PyObject *type, PyObject **items, Py_ssize_t count)
     return tuple;
 }
 
+/* A tuple of the items that were made, if no error ended that. It takes over the items and the memory that they are in. */
+static PyObject *tuple_of_made(PyObject **items, Py_ssize_t made)
+{
+    PyObject *tuple = NULL;
+    if (!PyErr_Occurred())
+        tuple = tuple_of(NULL, items, made);
+    else
+        while (made > 0)
+            Py_DECREF(items[--made]);
+    free(items);
+    return tuple;
+}
+
 /* Keeps an item of a tuple to make; says whether it is there. */
 static bool put(PyObject **place, PyObject *item)
 {
@@ -430,30 +458,21 @@ static bool is_of(PyObject *object, PyObject *type)
 static PyObject *lay(PyObject *module, PyObject *const *given, Py_ssize_t count)
 {
     struct state *state = state_for(module, count, 2);
-    struct layout *layout;
     if (state == NULL || !is_of(given[0], state->layout_type))
         return NULL;
     if (!PyBytes_CheckExact(given[1])) {
         PyErr_SetString(PyExc_SystemError, "no bytes of the door");
         return NULL;
     }
-    layout = (struct layout *)given[0];
-    if (layout->data != NULL)
-        return counted(Py_False);
-    keep(&layout->data, given[1]);
-    return counted(Py_True);
+    return keep_once(&((struct layout *)given[0])->data, given[1]);
 }
 
 static PyObject *layout(PyObject *module, PyObject *descriptor)
 {
     struct state *state = state_of(module);
-    PyObject *data;
     if (state == NULL || !is_of(descriptor, state->layout_type))
         return NULL;
-    data = ((struct layout *)descriptor)->data;
-    if (data == NULL)
-        return counted(Py_None);
-    return counted(data);
+    return kept_or_none(((struct layout *)descriptor)->data);
 }
 
 static PyObject *version(PyObject *module, PyObject *nothing)
@@ -962,26 +981,17 @@ static PyType_Spec ASKING = {"sdtool._native.Asking", sizeof(struct asking), 0, 
 static PyObject *ask(PyObject *module, PyObject *const *given, Py_ssize_t count)
 {
     struct state *state = state_for(module, count, 2);
-    struct asking *asking;
     if (state == NULL || !is_of(given[0], state->asking_type) || PyCapsule_GetPointer(given[1], QUESTION) == NULL)
         return NULL;
-    asking = (struct asking *)given[0];
-    if (asking->question != NULL)
-        return counted(Py_False);
-    keep(&asking->question, given[1]);
-    return counted(Py_True);
+    return keep_once(&((struct asking *)given[0])->question, given[1]);
 }
 
 static PyObject *asked(PyObject *module, PyObject *checker)
 {
     struct state *state = state_of(module);
-    PyObject *question;
     if (state == NULL || !is_of(checker, state->asking_type))
         return NULL;
-    question = ((struct asking *)checker)->question;
-    if (question == NULL)
-        return counted(Py_None);
-    return counted(question);
+    return kept_or_none(((struct asking *)checker)->question);
 }
 
 /* Descriptors, each read when it is taken. */
@@ -1181,18 +1191,10 @@ static Py_ssize_t read_aces(struct state *state, const struct view *acl, PyObjec
 /* The ACEs of an ACL that has so many, as a tuple. */
 static PyObject *aces_of(struct state *state, const struct view *acl, Py_ssize_t count)
 {
-    PyObject **aces = calloc((size_t)count + 1, sizeof *aces), *tuple = NULL;
-    Py_ssize_t seen;
+    PyObject **aces = calloc((size_t)count + 1, sizeof *aces);
     if (aces == NULL)
         return PyErr_NoMemory();
-    seen = read_aces(state, acl, aces, count);
-    if (!PyErr_Occurred())
-        tuple = tuple_of(NULL, aces, seen);
-    else
-        while (seen > 0)
-            Py_DECREF(aces[--seen]);
-    free(aces);
-    return tuple;
+    return tuple_of_made(aces, read_aces(state, acl, aces, count));
 }
 
 /* An ACL. Of a list in a descriptor it keeps where it lies, and makes its ACEs when they are asked for. */
@@ -1580,18 +1582,11 @@ static Py_ssize_t plain_walk(const struct plain *plain, const struct source *acl
 static PyObject *make_aces(const struct plain *plain, const struct source *source)
 {
     const uint32_t *number_of_aces = source->found;
-    Py_ssize_t count = (Py_ssize_t)*number_of_aces, seen;
-    PyObject **aces = calloc((size_t)count + 1, sizeof *aces), *tuple = NULL;
+    Py_ssize_t count = (Py_ssize_t)*number_of_aces;
+    PyObject **aces = calloc((size_t)count + 1, sizeof *aces);
     if (aces == NULL)
         return PyErr_NoMemory();
-    seen = plain_walk(plain, source, aces, count);
-    if (!PyErr_Occurred())
-        tuple = tuple_of(NULL, aces, seen);
-    else
-        while (seen > 0)
-            Py_DECREF(aces[--seen]);
-    free(aces);
-    return tuple;
+    return tuple_of_made(aces, plain_walk(plain, source, aces, count));
 }
 
 static PyObject *plain_acl(const struct plain *plain, const uint8_t *bytes, const struct sdtool_acl_place *acl)
