@@ -1390,6 +1390,7 @@ TESTS = (test_sources, test_damaged_registry, test_kinds, test_tables, test_driv
 
 def run_tests(tests: Sequence[Callable[[Place], None]]) -> int:
     """Runs tests, or those with a word of the command line in their names, each in a folder of its own. Gives the exit status."""
+    preload.let_signals_come()
     count = preload.Count()
     python = python_with_packages()
     if not python:

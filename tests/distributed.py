@@ -915,8 +915,7 @@ def main():
     parser.add_argument("--only", default="", help="tests whose names have this word")
     wanted = parser.parse_args()
     count = preload.Count()
-    # A shell that starts this in the background has SIGINT ignored, and so would every run that is to be interrupted.
-    signal.signal(signal.SIGINT, signal.default_int_handler)
+    preload.let_signals_come()
     with tempfile.TemporaryDirectory(ignore_cleanup_errors=True) as folder:
         python = dask_cluster.python_with_dask(folder)
         if python is None:

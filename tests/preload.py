@@ -1,7 +1,8 @@
-"""Small libraries in C that tests preload under the program, and the count of what was judged."""
+"""What tests share: small libraries in C that they preload under the program, signals, and the count of what was judged."""
 import os
 import pathlib
 import shutil
+import signal
 import subprocess
 from typing import NamedTuple
 
@@ -33,6 +34,16 @@ class Event(NamedTuple):
 def events_in(file):
     file.seek(0)
     return [Event(line[0], int(line[1:])) for line in file.read().decode().splitlines()]
+
+
+def let_signals_come():
+    """
+    A shell that starts a test in the background has SIGINT ignored, and nohup SIGHUP. Each process that the test starts and
+    then interrupts would ignore them too. A handler that does nothing is not handed on.
+    """
+    for number in signal.SIGINT, signal.SIGHUP:
+        if signal.getsignal(number) == signal.SIG_IGN:
+            signal.signal(number, lambda *_: None)
 
 
 class Count:
