@@ -603,6 +603,9 @@ OF_ACES = [
     ("(A;;FA;;;WD)(A;;FA;;;W)", 25, (None, None, "sid", 21, 1), "at byte 21, SID"),
     ("(A;;FA;;;WD)S:(AU;;FA;;;W)", 25, ("sacl", 0, "sid", 24, 1), "at byte 24, ACE 1 of the SACL, SID"),
     ("(A;;FA;;;WD)D:", 21, ("dacl", None, None, 12, 2), "at byte 12, the DACL"),
+    ("(A;;FA;;;WD)d:(XA;;FA;;;WD)", 21, ("dacl", None, None, 12, 2), "at byte 12, the DACL"),
+    ("(D:;;FA;;;WD)", 29, (None, None, "kind", 1, 2), "at byte 1, kind"),
+    ("(A;;FA;;;d:)", 25, (None, None, "sid", 9, 2), "at byte 9, SID"),
 ]
 # Texts that are no SID.
 OF_SIDS = [("ZZ", 22), ("LA", 23), ("S-1-5-4294967296", 24), ("", 25), (" BA", 25), ("\u6f22\U0001f600", 25), ("\ud800", 25)]

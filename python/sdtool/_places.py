@@ -86,7 +86,7 @@ class InText:
             return NOWHERE
         place, front = _place_of(found), len(HEAD_OF_ACE) if self._is_ace else 0
         given, offset = self._text[front:], place.offset - front
-        is_head = given[offset:offset + place.size].decode("latin-1").upper() == HEAD_OF_ACE  # and not the one in front
+        is_head = place.field is None and given[offset:offset + place.size].upper() == HEAD_OF_ACE.encode()  # which was given
         if front and place.part == "dacl" and not is_head:
             place = place._replace(part=None, ace=None)
         first, end = _characters(given[:offset]), _characters(given[:offset + place.size])
