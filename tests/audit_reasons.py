@@ -171,6 +171,8 @@ OF_TEXTS = [
     ("D:(OA;;CC;{x};;WD)", "(error 28 guid), at byte 10, ACE 1 of the DACL, object type"),
     ("D:(XA;;FR;;;WD)", "(error 29 kind), at byte 3, ACE 1 of the DACL, kind"),
     ("D:" + "(A;;;;;WD)" * 3277, "(error 30 acl-too-large dacl), at byte 32762, ACE 3277 of the DACL"),
+    (" \t D:(A;;FA;;;BA)(A;;ZZ;;;WD)", "(error 27 rights), at byte 21, ACE 2 of the DACL, rights"),
+    ("  D:(A;;FA;;;BA  ", "(error 20 shape), at byte 17, ACE 1 of the DACL, SID"),
 ]
 
 

@@ -100,7 +100,7 @@ def _cut(text: str) -> str:
 def item_of(name: str, source: str, line: int, text: str, kind: str = "file",
             is_folder: Optional[bool] = None) -> Item:
     """An object whose descriptor is spelled by a text in any form."""
-    text = text.strip(" \t\r\n")
+    spelled, text = text, text.strip(" \t\r\n")
     if not text:
         return unreadable(name, source, line, "there is no descriptor", "export the object again, with its permissions", kind)
     if "\n" in text:
@@ -116,6 +116,9 @@ def item_of(name: str, source: str, line: int, text: str, kind: str = "file",
         else:
             return unreadable(name, source, line, f"{_cut(text)!r} is no descriptor", _NO_DESCRIPTOR, kind)
     if form == SDDL:
+        # Blanks are part of SDDL, and the place of a fault counts them.
+        front, _, behind = spelled.partition(text)
+        text = re.split("[\r\n]", front)[-1] + text + re.split("[\r\n]", behind)[0]
         return Item(name, source, line, form, text, kind, "", is_folder)
     try:
         data = bytes.fromhex(text) if form == HEX else base64.b64decode(text, validate=True)
