@@ -461,9 +461,11 @@ def test_can(place: Place) -> None:
                  {"all": ("found", ("can", "", full)), "some": ("found", ("can", "", "write data")),
                   "stopped": ("found", ("can", "", full)), "high": ("found", ("can", "", full)), "owned": ("nothing",),
                   "not mine": ("nothing",)}, "can, some of the rights")
-    place.expect(place.told("can", "BU,!BG", "write", source)["stopped"], ("nothing",), "can, a deny-only SID")
+    place.expect(place.told("can", "BU,!BG", "write", source)["stopped"], ("nothing", ("stopped", "", "Write")),
+                 "can, a deny-only SID")
     place.expect(place.told("can", "!BU", "write", source)["all"], ("nothing",), "can, deny-only alone")
-    place.expect(place.told("can", "BU", "write", source, "--level", "8192")["high"], ("nothing",), "can, a level")
+    place.expect(place.told("can", "BU", "write", source, "--level", "8192")["high"], ("nothing", ("stopped", "", "Write")),
+                 "can, a level")
     place.expect(place.told("can", "BU", "permissions", source)["owned"], ("found", ("can", "", "change permissions")),
                  "can, an owner")
     place.expect([one["answer"] for one in place.objects("can", "BU", "0x1000000", source)], ["nothing"] * 6, "can, the SACL")

@@ -40,6 +40,7 @@ class Row:
                      for _ in range(chance.randrange(7))]
         dacl = chance.choice(["", "D:NO_ACCESS_CONTROL", *["D:" + "".join(self.aces)] * 10])
         label = chance.choice(["", f"S:(ML;;NW;;;S-1-16-{chance.choice((4096, 12288))})"])
+        self.has_label = bool(label)
         self.text = f"O:{chance.choice(SIDS[:4])}{dacl}{label}"
         self.descriptor = from_sddl(self.text.encode(), None)
 
@@ -71,9 +72,13 @@ def test_random(place: Place) -> None:
         place.expect(len(told), OBJECTS, f"objects of {token} {asked:#x}")
         for row, one in zip(rows, told):
             decided = row.decided(token, level, asked)
-            if one["answer"] == "unknown" or not any(grants for _, _, grants in decided):
+            is_granted = any(grants for _, _, grants in decided)
+            if one["answer"] == "unknown" or not is_granted and not row.has_label and all(number is None for number, _, _ in decided):
                 place.expect(one["findings"], [], f"{row.text}: nothing is granted to {token} of {asked:#x}")
                 continue
+            rule = "can" if is_granted else "stopped"
+            place.expect((one["answer"], {finding["rule"] for finding in one["findings"]}),
+                         ("found" if is_granted else "nothing", {rule} if decided else set()), f"{row.text}: {token} {asked:#x}")
             got = [why for finding in one["findings"] for why in because(finding)]
             place.expect(sorted((number or 0, text, grants) for number, text, _, grants in got),
                          sorted((number or 0, text, grants) for number, text, grants in decided), f"{row.text}: {token} {level} {asked:#x}")

@@ -470,9 +470,14 @@ def _refused(descriptor: Union[Descriptor, Refusal], kind: str, mask: int) -> Op
 _MEDIUM = 8192
 
 
+def _labels(descriptor: Descriptor) -> List[str]:
+    """The SIDs of ACEs that are labels, of which the first counts."""
+    return [ace.sid for ace in descriptor.sacl_aces if ace.kind == "ML" and ace.counts and re.fullmatch(r"S-1-16-[0-9]+", ace.sid)]
+
+
 def _level_of(descriptor: Descriptor) -> int:
-    """The integrity level of an object: that of its first label, or medium."""
-    labels = [ace.sid for ace in descriptor.sacl_aces if ace.kind == "ML" and ace.counts and re.fullmatch(r"S-1-16-[0-9]+", ace.sid)]
+    """The integrity level of an object: that of its label, or medium."""
+    labels = _labels(descriptor)
     return int(labels[0].rpartition("-")[2]) if labels else _MEDIUM
 
 
@@ -496,7 +501,8 @@ class Can:
 
     asks_places = "owners"
 
-    rules = (Rule("can", "the token gets one of the rights"),)
+    rules = (Rule("can", "the token gets one of the rights"),
+             Rule("stopped", "the token gets none of them, and an ACE of the object denies it some"))
 
     def __init__(self, common: Question, token: Token, wanted: rights.Wanted) -> None:
         self._common, self._token, self._wanted = common, token, wanted
@@ -538,8 +544,12 @@ class Can:
         text = f"not: {rights.short_text(missing, kind)}" if missing else "all that was asked for"
         if descriptor.dacl != "list" and got.mask:
             text += f"; the DACL is {descriptor.dacl}, so everybody gets everything"
+        denied = checks.because(at, self._token, missing, descriptor.aces, "", False)
         for part in parts_of(got, kind, text, checks.mask(at, self._token), mask):
             yield Finding("can", "", part.words, part.text, mask=part.mask,
                           mark=mark_of(descriptor, self._token.sids, part.mask, kind, part.types),
                           because=checks.because(at, self._token, part.mask, descriptor.aces, part.object_type)
-                          + (checks.because(at, self._token, missing, descriptor.aces, "", False) if not part.object_type else ()))
+                          + (denied if not part.object_type else ()))
+        # The label that every object has without one of its own stops no object in particular.
+        if not got.all and (any(one.number for one in denied) or denied and _labels(descriptor)):
+            yield Finding("stopped", "", ", ".join(dict.fromkeys(one.rights for one in denied)), "", False, because=denied)
