@@ -1279,7 +1279,7 @@ DELEGATED = (
     ("CN=Domain Admins,CN=Users,", f"(OA;;WP;{MEMBERS};;@)", "add-member"),
     ("CN=krbtgt,CN=Users,", f"(OA;;WP;{SPN};;@)", "write-spn"),
     ("CN=Administrator,CN=Users,", f"(OA;;WP;{KEY};;@)", "key-credential"),
-    ("CN=Infrastructure,", f"(A;;WD;;;@)", "takeover"),
+    ("CN=Infrastructure,", "(A;;WD;;;@)", "takeover"),
     ("", f"(OA;;CR;{CHANGES[0]};;@)(OA;;CR;{CHANGES[1]};;@)", "dcsync"),
     ("CN=Computers,", "(OA;;CC;bf967a86-0de6-11d0-a285-00aa003049e2;;@)", "create-children"),
     ("CN={31B2F340-016D-11D2-945F-00C04FB984F9},CN=Policies,CN=System,", "(A;CI;WP;;;@)", "write-properties"),
