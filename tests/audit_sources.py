@@ -853,6 +853,12 @@ def test_ldif(place: Place) -> None:
     dumped = "\n".join("" + line for line in of_ndr(1)[0].text.replace("    security_descriptor:", "    NDR:").strip("\n").split("\n"))
     place.answers("ldbsearch --show-binary", f"# record 1\ndn: CN=a\nnTSecurityDescriptor: {dumped}\n\n# record 2\ndn: CN=b\n"
                   f"nTSecurityDescriptor: {dumped}\n\n# returned 2 records\n# 2 entries\n# 0 referrals\n", both)
+    more = dumped.replace("NDR: struct security_descriptor", "SDDL: struct security_descriptor")
+    place.answers("attributes behind the blank line of a dump", f"# record 1\ndn: CN=a\ndefaultSecurityDescriptor: {more}\n\ndnsRecord:     NDR: struct "
+                  f"dnsp_DnssrvRpcRecord\n        wDataLength : 0x0004 (4)\n\nnTSecurityDescriptor: {dumped}\n\ncn: a\n\n# record 2\ndn: CN=b\n"
+                  f"nTSecurityDescriptor: {dumped}\n\n\n# Referral\nref: ldap://example/DC=x\n\n# returned 3 records\n# 2 entries\n# 1 referrals\n", both)
+    place.answers("an entry without its name behind a dump", f"dn: CN=a\nnTSecurityDescriptor: {dumped}\n\n\nnTSecurityDescriptor: {dumped}\n",
+                  [("CN=a", READ), (f"line {dumped.count(chr(10)) + 5}", UNKNOWN)])
     place.answers("a dump that is cut", f"# record 1\ndn: CN=a\nnTSecurityDescriptor: {dumped[:-200]}\n\n# returned 1 records\n# 1 entries\n", [("CN=a", UNKNOWN)])
 
 

@@ -27,6 +27,7 @@ _NUMBERED = re.compile(r"# (numResponses|numEntries|numReferences|numPartial|num
 _RETURNED = re.compile(r"# returned ([0-9]+) records\s*\Z")
 _FIRST_RECORD = re.compile(r"# record [0-9]+\s*\Z")
 _ENTRIES = re.compile(r"# ([0-9]+) (entries|referrals)\s*\Z")
+_DUMP = re.compile(r"(?:[A-Za-z0-9][\w;.-]*:)? +(?:NDR|SDDL): struct \w+\s*\Z")
 
 
 class Entry(NamedTuple):
@@ -172,10 +173,21 @@ def _read_blocks(source: Lines) -> Iterator[_Read]:
     begin = 1
     is_comment = False
     has_record = False
+    is_dumped = False  # whether the last value is a dump of ldbsearch --show-binary, behind which is a blank line of its own
+    blank = 0          # that line, if no other came since
 
     def ended(end: int) -> Iterator[_Read]:
+        nonlocal is_dumped, blank
+        behind, is_dumped, blank = blank, False, 0
         if not lines:
             return
+        if behind:
+            yield from parted(behind)
+            yield behind, behind + 1, _BLANK, False
+        else:
+            yield from parted(end)
+
+    def parted(end: int) -> Iterator[_Read]:
         block = _Block(begin, end, list(lines))
         lines.clear()
         unfolded = _unfolded(block.lines)
@@ -192,7 +204,12 @@ def _read_blocks(source: Lines) -> Iterator[_Read]:
     number = 0
     for number, line in enumerate(source, 1):
         is_fold = line.startswith(" ")
-        if not line or line == " " * len(line) and (not lines or not _is_dump(lines[-1], line)):
+        if blank and (_NAME.match(line) or _CONTROL.match(line) or not _ATTRIBUTE.fullmatch(line)):
+            yield from ended(number)  # the entry doesn't go on behind its dump
+        blank = 0
+        if not line and is_dumped:
+            blank, is_dumped = number, False
+        elif not line or line == " " * len(line) and (not lines or not _is_dump(lines[-1], line)):
             yield from ended(number)
             yield number, number + 1, _BLANK, False
             is_comment = False
@@ -222,6 +239,7 @@ def _read_blocks(source: Lines) -> Iterator[_Read]:
                 yield from ended(number)  # no blank line parts it from the entry before
             if not lines:
                 begin = number
+            is_dumped = bool(_DUMP.match(line)) or is_dumped and is_fold
             lines.append(line)
     yield from ended(number + 1)
     if search.cookie:
