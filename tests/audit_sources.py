@@ -862,6 +862,25 @@ def test_ldif(place: Place) -> None:
     place.answers("a dump that is cut", f"# record 1\ndn: CN=a\nnTSecurityDescriptor: {dumped[:-200]}\n\n# returned 1 records\n# 1 entries\n", [("CN=a", UNKNOWN)])
 
 
+def test_spellings(place: Place) -> None:
+    """What other programs write of the same formats."""
+    both = [("a", READ), ("b", READ)]
+    place.answers("lines that end with CR", f"a\t{FR}\rb\t{FR}\r", both)
+    place.answers("a table whose lines end with CR", f"Path,Sddl\ra,{FR}\rb,{FR}", both)
+    place.answers("names and ACLs that end with CR", "a\rD:(A;;FR;;;WD)\rb\rD:(A;;FR;;;WD)\r".encode("utf-16-le"), both)
+    place.answers("a CR in quotation marks", f'"a\rb",{FR}\r\n"c",{FR}', [("a\rb", READ), ("c", READ)])
+    place.answers("blanks around the commas of a template", f'[File Security]\n"a" , 2 , "{FR}"\n"b",2,"{FR}"\n"c,2,"{FR}"\n',
+                  [*both, (f'"c,2,"{FR}"', UNKNOWN)])
+    place.answers("a text of JSON", f'"{FR}"', [("source:1", READ)])
+    place.answers("texts of JSON in lines", f'"{FR}"\nnull\n"{FR}"\n', [("source:1", READ), ("source:2", UNKNOWN), ("source:3", READ)])
+    place.answers("a column in quotation marks below its title", f'"Sddl"\n"{FR}"\n', [("source:2", READ)])
+    place.answers("a map with its count", f'{{"a":"{FR}","b":"{FR}","Count":2}}', both)
+    place.says("a map with a higher count", f'{{"a":"{FR}","b":"{FR}","Count":3}}', 1, "Count says 3", reads=2)
+    place.answers("a path without an object in a map", f'{{"C:\\\\a":{{"Sddl":"{FR}"}},"C:\\\\b":"Access is denied"}}', [("C:\\a", READ), ("C:\\b", UNKNOWN)])
+    # getfattr -e text leaves out a NUL at the end.
+    place.says("an attribute as text", '# file: a\nsystem.ntfs_acl="\\001"\n', 1, "use getfattr -e hex")
+
+
 def test_more(place: Place) -> None:
     """Kin of the rows above."""
     rows = "".join(f"secret {at}\t\n" for at in range(100))
@@ -1106,7 +1125,7 @@ def test_help(place: Place) -> None:
 
 
 TESTS = (test_whole, test_damage, test_damaged_bytes, test_volume, test_bytes, test_titles, test_twice, test_others, test_dumps, test_registry, test_archives, test_json, test_layouts, test_json_behind_damage,
-         test_ldif, test_more, test_looks, test_encodings, test_pipes, test_jobs, test_parts, test_help)
+         test_ldif, test_spellings, test_more, test_looks, test_encodings, test_pipes, test_jobs, test_parts, test_help)
 
 
 def main() -> int:

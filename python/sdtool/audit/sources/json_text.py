@@ -22,6 +22,7 @@ _MOST_NAMED = 1 << 20  # characters of a damaged element in which its name is lo
 _MOST_WAITING = 1_000  # members of an object until it is taken as a map
 _COUNTS = ("count", "@odata.count", "total", "totalcount")
 _STATES = {"before", "after", "old", "new"}  # members with two states of one object
+_PATH = re.compile(r"[\\/]|=.*,")
 _MORE = ("error", "errors", "@odata.nextlink", "odata.nextlink", "nextlink", "next")
 
 
@@ -285,8 +286,13 @@ def _items(value: Any, label: str, line: int, options: SourceOptions, place: str
     return found
 
 
+def _is_count(key: str, value: Any) -> bool:
+    return key.lower() in _COUNTS and type(value) is int
+
+
 def _is_map(pairs: List[Tuple[str, Any]]) -> bool:
-    """Whether members are names with descriptors, and not those of one object."""
+    """Whether members are names with descriptors, and not those of one object. Their count may be beside them."""
+    pairs = [pair for pair in pairs if not _is_count(*pair)]
     texts = [text for _, text in pairs if text is not None]
     if not all(isinstance(text, str) for text in texts) or not any(map(looks_like_descriptor, texts)):
         return False
@@ -304,12 +310,15 @@ def _pairs(value: Dict[str, Any]) -> List[Tuple[str, Any]]:
 def _map_items(value: Dict[str, Any], label: str, line: int, options: SourceOptions) -> List[Item]:
     """The objects of a map from names to descriptors."""
     twice = _twice(value)
-    found = []
+    found: List[Item] = []
     for name, text in _pairs(value):
+        if _is_count(name, text):
+            continue
         kind = options.kind or kind_of_name(name)
         found.append(unreadable(name, label, line, f"the name {name} is there twice", _AGAIN, kind) if name in twice else
                      item_of(name, label, line, text or "", kind))
-    return found
+    counts = [item for name, text in _pairs(value) if _is_count(name, text) for item in _beside(name, text, len(found), label, line)]
+    return found + counts
 
 
 def _whole(value: Any, label: str, line: int, options: SourceOptions, place: str = "") -> List[Item]:
@@ -333,14 +342,15 @@ def _items_of_members(value: Dict[str, Any], label: str, line: int, options: Sou
     found: List[Item] = []
     chosen, kind = options.descriptor_column, options.kind
     own = sum(isinstance(inner, dict) and bool(_named(inner, DESCRIPTOR_NAMES, chosen)) for _, inner in _pairs(value))
-    # A few texts among objects say why an object has no descriptor; others say something of the whole.
+    # A few texts among objects say why an object has no descriptor, and so does one whose name is a path; others say something
+    # of the whole.
     texts_count = sum(isinstance(inner, str) for _, inner in _pairs(value)) < own
     for key, inner in _pairs(value):
         if isinstance(inner, dict) and any(True for _ in _inside({key: inner}, chosen)):
             found += _whole(inner, label, line, options, key)
         elif own and (inner is None or isinstance(inner, dict)):
             found += _items(inner or {}, label, line, options, key)
-        elif texts_count and isinstance(inner, str):
+        elif isinstance(inner, str) and (texts_count or own and _PATH.search(key)):
             found.append(item_of(key, label, line, inner, kind or kind_of_name(key)))
     for key, inner in _pairs(value):
         if not isinstance(inner, dict):
@@ -379,7 +389,7 @@ def _items_around(value: Dict[str, Any], label: str, line: int, options: SourceO
 def _beside(key: str, value: Any, elements: int, label: str, line: int) -> List[Item]:
     """What a member beside a list says is missing."""
     rest = f"{label}: the rest, after {elements} objects"
-    if key.lower() in _COUNTS and type(value) is int and value > elements:
+    if _is_count(key, value) and value > elements:
         return [unreadable(rest, label, line, f"{key} says {value:,} elements, and {elements:,} came", _AGAIN)]
     if key.lower() in _MORE and value:
         return [unreadable(rest, label, line, f"the source isn't whole: it has a member {key}", _AGAIN)]
@@ -505,6 +515,7 @@ class _Around:
         self._is_map = self._is_map or not has_list and _is_map([(one.key, one.value) for one in self._waiting])
         found = {one.begin: item_of(one.key, self._label, one.line, one.value or "", self._options.kind or kind_of_name(one.key))
                  for one in self._waiting if self._is_map and not has_list and (one.value is None or isinstance(one.value, str))}
+        self._elements += len(found)
         self._others += [one for one in self._waiting if one.begin not in found]
         yield from [piece._replace(taken=found.get(piece.begin, piece.taken)) if piece.taken == _MEMBER else piece for piece in held]
         held.clear()
@@ -729,6 +740,7 @@ def _of_line(line: str, label: str, number: int, options: SourceOptions) -> Tupl
 
 
 _BEGIN = re.compile(r'\s*(?:\{|\[\s*(?:[{\["\]\d-]|true|false|null|\Z))')
+_TEXT = re.compile(r'\s*"(?:[^"\\]|\\.)*"\s*\Z')
 _LINE = re.compile(r'\s*(?:[{}\[\]]|"(?:[^"\\]|\\.)*"\s*:)')
 _SECOND = re.compile(r'\s*(?:\[\s*)?\{\s*"|\s*\[\s*["\[]')
 
@@ -740,8 +752,15 @@ def _recognizes(look: Look) -> bool:
     return bool(_BEGIN.match(look.text)) or any(map(_SECOND.match, full[1:5])) or len(full) > 3 and 4 * sum(bool(_LINE.match(line)) for line in full) > 3 * len(full)
 
 
+def _is_text(line: str) -> bool:
+    """Whether a line is a text of JSON with a descriptor, as jq prints it."""
+    return bool(_TEXT.match(line)) and looks_like_descriptor(line.strip()[1:-1])
+
+
 def _recognizes_lines(look: Look) -> bool:
     full = look.full()
+    if full and _is_text(full[0]):
+        return 2 * sum(map(_is_text, full)) >= len(full)
     return len(full) > 1 and 2 * sum(line.lstrip()[:1] == "{" and line.rstrip()[-1:] == "}" for line in full) >= len(full)
 
 

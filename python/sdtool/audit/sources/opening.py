@@ -315,6 +315,35 @@ def _changed_at(text: str, is_wide: bool) -> int:
 
 
 def chunks(stream: io.BufferedReader, encoding: str) -> Iterator[str]:
+    """The text of a stream, without byte order marks at the beginning and at those of lines. Lines that end with CR alone end
+    with LF."""
+    texts = _decoded(stream, encoding)
+    first = next(texts, "")
+    if first:
+        texts = itertools.chain((first,), texts)
+        yield from _with_lf(texts) if _has_cr_alone(first) else texts
+
+
+def _has_cr_alone(first: str) -> bool:
+    """Whether the first part of a text has CR, none of them within quotation marks, and no LF."""
+    at = first.find("\r")
+    return 0 <= at < len(first) - 1 and "\n" not in first and first.count('"', 0, at) % 2 == 0
+
+
+def _with_lf(texts: Iterator[str]) -> Iterator[str]:
+    """A text with LF in place of CR and of CR LF."""
+    held = ""  # a CR, behind which an LF may come
+    for text in texts:
+        text = held + text
+        held = "\r" if text.endswith("\r") else ""
+        text = (text[:-1] if held else text).replace("\r\n", "\n").replace("\r", "\n")
+        if text:
+            yield text
+    if held:
+        yield "\n"
+
+
+def _decoded(stream: io.BufferedReader, encoding: str) -> Iterator[str]:
     """The text of a stream, without byte order marks at the beginning and at those of lines."""
     decoder = codecs.getincrementaldecoder(encoding)(_errors(encoding))
     is_wide = codecs.lookup(encoding).name.startswith("utf-16")

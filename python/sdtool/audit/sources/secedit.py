@@ -1,7 +1,6 @@
 """Security templates, which secedit /export writes."""
-import csv
 import re
-from typing import Iterator, Optional, Tuple, Union
+from typing import Iterator, List, Optional, Tuple, Union
 
 from sdtool.audit.sources.frame import Format, Lines, Look, Piece
 from sdtool.audit.sources.items import WITHOUT_OWNER, Item, item_of, looks_like_descriptor, unreadable
@@ -12,6 +11,7 @@ _OTHERS = {"unicode", "version", "profile description", "system access", "event 
            "kerberos policy", "application log", "security log", "system log", "group membership", "strings"}
 _TITLE = re.compile(r"\s*\[([^\[\]]*)\]\s*\Z")
 _SETTING = re.compile(r'\s*[^\s",=][^",=]*=')
+_FIELD = re.compile(r'[ \t]*(?:"((?:[^"]|"")*)"|((?:[^",\s][^,]*?)?))[ \t]*(,|\Z)')
 _BLANK, _COMMENT, _SECTION, _OTHER = "a blank line", "a comment", "the title of a section", "a setting (name = value)"
 _AGAIN = "run secedit /export again"
 
@@ -21,13 +21,24 @@ def _recognizes(look: Look) -> bool:
     return any(title and (title[1].strip().lower() in _OTHERS or title[1].strip().lower() in _KINDS) for title in titles)
 
 
+def _fields_of(text: str) -> List[str]:
+    """The fields of a row, with blanks around its commas or without; none if it is malformed."""
+    row: List[str] = []
+    at = 0
+    while True:
+        found = _FIELD.match(text, at)
+        if not found:
+            return []
+        row.append(found[2] if found[1] is None else found[1].replace('""', '"'))
+        if not found[3]:
+            return row
+        at = found.end()
+
+
 def _row_item(text: str, label: str, number: int, kind: str) -> Item:
-    try:
-        row = next(csv.reader([text], strict=True, skipinitialspace=True))
-        reason = f"the line has {len(row)} fields, not 3"
-    except (csv.Error, StopIteration) as error:
-        row, reason = [], f"malformed line: {error}"
+    row = _fields_of(text)
     if len(row) != 3:
+        reason = f"the line has {len(row)} fields, not 3" if row else "malformed line: a quotation mark doesn't end its field"
         return unreadable(text[:1000], label, number, reason, _AGAIN, kind)
     return item_of(row[0], label, number, row[2], kind)._replace(place=WITHOUT_OWNER)
 
