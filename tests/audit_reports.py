@@ -166,6 +166,10 @@ def test_files_named_twice(place: Place) -> None:
         place.expect((ended.status, ended.stdout), (2, ""), f"{words}: {ended}")
     ended = shell(place, f"AUDIT risks - --out {source} < {source}")
     place.expect(ended.status, 2, f"standard input is the output: {ended}")
+    for words in (f"risks {source} --to csv >> {source}", f"risks - < {source} >> hard.csv", f"risks {source} --accept accept.toml >> accept.toml",
+                  f"can token.txt change {source} >> token.txt", f"diff {source} lines >> lines"):
+        ended = shell(place, f"AUDIT {words}")
+        place.expect((ended.status, ended.stderr.startswith("sdtool-audit: standard output goes to ")), (2, True), f"{words}: {ended}")
     after = {path: path.read_bytes() for path in place.folder.rglob("*") if path.is_file()}
     place.expect(after, before, "files that were named twice are as they were")
 

@@ -70,6 +70,19 @@ def refuse(read: Sequence[Named], written: Sequence[Named]) -> None:
             raise OpeningFault(f"{output.option} {output.path}: the folder can't be written to")
 
 
+def refuse_standard_output(read: Sequence[Named]) -> None:
+    """Refuses to read a file to which a shell sends standard output."""
+    try:
+        output = os.fstat(1)
+    except OSError:
+        return
+    for source in read:
+        found = _stat_of(source.path)
+        if stat.S_ISREG(output.st_mode) and found is not None and os.path.samestat(found, output):
+            place = "standard input" if source.path == STANDARD_INPUT else source.path
+            raise OpeningFault(f"standard output goes to {place}, which is {source.option} too: name another file")
+
+
 def part_of(path: str) -> str:
     """A name for a file that isn't whole: no other run has it."""
     folder, name = os.path.split(path)

@@ -179,7 +179,8 @@ def check_files(common: Common, paths: Sequence[str], read: Sequence[files.Named
                 written: Sequence[files.Named] = ()) -> None:
     """Refuses words that name a file twice, if that would write over it, and a database that is there."""
     outputs_ = [*files.named("--out", common.out), *files.named("--into", common.into), *written]
-    sources = [files.Named(A_SOURCE, path) for path in paths]
-    files.refuse([*sources, *common.reads, *read], outputs_)
+    reads = [*(files.Named(A_SOURCE, path) for path in paths), *common.reads, *read]
+    files.refuse(reads, outputs_)
+    files.refuse_standard_output(reads)
     if common.into is not None and os.path.lexists(common.into):
         raise OpeningFault(f"--into {common.into}: the file exists; name a new one")

@@ -235,9 +235,9 @@ def _columns(rows: List[List[str]], header: Optional[List[str]], options: Source
     known = f"its columns are {', '.join(header)}" if header else f"it has {width} columns"
     likely = _likely_columns([row for row in rows if header is not None or len(row) == width])
     rivals: List[int] = []
-    for chosen in (options.descriptor_column, options.name_column):
+    for option, chosen in (("--descriptor-column", options.descriptor_column), ("--name-column", options.name_column)):
         if chosen and _chosen_column(chosen, header, width) is None:
-            return Columns(None, 0, width, (), f"no column {chosen!r}: {known}", "name one with --descriptor-column", True)
+            return Columns(None, 0, width, (), f"no column {chosen!r}: {known}", f"name one with {option}", True)
     if options.descriptor_column:
         descriptor = _chosen_column(options.descriptor_column, header, width)
     else:
