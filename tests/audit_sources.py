@@ -868,6 +868,8 @@ def test_spellings(place: Place) -> None:
     place.answers("lines that end with CR", f"a\t{FR}\rb\t{FR}\r", both)
     place.answers("a table whose lines end with CR", f"Path,Sddl\ra,{FR}\rb,{FR}", both)
     place.answers("names and ACLs that end with CR", "a\rD:(A;;FR;;;WD)\rb\rD:(A;;FR;;;WD)\r".encode("utf-16-le"), both)
+    place.answers("names with quotation marks before CR", f'"a\rD:(A;;FR;;;WD)\r"b\rD:(A;;FR;;;WD)\r', [('"a', READ), ('"b', READ)])
+    place.answers("a CR in quotation marks alone", f'"a\rb",{FR}', [("a\rb", READ)])
     place.answers("a CR in quotation marks", f'"a\rb",{FR}\r\n"c",{FR}', [("a\rb", READ), ("c", READ)])
     place.answers("blanks around the commas of a template", f'[File Security]\n"a" , 2 , "{FR}"\n"b",2,"{FR}"\n"c,2,"{FR}"\n',
                   [*both, (f'"c,2,"{FR}"', UNKNOWN)])
@@ -877,6 +879,13 @@ def test_spellings(place: Place) -> None:
     place.answers("a map with its count", f'{{"a":"{FR}","b":"{FR}","Count":2}}', both)
     place.says("a map with a higher count", f'{{"a":"{FR}","b":"{FR}","Count":3}}', 1, "Count says 3", reads=2)
     place.answers("a path without an object in a map", f'{{"C:\\\\a":{{"Sddl":"{FR}"}},"C:\\\\b":"Access is denied"}}', [("C:\\a", READ), ("C:\\b", UNKNOWN)])
+    place.answers("texts of JSON behind a message", f'ERROR\n"{FR}"\n"{FR}"\n', [("source:1", UNKNOWN), ("source:2", READ), ("source:3", READ)])
+    place.answers("a type without titles", f'#TYPE x\n"a","{FR}"\n"b","{FR}"\n', both)
+    place.answers("services with a line between", f"\n{FR}\n\n{FR}\n\n{FR}\n# x\n{FR}\n",
+                  [*((f"source:{at}", READ) for at in (2, 4, 6, 8)), ("source:7", UNKNOWN)])
+    text = f"# file: a\nsystem.ntfs_acl=0x{descriptor(1).hex()}\n\nsystem.ntfs_acl=0x{descriptor(2).hex()}\nuser.x=\"y\"\n"
+    place.answers("an attribute without its file", text, [("a", READ), ("source:4", UNKNOWN)])
+    place.answers("a NUL in a short list", f"{FR}\n{FR[:9]}\0{FR[9:]}\n", [("source:1", READ), ("source:2", READ)])
     # getfattr -e text leaves out a NUL at the end.
     place.says("an attribute as text", '# file: a\nsystem.ntfs_acl="\\001"\n', 1, "use getfattr -e hex")
 

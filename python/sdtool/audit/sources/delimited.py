@@ -333,6 +333,7 @@ def layout_of(first: List[str], label: str, options: SourceOptions) -> Layout:
     delimiter = options.delimiter or (named[1] if named else _delimiter(sample))
     rows = _sample_rows(sample, delimiter, options.quotes) or [sample[:1] or [""]]
     is_typed = any(map(_TYPE_LINE.match, first[:skipped]))
+    is_typed = is_typed and not any(map(looks_like_descriptor, rows[0]))
     titles = 0 if options.has_header or is_typed else _titles_at(rows, options) if options.has_header is None else -1
     has_header = titles >= 0
     header = rows[titles] if has_header else None

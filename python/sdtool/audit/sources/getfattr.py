@@ -68,6 +68,9 @@ def _read(source: Lines, label: str, options: SourceOptions) -> Iterator[Piece]:
             yield from ended()
             name, is_lost = (number, _unescaped(line[len(_START):])), False
             continue
+        if name is not None and line.strip() and held and held[-1].taken == _BLANK and any(one.taken in (_OTHER, _VALUE) for one in held):
+            yield from ended()
+            name = None  # a blank line is behind the attributes of each file
         attribute, equals, value = line.partition("=")
         if not line.strip():
             piece, is_lost = Piece(number, number + 1, _BLANK), False
@@ -79,8 +82,8 @@ def _read(source: Lines, label: str, options: SourceOptions) -> Iterator[Piece]:
         elif (name is not None or is_lost) and _ATTRIBUTE.match(line):
             piece = Piece(number, number + 1, _OTHER)
         else:
-            lost = unreadable(f"{label}:{number}", label, number, f"{line[:80]!r} is neither a name nor an attribute",
-                              "run getfattr again", kind)
+            reason = "no name stands before this attribute" if _ATTRIBUTE.match(line) else f"{line[:80]!r} is neither a name nor an attribute"
+            lost = unreadable(f"{label}:{number}", label, number, reason, "run getfattr again", kind)
             piece = Piece(number, number + 1, lost, True)
             yield from ended()
             name, is_lost = None, True  # what follows may be of another file

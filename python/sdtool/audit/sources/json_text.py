@@ -759,8 +759,9 @@ def _is_text(line: str) -> bool:
 
 def _recognizes_lines(look: Look) -> bool:
     full = look.full()
-    if full and _is_text(full[0]):
-        return 2 * sum(map(_is_text, full)) >= len(full)
+    texts = sum(map(_is_text, full))
+    if texts:  # the first may be the title of a column
+        return 2 * texts >= len(full) and (_is_text(full[0]) or not _TEXT.match(full[0]))
     return len(full) > 1 and 2 * sum(line.lstrip()[:1] == "{" and line.rstrip()[-1:] == "}" for line in full) >= len(full)
 
 

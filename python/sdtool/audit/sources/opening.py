@@ -23,6 +23,7 @@ READ_FAULTS = (OSError, EOFError, zlib.error, lzma.LZMAError, zipfile.BadZipFile
                RuntimeError)
 _BOMS = ((codecs.BOM_UTF8, "utf-8"), (codecs.BOM_UTF32_LE, "utf-32-le"), (codecs.BOM_UTF32_BE, "utf-32-be"),
          (codecs.BOM_UTF16_LE, "utf-16-le"), (codecs.BOM_UTF16_BE, "utf-16-be"))
+_FEW_NULS = 7  # in a text that isn't UTF-16
 _MOST_LAYERS = 4  # of compression and archives
 AS_THEY_CAME = "as-they-came"  # how texts are written: what the source had of other bytes and lone surrogates
 
@@ -273,10 +274,11 @@ def encoding_of(head: bytes, named: Optional[str]) -> str:
         return "utf-8"
     sample = head[:len(head) & ~1]
     low, high = sample[1::2].count(0), sample[0::2].count(0)
-    # ASCII in UTF-16 has a NUL in every second byte, and other scripts have ASCII between them.
-    if low > 4 * high and low > len(sample) // 100:
+    # ASCII in UTF-16 has a NUL in every second byte, and other scripts have ASCII between them. A descriptor has more of them.
+    least = max(_FEW_NULS, len(sample) // 100)
+    if low > 4 * high and low > least:
         return "utf-16-le"
-    return "utf-16-be" if high > 4 * low and high > len(sample) // 100 else "utf-8"
+    return "utf-16-be" if high > 4 * low and high > least else "utf-8"
 
 
 def _is_utf8(data: bytes) -> bool:
@@ -324,10 +326,12 @@ def chunks(stream: io.BufferedReader, encoding: str) -> Iterator[str]:
         yield from _with_lf(texts) if _has_cr_alone(first) else texts
 
 
+_QUOTED_CR = re.compile(r'(?:\A|[,;\t|])"(?:[^"\r]|"")*\r(?:[^"]|"")*"(?:[,;\t|\r]|\Z)')
+
+
 def _has_cr_alone(first: str) -> bool:
-    """Whether the first part of a text has CR, none of them within quotation marks, and no LF."""
-    at = first.find("\r")
-    return 0 <= at < len(first) - 1 and "\n" not in first and first.count('"', 0, at) % 2 == 0
+    """Whether the first part of a text has CR, but none in a field in quotation marks, and no LF."""
+    return "\r" in first[:-1] and "\n" not in first and not _QUOTED_CR.search(first[:HEAD])
 
 
 def _with_lf(texts: Iterator[str]) -> Iterator[str]:

@@ -13,9 +13,9 @@ _BLANK = "an empty line before a descriptor or at the end"
 
 
 def _recognizes(look: Look) -> bool:
-    """Whether each descriptor of what was looked at stands behind an empty line."""
-    before = [line for line, text in zip(["-", *look.lines], look.lines) if _ACL_LINE.match(text)]
-    return bool(before) and not any(line.strip() for line in before)
+    """Whether most descriptors of what was looked at stand behind an empty line."""
+    before = [not line.strip() for line, text in zip(["-", *look.lines], look.lines) if _ACL_LINE.match(text)]
+    return 2 * sum(before) > len(before)
 
 
 def _read(source: Lines, label: str, options: SourceOptions) -> Iterator[Piece]:
