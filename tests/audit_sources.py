@@ -165,6 +165,10 @@ def of_ndr(count: int) -> List[Part]:
             for at in range(count)]
 
 
+def of_dsacl(count: int) -> List[Part]:
+    return [Part(f"descriptor for CN=u{at},DC=x:\n{sddl(at)}\n", (Object(f"CN=u{at},DC=x", sddl(at)),)) for at in range(count)]
+
+
 def of_getfattr(count: int) -> List[Part]:
     return [Part(f"# file: mnt/{at}\\040x\nsystem.ntfs_acl=0x{descriptor(at).hex()}\nuser.other=\"x\"\n\n",
                  (Object(f"mnt/{at} x", descriptor(at).hex()),)) for at in range(count)]
@@ -210,7 +214,8 @@ MADE = {"csv": Made(of_csv, "csv"), "tsv": Made(of_tsv, "csv"), "lines": Made(of
         "secedit": Made(of_secedit, "secedit"), "reg": Made(of_reg, "reg"), "sc": Made(of_sc, "sc"),
         "wevtutil": Made(of_wevtutil, "wevtutil"), "ldif": Made(of_ldif, "ldif", True), "bare ldif": Made(of_bare_ldif, "ldif"),
         "ldbsearch": Made(of_ldbsearch, "ldif", True), "smbcacls": Made(of_smbcacls, "smbcacls"), "ndr": Made(of_ndr, "ndr"),
-        "getfattr": Made(of_getfattr, "getfattr"), "json": Made(of_json, "json", True), "json in one line": Made(of_short_json, "json", True, False),
+        "dsacl": Made(of_dsacl, "dsacl"), "getfattr": Made(of_getfattr, "getfattr"), "json": Made(of_json, "json", True),
+        "json in one line": Made(of_short_json, "json", True, False),
         "value json": Made(of_value_json, "json", True), "map json": Made(of_map_json, "json", True), "jsonl": Made(of_jsonl, "jsonl")}
 
 
@@ -868,7 +873,7 @@ def test_spellings(place: Place) -> None:
     place.answers("lines that end with CR", f"a\t{FR}\rb\t{FR}\r", both)
     place.answers("a table whose lines end with CR", f"Path,Sddl\ra,{FR}\rb,{FR}", both)
     place.answers("names and ACLs that end with CR", "a\rD:(A;;FR;;;WD)\rb\rD:(A;;FR;;;WD)\r".encode("utf-16-le"), both)
-    place.answers("names with quotation marks before CR", f'"a\rD:(A;;FR;;;WD)\r"b\rD:(A;;FR;;;WD)\r', [('"a', READ), ('"b', READ)])
+    place.answers("names with quotation marks before CR", '"a\rD:(A;;FR;;;WD)\r"b\rD:(A;;FR;;;WD)\r', [('"a', READ), ('"b', READ)])
     place.answers("a CR in quotation marks alone", f'"a\rb",{FR}', [("a\rb", READ)])
     place.answers("a CR in quotation marks", f'"a\rb",{FR}\r\n"c",{FR}', [("a\rb", READ), ("c", READ)])
     place.answers("blanks around the commas of a template", f'[File Security]\n"a" , 2 , "{FR}"\n"b",2,"{FR}"\n"c,2,"{FR}"\n',

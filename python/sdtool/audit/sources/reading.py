@@ -2,8 +2,8 @@
 import os
 from typing import Any, Callable, Dict, Iterator, List, NamedTuple, Optional, Tuple
 
-from sdtool.audit.sources import (binary, delimited, directory, getfattr, icacls, json_text, ndr, plain, registry, sds, secedit, service,
-                                  smbcacls, tree, unsupported, wevtutil)
+from sdtool.audit.sources import (binary, delimited, directory, dsacl, getfattr, icacls, json_text, ndr, plain, registry, sds, secedit,
+                                  service, smbcacls, tree, unsupported, wevtutil)
 from sdtool.audit.sources.frame import OPENERS, Account, Format, Look, cut_item, objects_of
 from sdtool.audit.sources.items import Item, unreadable
 from sdtool.audit.sources.opening import (HEAD, STANDARD_INPUT, OpeningFault, Stream, Trouble, chunks, contents, encoding_of, lines,
@@ -14,9 +14,9 @@ __all__ = ["FORMATS", "NAMES", "Table", "cut_item", "empty_item", "format_help",
 
 # The order counts where two formats read a text equally well.
 FORMATS: Tuple[Format, ...] = (
-    registry.FORMAT, secedit.FORMAT, getfattr.FORMAT, directory.FORMAT, smbcacls.FORMAT, ndr.FORMAT, wevtutil.FORMAT,
-    json_text.LINES_FORMAT, json_text.FORMAT, service.FORMAT, icacls.FORMAT, delimited.FORMAT, unsupported.FORMAT, plain.FORMAT,
-    sds.FORMAT, binary.FORMAT)
+    registry.FORMAT, secedit.FORMAT, getfattr.FORMAT, directory.FORMAT, smbcacls.FORMAT, ndr.FORMAT, dsacl.FORMAT,
+    wevtutil.FORMAT, json_text.LINES_FORMAT, json_text.FORMAT, service.FORMAT, icacls.FORMAT, delimited.FORMAT, unsupported.FORMAT,
+    plain.FORMAT, sds.FORMAT, binary.FORMAT)
 _BY_NAME: Dict[str, Format] = {one.name: one for one in FORMATS}
 NAMES = tuple(name for name in _BY_NAME if name != unsupported.FORMAT.name) + ("tree",)
 _TEXTS = tuple(one for one in FORMATS if one.takes != "bytes")
