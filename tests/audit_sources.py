@@ -864,6 +864,9 @@ def test_ldif(place: Place) -> None:
                   f"nTSecurityDescriptor: {dumped}\n\n\n# Referral\nref: ldap://example/DC=x\n\n# returned 3 records\n# 2 entries\n# 1 referrals\n", both)
     place.answers("an entry without its name behind a dump", f"dn: CN=a\nnTSecurityDescriptor: {dumped}\n\n\nnTSecurityDescriptor: {dumped}\n",
                   [("CN=a", READ), (f"line {dumped.count(chr(10)) + 5}", UNKNOWN)])
+    place.answers("indented lines behind a comment that isn't folded", ldb + of_ndr(1)[0].text, [("CN=a", READ), ("line 8", UNKNOWN)])
+    place.answers("a comment within a folded name", f"dn: CN=a\n#\n bcdefgh\nnTSecurityDescriptor: {FR}\n\n{good}", [("CN=a", UNKNOWN), ("CN=a", READ)])
+    place.answers("folded comments", f"# {'x' * 70}\n {'y' * 70}\n y\n{good}# {'x' * 70}\n yy\n\n{other}", both)
     place.answers("a dump that is cut", f"# record 1\ndn: CN=a\nnTSecurityDescriptor: {dumped[:-200]}\n\n# returned 1 records\n# 1 entries\n", [("CN=a", UNKNOWN)])
 
 

@@ -27,6 +27,7 @@ _NUMBERED = re.compile(r"# (numResponses|numEntries|numReferences|numPartial|num
 _RETURNED = re.compile(r"# returned ([0-9]+) records\s*\Z")
 _FIRST_RECORD = re.compile(r"# record [0-9]+\s*\Z")
 _ENTRIES = re.compile(r"# ([0-9]+) (entries|referrals)\s*\Z")
+_LONGEST_CHARACTER = 4  # bytes
 _DUMP = re.compile(r"(?:[A-Za-z0-9][\w;.-]*:)? +(?:NDR|SDDL): struct \w+\s*\Z")
 
 
@@ -64,17 +65,22 @@ def _unfolded(lines: List[str]) -> List[str]:
     """The lines of an entry with those joined that a blank folds, and without comments. A dump keeps its lines."""
     found: List[str] = []
     is_comment = False
-    for line in lines:
+    for before, line in zip(["", *lines], lines):
         if line.startswith(" "):
-            if is_comment:
+            if is_comment and _is_folded(before, line):
                 continue
-            if found:
+            if found and not is_comment:
                 found[-1] += "\n" + line if _is_dump(found[-1], line) else line[1:]
                 continue
         is_comment = line.startswith("#")
         if not is_comment:
             found.append(line)
     return found
+
+
+def _is_folded(before: str, line: str) -> bool:
+    """Whether a line may go on where a program folded the one before: none but the last is shorter than the others."""
+    return len(_bytes_of(line)) < len(_bytes_of(before)) + _LONGEST_CHARACTER
 
 
 def _is_dump(before: str, line: str) -> bool:
@@ -201,8 +207,9 @@ def _read_blocks(source: Lines) -> Iterator[_Read]:
         entry = _parsed(block)
         yield begin, end, entry, entry.reason.startswith("malformed") or not any(map(_NAME.match, unfolded))
 
-    number = 0
-    for number, line in enumerate(source, 1):
+    number, line = 0, ""
+    for number, current in enumerate(source, 1):
+        before, line = line, current
         is_fold = line.startswith(" ")
         if blank and (_NAME.match(line) or _CONTROL.match(line) or not _ATTRIBUTE.fullmatch(line)):
             yield from ended(number)  # the entry doesn't go on behind its dump
@@ -213,7 +220,7 @@ def _read_blocks(source: Lines) -> Iterator[_Read]:
             yield from ended(number)
             yield number, number + 1, _BLANK, False
             is_comment = False
-        elif line.startswith("#") and not is_fold or is_fold and is_comment:
+        elif line.startswith("#") and not is_fold or is_fold and is_comment and _is_folded(before, line):
             if lines:
                 lines.append(line)  # a comment inside an entry
                 is_comment = True
