@@ -498,6 +498,23 @@ def test_can(place: Place) -> None:
                 "tokenGroups:: AQIAAAAAAAUgAAAAIQIAAA==\n")
     place.expect([one["answer"] for one in place.objects("can", "token.ldif", "write", source)],
                  ["found", "found", "found", "found", "nothing", "nothing"], "can, tokenGroups")
+    place.write("token.ldif", "# record 1\ndn: CN=Ann\nobjectSid: S-1-5-21-1-2-3-1001\ntokenGroups: S-1-5-32-545\n")
+    place.expect([one["answer"] for one in place.objects("can", "token.ldif", "write", source)],
+                 ["found", "found", "found", "found", "nothing", "nothing"], "can, tokenGroups of ldbsearch")
+    place.write("token.ldif", "dn: CN=Ann\nobjectSid: S-1-5-21-1-x\ntokenGroups:: AAAA\n")
+    ended = place.ask("can", "token.ldif", "write", source)
+    place.expect((ended.status, ended.stdout, "no SID" in ended.stderr), (2, "", True), f"can, SIDs that are damaged: {ended}")
+    place.write("groups.ldif", "dn: CN=G\nobjectSid: S-1-5-21-1-2-3-1105\nsAMAccountName: Group\nmember: CN=Ann\n\n"
+                "dn: CN=Ann\nobjectSid: S-1-5-21-1-2-3-1001\nsAMAccountName: Ann\n")
+    group = place.table([("a", "D:(A;;FR;;;S-1-5-21-1-2-3-1105)")], "group.csv")
+    told = [finding["trustee"] for one in place.objects("who", "read", group, "--groups", "groups.ldif") for finding in one["findings"]]
+    place.expect(told, ["Group (S-1-5-21-1-2-3-1105)", "Ann (S-1-5-21-1-2-3-1001)"], "who, groups of ldbsearch")
+    head = "dn: CN=X\nlDAPDisplayName: x\ndefaultSecurityDescriptor:     SDDL: struct security_descriptor\n"
+    fields = "".join(f"        {one} : NULL\n" for one in ("owner_sid", "group_sid", "sacl", "dacl"))
+    for text, status in (("        type : 0x8004 (32772)\n" + fields, 0), ("    UNEXPECTED NULL POINTER\n", 2)):
+        place.write("schema.ldif", head + text)
+        ended = place.ask("risks", group, "--schema", "schema.ldif")
+        place.expect((ended.status, "without --show-binary" in ended.stderr), (status, status == 2), f"a schema with dumps: {ended}")
     place.write("list.txt", "# a user\nBU # users\n!BA\n")
     place.expect(place.told("can", "list.txt", "write", source)["all"][0], "found", "can, a file of SIDs")
 

@@ -858,6 +858,8 @@ def test_ldif(place: Place) -> None:
     dumped = "\n".join("" + line for line in of_ndr(1)[0].text.replace("    security_descriptor:", "    NDR:").strip("\n").split("\n"))
     place.answers("ldbsearch --show-binary", f"# record 1\ndn: CN=a\nnTSecurityDescriptor: {dumped}\n\n# record 2\ndn: CN=b\n"
                   f"nTSecurityDescriptor: {dumped}\n\n# returned 2 records\n# 2 entries\n# 0 referrals\n", both)
+    place.says("ldbsearch with more records", ldb.replace("returned 1", "returned 2"), 1, "2 entries are said", reads=1)
+    place.says("ldbsearch with more records and entries", ldb.replace("returned 1", "returned 2").replace("# 1 entries", "# 2 entries"), 1, "2 entries", reads=1)
     more = dumped.replace("NDR: struct security_descriptor", "SDDL: struct security_descriptor")
     place.answers("attributes behind the blank line of a dump", f"# record 1\ndn: CN=a\ndefaultSecurityDescriptor: {more}\n\ndnsRecord:     NDR: struct "
                   f"dnsp_DnssrvRpcRecord\n        wDataLength : 0x0004 (4)\n\nnTSecurityDescriptor: {dumped}\n\ncn: a\n\n# record 2\ndn: CN=b\n"

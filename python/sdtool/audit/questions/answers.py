@@ -507,8 +507,10 @@ def answerable(form: str, texts: Sequence[str], descriptors: Sequence[Union[Desc
     return "sddl", [with_mapping(one, kind) if isinstance(one, Descriptor) else "G:S-1-0-0" for one in descriptors]
 
 
-def sid_of_bytes(data: bytes) -> str:
-    """The text of a SID in binary."""
+def sid_of_value(data: bytes) -> str:
+    """The text of a SID that a directory has: in binary, or as text from ldbsearch."""
+    if data.startswith(b"S-"):
+        return sid_of_text(data.decode("latin-1"))
     header = bytes([1, 0, 0, 0x80, 20, 0, 0, 0]) + bytes(12)
     answer = _ask(["convert", "--numeric"], [(header + data).hex()])[0]
     if not answer.startswith("O:S-1-"):

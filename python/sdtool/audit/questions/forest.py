@@ -5,10 +5,11 @@ from typing import Counter, Dict, Iterable, Iterator, List, Sequence, Set, Tuple
 
 from sdtool.audit.sources import directory
 from sdtool.audit.questions import names as sids
-from sdtool.audit.questions.answers import ALLOWS, INHERITED, Ace, Refusal, explained, sid_of_bytes
+from sdtool.audit.questions.answers import ALLOWS, INHERITED, Ace, Refusal, explained, sid_of_value
 from sdtool.audit.questions.groups import text_lines
 from sdtool.audit.sources.items import UNREADABLE, WITHOUT_OWNER, Item
 from sdtool.audit.sources.opening import OpeningFault
+from sdtool.audit.sources.samba import Unknown
 from sdtool.audit.questions.windows_defaults import ACCOUNTS, Default, place_of
 
 _BATCH = 4_000
@@ -83,8 +84,10 @@ def accounts_of(path: str) -> Dict[str, str]:
         named = [value.decode("utf-8", "replace") for value in entry.attributes.get("samaccountname", ())]
         sid = entry.attributes.get("objectsid", ())
         if named and sid and named[0].casefold() in wanted:
-            text = sid[0].decode("latin-1") if sid[0][:2] == b"S-" else sid_of_bytes(sid[0])
-            found[text] = wanted[named[0].casefold()]
+            try:
+                found[sid_of_value(sid[0])] = wanted[named[0].casefold()]
+            except ValueError as error:
+                raise OpeningFault(f"{path}: line {entry.line}: {error}") from error
     return found
 
 
@@ -104,8 +107,12 @@ class Schema:
             if guid:
                 self.named_types[name] = _guid_text(guid[0])
             for given in entry.attributes.get("defaultsecuritydescriptor", ()):
-                # Two classes of Windows' schema have a blank behind D:.
-                texts.append((name, given.decode("latin-1").replace(" ", "")))
+                try:
+                    # Two classes of Windows' schema have a blank behind D:.
+                    texts.append((name, directory.sddl_of(given).replace(" ", "")))
+                except Unknown as error:
+                    raise OpeningFault(f"{path}: the defaultSecurityDescriptor of {name} can't be read: {error}; run "
+                                       "ldbsearch without --show-binary") from error
         if not texts:
             raise OpeningFault(f"{path}: no class has a defaultSecurityDescriptor: export the schema with lDAPDisplayName, "
                                "schemaIDGUID and defaultSecurityDescriptor")

@@ -92,7 +92,7 @@ def _of_ldif(path: str) -> Groups:
         binary = entry.attributes.get("objectsid")
         if binary:
             try:
-                sid = sid_of[own] = answers.sid_of_bytes(binary[0])
+                sid = sid_of[own] = answers.sid_of_value(binary[0])
             except ValueError as error:
                 raise OpeningFault(f"{path}: line {entry.line}: {error}") from error
             named = next((entry.attributes[one][0] for one in _NAME_ATTRIBUTES if entry.attributes.get(one)), b"")

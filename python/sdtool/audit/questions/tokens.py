@@ -116,7 +116,10 @@ def _of_ldif(lines: Sequence[str], path: str) -> Token:
     if not found.get("objectsid") or "tokengroups" not in found:
         raise OpeningFault(f"{path}: the entry has no objectSid or no tokenGroups; ask with ldapsearch -s base -b DN objectSid "
                            "tokenGroups")
-    return Token(tuple(answers.sid_of_bytes(data) for data in found["objectsid"] + found["tokengroups"]))
+    try:
+        return Token(tuple(answers.sid_of_value(data) for data in found["objectsid"] + found["tokengroups"]))
+    except ValueError as error:
+        raise OpeningFault(f"{path}: {error}") from error
 
 
 _LACKS_SAMBA = ("the output of id lacks the SID that Samba gives the user: put what 'wbinfo --user-sids' or 'pdbedit -L -v' prints "

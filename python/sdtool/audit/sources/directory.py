@@ -131,11 +131,13 @@ class _Search:
 
     def begin(self) -> None:
         self.entries = 0
+        self.references = 0
         self.cookie = ""  # of the next page
 
     def missing(self, count: int) -> str:
-        """What is said of a count that is higher than what came. Pages of a search may be counted together."""
-        return f"{count:,} entries are said to be there, and {self.entries:,} came" if count > self.entries else ""
+        """What is said once of a count that is higher than what came. Pages of a search may be counted together."""
+        came, self.entries = self.entries, max(count, self.entries)
+        return f"{count:,} entries are said to be there, and {came:,} came" if count > came else ""
 
 
 _Read = Tuple[int, int, Union[Entry, str], bool]  # places, an entry or a word, and whether it is strange
@@ -153,6 +155,7 @@ def _control_of(block: _Block, search: _Search) -> Union[Entry, str]:
         return Entry(block.begin, _REST, {}, f"the search ended early: {result}")
     if result is not None:
         return _RESULT
+    search.references += sum(line.lower().startswith("ref:") for line in lines)
     return _REFERENCE
 
 
@@ -165,7 +168,7 @@ def _comment(line: str, search: _Search) -> Tuple[str, str]:
     if counted:
         return _COUNT, search.missing(int(counted[2])) if counted[1] == "numEntries" else ""
     if returned:
-        return _RECORDS, ""
+        return _RECORDS, search.missing(int(returned[1]) - search.references)
     entries = _ENTRIES.match(line)
     if entries:
         return _COMMENT, search.missing(int(entries[1])) if entries[2] == "entries" else ""
@@ -235,6 +238,8 @@ def _read_blocks(source: Lines) -> Iterator[_Read]:
                 has_record = False
             if missing:
                 yield number, number + 1, Entry(number, _REST, {}, missing), False
+                if word == _RECORDS:
+                    yield number + 1, number + 1, word, False
             else:
                 yield number, number + 1, word, False
         elif not lines and re.fullmatch(r"version:\s*[0-9]+\s*", line, re.I):
@@ -286,9 +291,10 @@ def place_text(entry: Entry) -> str:
     return Place(classes, _named_place(entry.name), not _HEAD_OF_ZONES.match(entry.name)).text()
 
 
-def _dumped(value: bytes) -> str:
-    """The SDDL of a descriptor that ldbsearch --show-binary dumped."""
-    return ndr.sddl_of(value.decode("utf-8", "replace").split("\n"))
+def sddl_of(value: bytes) -> str:
+    """The text of a descriptor in SDDL, or that ldbsearch --show-binary dumped."""
+    is_dump = b": struct security_descriptor" in value
+    return ndr.sddl_of(value.decode("utf-8", "replace").split("\n")) if is_dump else value.decode("latin-1")
 
 
 def _item(entry: Entry, label: str, shown: str, kind: str) -> Item:
@@ -302,7 +308,7 @@ def _item(entry: Entry, label: str, shown: str, kind: str) -> Item:
     if values[0][:1] == b"\1":
         return bytes_item(entry.name, label, entry.line, values[0], kind, None, place_text(entry))
     try:
-        text = _dumped(values[0]) if b": struct security_descriptor" in values[0] else values[0].decode("latin-1")
+        text = sddl_of(values[0])
     except Unknown as error:
         return unreadable(entry.name, label, entry.line, f"{shown}: {error}", "run ldbsearch without --show-binary", kind)
     found = item_of(entry.name, label, entry.line, text, kind)
