@@ -511,10 +511,11 @@ def test_can(place: Place) -> None:
     place.expect(told, ["Group (S-1-5-21-1-2-3-1105)", "Ann (S-1-5-21-1-2-3-1001)"], "who, groups of ldbsearch")
     head = "dn: CN=X\nlDAPDisplayName: x\ndefaultSecurityDescriptor:     SDDL: struct security_descriptor\n"
     fields = "".join(f"        {one} : NULL\n" for one in ("owner_sid", "group_sid", "sacl", "dacl"))
-    for text, status in (("        type : 0x8004 (32772)\n" + fields, 0), ("    UNEXPECTED NULL POINTER\n", 2)):
-        place.write("schema.ldif", head + text)
+    for text, status, said in ((head + "        type : 0x8004 (32772)\n" + fields, 0, ""), (head + "    UNEXPECTED NULL POINTER\n", 2, "without --show-binary"),
+                               (head.partition(":     ")[0] + ":\n", 2, "is empty"), (head.partition(":     ")[0] + ":: RDoKCg==\n", 2, "line end")):
+        place.write("schema.ldif", text)
         ended = place.ask("risks", group, "--schema", "schema.ldif")
-        place.expect((ended.status, "without --show-binary" in ended.stderr), (status, status == 2), f"a schema with dumps: {ended}")
+        place.expect((ended.status, said in ended.stderr), (status, True), f"a schema: {ended}")
     place.write("list.txt", "# a user\nBU # users\n!BA\n")
     place.expect(place.told("can", "list.txt", "write", source)["all"][0], "found", "can, a file of SIDs")
 

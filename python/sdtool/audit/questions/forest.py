@@ -109,7 +109,10 @@ class Schema:
             for given in entry.attributes.get("defaultsecuritydescriptor", ()):
                 try:
                     # Two classes of Windows' schema have a blank behind D:.
-                    texts.append((name, directory.sddl_of(given).replace(" ", "")))
+                    text = directory.sddl_of(given).replace(" ", "")
+                    if not text or "\n" in text:
+                        raise OpeningFault(f"{path}: the defaultSecurityDescriptor of {name} is empty or has a line end")
+                    texts.append((name, text))
                 except Unknown as error:
                     raise OpeningFault(f"{path}: the defaultSecurityDescriptor of {name} can't be read: {error}; run "
                                        "ldbsearch without --show-binary") from error
