@@ -896,6 +896,8 @@ def test_spellings(place: Place) -> None:
     text = f"# file: a\nsystem.ntfs_acl=0x{descriptor(1).hex()}\n\nsystem.ntfs_acl=0x{descriptor(2).hex()}\nuser.x=\"y\"\n"
     place.answers("an attribute without its file", text, [("a", READ), ("source:4", UNKNOWN)])
     place.answers("a NUL in a short list", f"{FR}\n{FR[:9]}\0{FR[9:]}\n", [("source:1", READ), ("source:2", READ)])
+    share = "REVISION:1\nCONTROL:SR|DP\nOWNER:\nGROUP:\nACL:S-1-1-0:ALLOWED/0x0/FULL\n\n"
+    place.answers("shares of sharesec", f"[a]\n{share}[b]\n{share}[c]\n{_block()}[d]\n", [("a", UNKNOWN), ("b", UNKNOWN), ("c", READ), ("source:21", UNKNOWN)])
     # getfattr -e text leaves out a NUL at the end.
     place.says("an attribute as text", '# file: a\nsystem.ntfs_acl="\\001"\n', 1, "use getfattr -e hex")
 

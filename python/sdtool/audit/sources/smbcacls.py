@@ -1,4 +1,5 @@
-"""What smbcacls --numeric prints, of one file or of several, one after the other. It prints no names."""
+"""What smbcacls --numeric prints, of one file or of several, one after the other. It prints no names; sharesec prints that of a
+share in brackets."""
 import re
 from typing import Dict, Iterator, List, Tuple
 
@@ -10,9 +11,10 @@ from sdtool.audit.sources.samba import CONTROL_NAMES, Unknown, flags_text
 # ACL:SID:TYPE/FLAGS/MASK. Names instead of SIDs can't be looked up here, and a mask of fewer digits is cut.
 _ACE_LINE = re.compile(r"ACL:(S-1-[0-9x-]+):(\w+)/(0x[0-9a-fA-F]+|[0-9]+)/(0x[0-9a-fA-F]{8})\Z", re.I)
 _WORD = re.compile(r"(REVISION|CONTROL|OWNER|GROUP|ACL):", re.I)
+_SHARE = re.compile(r"\[(.+)\]\Z")
 _SID = re.compile(r"S-1-[0-9a-fA-Fx-]+\Z", re.I)
 _KINDS = {"0": "A", "1": "D", "0x0": "A", "0x1": "D"}
-_HELP = "use smbcacls --sddl, or --numeric"
+_HELP = "use smbcacls --sddl, or --numeric; for a share, sharesec NAME --viewsddl"
 _BLANK = "a blank line"
 
 
@@ -53,16 +55,20 @@ def _sddl(block: List[str]) -> str:
 
 
 def _item(number: int, block: List[str], label: str, kind: str) -> Item:
+    share = _SHARE.match(block[0])
+    if share and len(block) == 1:
+        return unreadable(f"{label}:{number}", label, number, f"{block[0][:200]!r} is no line of a descriptor", _HELP, kind)
+    name, lines = (share[1], block[1:]) if share else (f"{label}:{number}", block)
     try:
-        return item_of(f"{label}:{number}", label, number, _sddl(block), kind)
+        return item_of(name, label, number, _sddl(lines), kind)
     except Unknown as error:
-        return unreadable(f"{label}:{number}", label, number, str(error), _HELP, kind)
+        return unreadable(name, label, number, str(error), _HELP, kind)
 
 
 def _begins(word: str, block: List[Tuple[int, str]]) -> bool:
     """Whether a line is of another descriptor than those before it, of which the first may be missing."""
-    words = {line.partition(":")[0].upper() for _, line in block}
-    return word == "REVISION" or word == "CONTROL" and bool(words & {"CONTROL", "ACL"})
+    words = {line.partition(":")[0].upper() for _, line in block if not _SHARE.match(line)}
+    return word == "REVISION" and bool(words) or word == "CONTROL" and bool(words & {"CONTROL", "ACL"})
 
 
 def _read(source: Lines, label: str, options: SourceOptions) -> Iterator[Piece]:
@@ -72,11 +78,15 @@ def _read(source: Lines, label: str, options: SourceOptions) -> Iterator[Piece]:
     def ended() -> Iterator[Piece]:
         if block:
             begin = block[0][0]
-            yield Piece(begin, block[-1][0] + 1, _item(begin, [line for _, line in block], label, kind))
+            yield Piece(begin, block[-1][0] + 1, _item(begin, [line for _, line in block], label, kind), bool(_SHARE.match(block[-1][1])))
             block.clear()
 
     for number, line in enumerate(source, 1):
         found = _WORD.match(line)
+        if _SHARE.match(line):
+            yield from ended()
+            block.append((number, line))
+            continue
         if found:
             if _begins(found[1].upper(), block):
                 yield from ended()
@@ -91,4 +101,5 @@ def _read(source: Lines, label: str, options: SourceOptions) -> Iterator[Piece]:
     yield from ended()
 
 
-FORMAT = Format("smbcacls", "smbcacls --numeric", "the lines of a descriptor, also without REVISION, and any other line", (_BLANK,), _recognizes, _read)
+FORMAT = Format("smbcacls", "smbcacls --numeric", "the lines of a descriptor, also without REVISION or behind the name of a share, and any other line",
+                (_BLANK,), _recognizes, _read)
