@@ -3,7 +3,8 @@
  *
  * A call reads its arguments once, from left to right, and copies bytes when it reads them. Options, parts and ACEs are objects
  * whose names are read along their prototypes, but for Object.prototype; names with getters are read last. An unknown name,
- * inherited and hidden ones too, is refused, and so is an array that has other names than numbers.
+ * inherited and hidden ones too, is refused, and so is an array that has other names than numbers. Empty bytes are no SID, no
+ * GUID and no creator's descriptor: undefined says that there is none.
  */
 
 /** The part of a descriptor that a fault is about. */

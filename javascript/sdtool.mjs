@@ -285,13 +285,24 @@ function descriptorOf(value, argument, entry = null) {
   return bytesOf(value, MOST_BYTES + 1, argument, entry);
 }
 
+// Bytes that a call would take for none if they were empty, and none asks for something else.
+function someBytesOf(value, most, argument, entry) {
+  const bytes = bytesOf(value, most, argument, entry);
+  if (lengthOf(bytes) === 0) throw new ArgumentFault("this is empty", argument, entry);
+  return bytes;
+}
+
 function guidOf(value, argument, entry) {
-  return bytesOf(value, GUID + 1, argument, entry);
+  return someBytesOf(value, GUID + 1, argument, entry);
+}
+
+function creatorOf(value, argument, entry) {
+  return someBytesOf(value, MOST_BYTES + 1, argument, entry);
 }
 
 // A SID is a text or bytes, and the call that gets it judges it.
 function sidOf(value, argument, entry = null) {
-  return typeof value === "string" ? value : bytesOf(value, MOST_SID + 1, argument, entry);
+  return typeof value === "string" ? value : someBytesOf(value, MOST_SID + 1, argument, entry);
 }
 
 function flagOf(value, argument) {
@@ -477,7 +488,7 @@ const DOMAIN = namesFor({ domain: optional(sidOf) });
 const PRINTING = namesFor({ domain: optional(sidOf), numeric: optional(flagOf) });
 const TOKEN = namesFor({ ...ofToken }), REQUESTED = namesFor({ ...ofRequest }), ASKED = namesFor({ ...ofRequest, ...ofToken });
 const ASKER = namesFor({ ...ofAsker }), ASKERS = namesFor({ ...ofAsker, ...ofToken });
-const DERIVED = namesFor({ kind: optional(kindOf), creator: optional(descriptorOf), mapping: optional(mappingOf) });
+const DERIVED = namesFor({ kind: optional(kindOf), creator: optional(creatorOf), mapping: optional(mappingOf) });
 const ACL = namesFor({ state: stateOf, aces: optional(acesOf) },
                      { isPart: true, isNone: 'this is neither an array of ACEs nor { state: "absent" }, "null" or "list"' });
 const ACE = namesFor({ kind: byteOf, flags: byteOf, mask: numberOf, sid: sidOf, objectType: nullable(guidOf),

@@ -57,7 +57,7 @@ export function answerTo(library, words, line) {
 // form is too short: the program passes over it.
 export function descriptorOf(library, form, line, domain) {
     if (form === "sddl") {
-        return descriptorOfSddl(library, line, domain ? sidBytes(library, domain) : new Uint8Array(0));
+        return descriptorOfSddl(library, line, domain ? sidBytes(library, domain) : undefined);
     }
     if (!FORMS.includes(form)) {
         throw new RangeError("no such form");
@@ -85,7 +85,7 @@ export function placeOfBytes(library, bytes) {
 
 function descriptorOfSddl(library, text, domain) {
     try {
-        return library.fromSddl(text, domain.length ? {domain} : {});
+        return library.fromSddl(text, {domain});
     } catch (fault) {
         if (typeof fault.number !== "number") {
             throw fault;
@@ -131,14 +131,15 @@ export function maskOfText(library, text) {
 
 const guids = new Map();
 
-// The 16 bytes of a GUID, which follow type, flags, size, mask and object flags in the only ACE of a descriptor.
+// The 16 bytes of a GUID, which follow type, flags, size, mask and object flags in the only ACE of a descriptor. An empty text
+// is no GUID, and has undefined.
 export function guidBytes(library, text) {
     if (!guids.has(text)) {
         if (!/^[0-9A-Fa-f-]*$/.test(text)) {
             throw new Refusal("error 28 guid");
         }
         const descriptor = descriptorOf(library, "sddl", `D:(OA;;CC;${text};;WD)`);
-        guids.set(text, text ? descriptor.slice(OWNER_AT + 8 + 12, OWNER_AT + 8 + 28) : new Uint8Array(0));
+        guids.set(text, text ? descriptor.slice(OWNER_AT + 8 + 12, OWNER_AT + 8 + 28) : undefined);
     }
     return guids.get(text);
 }

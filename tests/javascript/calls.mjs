@@ -18,6 +18,7 @@ const { load, Fault, ArgumentFault } = await import(pathToFileURL(`${folder}/sdt
 const sdtool = await load();
 
 const bytes = (text) => (text === "-" ? new Uint8Array(0) : Uint8Array.from(Buffer.from(text, "hex")));
+const given = (text) => (text === "-" ? undefined : bytes(text));
 const hex = (answer) => Buffer.from(answer).toString("hex");
 
 // A number that no name of the module has becomes a name that is none.
@@ -43,8 +44,8 @@ const told = (verdict) => `${verdict.granted ? "granted" : "denied"} 0x${verdict
 function question([sids, entries, object, self, wanted, mapping, flags, level]) {
   const { enabled, denied } = split(bytes(sids), bytes(entries));
   return [enabled, {
-    denyOnly: denied, wanted: Number(wanted), mapping: named(MAPPINGS, mapping), objectType: bytes(object),
-    principalSelf: bytes(self), maximum: (flags & 1) !== 0, security: (flags & 2) !== 0, takeOwnership: (flags & 4) !== 0,
+    denyOnly: denied, wanted: Number(wanted), mapping: named(MAPPINGS, mapping), objectType: given(object),
+    principalSelf: given(self), maximum: (flags & 1) !== 0, security: (flags & 2) !== 0, takeOwnership: (flags & 4) !== 0,
     level: level === "-" ? undefined : Number(level),
   }];
 }
@@ -108,7 +109,7 @@ function withToken(lines) {
 
 // What a derivation is asked with.
 const derivation = ([parent, creator, owner, group, kind, mapping]) =>
-  [bytes(parent), bytes(owner), bytes(group), { kind: named(KINDS, kind), creator: bytes(creator), mapping: named(MAPPINGS, mapping) }];
+  [bytes(parent), bytes(owner), bytes(group), { kind: named(KINDS, kind), creator: given(creator), mapping: named(MAPPINGS, mapping) }];
 
 const derive = (words) => `${hex(sdtool.derive(...derivation(words)))}\n`;
 

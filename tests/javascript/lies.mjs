@@ -315,6 +315,15 @@ for (const [call, make] of CALLS) {
   }
 }
 
+// Empty bytes where C has none: they are refused, since a caller that has lost a GUID or a SID asks for something else.
+for (const [call, make] of CALLS) {
+  for (const path of pathsOf(make()).slice(1)) {
+    if (!(at(make(), path) instanceof Uint8Array) || call === "run" || (path[0] === "0" && call !== "build")) continue;
+    for (const empty of [new Uint8Array(0), SYSTEM.subarray(3, 3), Buffer.alloc(0), new Uint8Array(new ArrayBuffer(0, { maxByteLength: 8 }))])
+      judgeOther(call, changed(make(), path, () => empty), `${call} ${path.join(".")} is empty`, false);
+  }
+}
+
 // Bytes that an argument behind them changes: they count as they were when they were handed over.
 for (const [call, make] of CALLS) {
   const plain = outcomeOf(call, make());
