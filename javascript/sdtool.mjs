@@ -85,6 +85,7 @@ const [typeOf, bufferOf, offsetOf, lengthOf] = [Symbol.toStringTag, "buffer", "b
 const [byteAt, setBytes, fillBytes] = ["at", "set", "fill"].map((name) => methodOf(VIEW, name));
 const [getU8, getU16, getU32, setU8, setU16, setU32] = ["getUint8", "getUint16", "getUint32", "setUint8", "setUint16",
                                                         "setUint32"].map((name) => methodOf(View.prototype, name));
+const { Instance } = WebAssembly;
 const memoryBuffer = getterOf(WebAssembly.Memory.prototype, "buffer");
 const [codeAt, cutText, pointAt, indexIn] = ["charCodeAt", "slice", "codePointAt", "indexOf"].map(
   (name) => methodOf(String.prototype, name));
@@ -505,30 +506,53 @@ const mostBytes = (input) => (typeof input === "string" ? 3 * input.length : len
 
 /** What load gives. A call holds no state, and its answers are copies. */
 class Sdtool {
+  #module;
   #calls;
   #memory;
+  #isWithin; // it is in the midst of a call
   #buffer; // all of the memory, as long as it does not grow
   #view; // the same, to read and write numbers
   #room = 0; // where the structs and the bytes of a call go, and how many bytes fit
   #size = 0;
 
-  /** @param {WebAssembly.Instance} instance */
-  constructor(instance) {
-    this.#calls = instance.exports;
-    this.#memory = instance.exports.memory;
+  /**
+   * @param {WebAssembly.Module} module
+   * @param {WebAssembly.Instance} instance
+   */
+  constructor(module, instance) {
+    this.#module = module;
+    this.#begin(instance);
     this.#reserve(STRUCTS + FIRST_ANSWERS);
   }
 
-  // Makes room for a call. The room of an earlier one is used again, and not cleared.
+  #begin({ exports }) {
+    this.#calls = exports;
+    this.#memory = exports.memory;
+    this.#room = this.#size = 0;
+    this.#isWithin = false;
+  }
+
+  // Makes room for a call. The room of an earlier one is used again, and not cleared. A call that never came back, such as one
+  // for which the stack of JavaScript was too short, has left the module in its midst, so another one takes its place.
   #reserve(size) {
+    if (this.#isWithin) this.#begin(new Instance(this.#module));
     if (size > this.#size) {
-      if (this.#room) this.#calls.release(this.#room);
-      this.#size = 0;
-      this.#room = size > MOST_ROOM ? 0 : this.#calls.allocate(size) >>> 0;
-      if (!this.#room) throw new NoRoom("sdtool: no memory");
+      if (this.#room) this.#enter("release", listOf(this.#room));
+      this.#room = this.#size = 0;
+      const room = size > MOST_ROOM ? 0 : this.#enter("allocate", listOf(size)) >>> 0;
+      if (!room) throw new NoRoom("sdtool: no memory");
+      this.#room = room;
       this.#size = size;
     }
     this.#look();
+  }
+
+  // Every call of the module goes through here.
+  #enter(name, words) {
+    this.#isWithin = true;
+    const told = apply(this.#calls[name], undefined, words);
+    this.#isWithin = false;
+    return told;
   }
 
   // Looks at the memory anew where it has moved.
@@ -587,12 +611,12 @@ class Sdtool {
     }
   }
 
-  // Calls the module: the place of what it returns, the words, and the place and the size of its output where it has one.
+  // A call by its name: the place of what it returns, the words, and the place and the size of its output where it has one.
   #call(call, words, ...output) {
     const all = list();
     all[0] = this.#room;
     addAll(addAll(all, words), output);
-    apply(call, undefined, all);
+    this.#enter(call, all);
     this.#look();
   }
 
@@ -643,7 +667,7 @@ class Sdtool {
     outcome[PART_AT] = part;
     outcome[OTHER_PART_AT] = other;
     const places = this.#put(listOf(outcome, new Bytes(placeSize)), mostDescription);
-    this.#call(this.#calls.sdtool_describe, listOf(places[0], places[2]), places[4], mostDescription);
+    this.#call("sdtool_describe", listOf(places[0], places[2]), places[4], mostDescription);
     const sentence = this.#text(this.#at(places[4], this.#number(LENGTH_AT)));
     return cutText(sentence, indexIn(sentence, ": ") + 2);
   }
@@ -651,7 +675,7 @@ class Sdtool {
   // Where the first fault of a descriptor, or of a text under a domain, is; or null.
   #place(given, domain) {
     const isText = typeof given === "string", places = this.#put(isText ? listOf(given, domain) : listOf(given), 0);
-    this.#call(isText ? this.#calls.sdtool_sddl_place : this.#calls.sdtool_place, addAll(list(), places, 0, isText ? 4 : 2));
+    this.#call(isText ? "sdtool_sddl_place" : "sdtool_place", addAll(list(), places, 0, isText ? 4 : 2));
     if (this.#number(FAULT_AT) === OK) return null;
     const ace = this.#number(OF_ACE_AT), at = this.#number(OFFSET_AT), end = at + this.#number(RANGE_AT);
     const offset = isText ? unitsBefore(given, at) : at, size = (isText ? unitsBefore(given, end) : end) - offset;
@@ -662,7 +686,7 @@ class Sdtool {
   }
 
   #faultName(number) {
-    return this.#text(this.#answer(this.#calls.sdtool_fault_text, list(), listOf(number), SHORT_TEXT));
+    return this.#text(this.#answer("sdtool_fault_text", list(), listOf(number), SHORT_TEXT));
   }
 
   // A SID in binary, from its text or its bytes, which the call that gets it judges.
@@ -681,7 +705,7 @@ class Sdtool {
   // The SID of a text, the whole of which is the place of its fault.
   #sidOfText(text, domain, argument = null, entry = null) {
     try {
-      return this.#bytes(this.#calls.sdtool_sid_from_text, listOf(text, domain), list(), MOST_SID, list());
+      return this.#bytes("sdtool_sid_from_text", listOf(text, domain), list(), MOST_SID, list());
     } catch (fault) {
       if (!(fault instanceof Fault)) throw fault;
       const place = { part: null, ace: null, field: "sid", offset: 0, size: text.length };
@@ -690,15 +714,15 @@ class Sdtool {
   }
 
   version() {
-    return this.#text(this.#answer(this.#calls.sdtool_version, list(), list(), SHORT_TEXT));
+    return this.#text(this.#answer("sdtool_version", list(), list(), SHORT_TEXT));
   }
 
   toSddl(descriptor, options) {
-    return this.#print(this.#calls.sdtool_to_sddl, descriptor, options);
+    return this.#print("sdtool_to_sddl", descriptor, options);
   }
 
   explain(descriptor, options) {
-    return this.#print(this.#calls.sdtool_explain, descriptor, options);
+    return this.#print("sdtool_explain", descriptor, options);
   }
 
   #print(call, descriptor, options = {}) {
@@ -710,12 +734,12 @@ class Sdtool {
   fromSddl(text, options = {}) {
     // A longer text is too long in any case.
     const first = cutText(textOf(text, "text"), 0, MOST_TEXT + 1), domain = this.#domain(namedOf(options, DOMAIN, "options"));
-    return this.#bytes(this.#calls.sdtool_from_sddl, listOf(first, domain), list(), MOST_BYTES);
+    return this.#bytes("sdtool_from_sddl", listOf(first, domain), list(), MOST_BYTES);
   }
 
   normalize(descriptor) {
     const bytes = descriptorOf(descriptor, "descriptor");
-    return this.#bytes(this.#calls.sdtool_normalize, listOf(bytes), list(), min(lengthOf(bytes), MOST_BYTES));
+    return this.#bytes("sdtool_normalize", listOf(bytes), list(), min(lengthOf(bytes), MOST_BYTES));
   }
 
   // A copy of the bytes that a call gives.
@@ -772,7 +796,7 @@ class Sdtool {
     // Each SID has to be one by itself, so that none begins in another.
     for (let index = 0; index < count; index += 1) {
       const at = places[from + 2 * index], size = places[from + 2 * index + 1];
-      if (size > 0 && this.#calls.sdtool_sid_size(at, size) === size) continue;
+      if (size > 0 && this.#enter("sdtool_sid_size", listOf(at, size)) === size) continue;
       const isEnabled = index < enabled;
       throw new ArgumentFault("this is not exactly one SID in binary", isEnabled ? "sids" : "denyOnly",
                               isEnabled ? index : index - enabled);
@@ -804,7 +828,7 @@ class Sdtool {
     const bytes = descriptorOf(descriptor, "descriptor"), token = sidsOf(sids, "sids");
     const question = this.#question(token, namedOf(options, ASKED, "options"));
     const places = this.#put(addAll(listOf(bytes), question.inputs), 0);
-    this.#call(this.#calls.sdtool_check, addAll(listOf(places[0], places[1]), this.#ask(question, places, 2)));
+    this.#call("sdtool_check", addAll(listOf(places[0], places[1]), this.#ask(question, places, 2)));
     return this.#told(bytes);
   }
 
@@ -812,7 +836,7 @@ class Sdtool {
     const enabled = sidsOf(sids, "sids"), given = this.#token(enabled, namedOf(options, TOKEN, "options").denyOnly);
     const size = TOKEN_FRONT + TOKEN_SID * min(given.count, MOST_SIDS);
     const places = this.#put(given.inputs, 0, 4 * size), token = this.#room + STRUCTS;
-    this.#call(this.#calls.sdtool_token_read, this.#sidsAt(given, places, 0), token, size);
+    this.#call("sdtool_token_read", this.#sidsAt(given, places, 0), token, size);
     this.#judge();
     return this.#copyAt(token, 4 * this.#number(LENGTH_AT));
   }
@@ -823,7 +847,7 @@ class Sdtool {
     // The token is first, since it has to be where 4 divides.
     const places = this.#put(addAll(listOf(numbers, bytes), asked.inputs), 0);
     const words = addAll(listOf(places[2], places[3], places[0], places[1] >>> 2), places, 4, 8);
-    this.#call(this.#calls.sdtool_check_with, words, this.#request(asked));
+    this.#call("sdtool_check_with", words, this.#request(asked));
     return this.#told(bytes);
   }
 
@@ -832,7 +856,7 @@ class Sdtool {
     const question = this.#question(token, namedOf(options, ASKERS, "options"), true);
     const places = this.#put(addAll(listOf(bytes), question.inputs), 0, REASON_SIZE * RIGHTS);
     const words = addAll(listOf(places[0], places[1]), this.#ask(question, places, 2));
-    this.#call(this.#calls.sdtool_reasons, words, this.#room + STRUCTS);
+    this.#call("sdtool_reasons", words, this.#room + STRUCTS);
     return this.#reasons(bytes);
   }
 
@@ -841,7 +865,7 @@ class Sdtool {
     const asker = this.#asker(namedOf(options, ASKER, "options"));
     const places = this.#put(addAll(listOf(numbers, bytes), asker.inputs), 0, REASON_SIZE * RIGHTS);
     const words = addAll(listOf(places[2], places[3], places[0], places[1] >>> 2), places, 4, 8);
-    this.#call(this.#calls.sdtool_reasons_with, words, this.#request(asker), this.#room + STRUCTS);
+    this.#call("sdtool_reasons_with", words, this.#request(asker), this.#room + STRUCTS);
     return this.#reasons(bytes);
   }
 
@@ -865,7 +889,7 @@ class Sdtool {
   #acesAt(bytes, acl, wanted) {
     if (wanted.length === 0) return wanted;
     const places = this.#put(listOf(bytes), 0);
-    this.#call(this.#calls.sdtool_parts, listOf(places[0], places[1]));
+    this.#call("sdtool_parts", listOf(places[0], places[1]));
     const { offset, size } = this.#foundAcl(acl);
     return this.#walk(places[0] + offset, size, wanted);
   }
@@ -894,7 +918,7 @@ class Sdtool {
     for (let index = 0; index < 2 * count; index += 1)
       setU32(this.#view, this.#room + STRUCTS + 4 * index, places[index], true);
     const words = addAll(listOf(this.#room + STRUCTS, count), asked);
-    this.#call(this.#calls.sdtool_check_many, words, this.#room + verdicts, count);
+    this.#call("sdtool_check_many", words, this.#room + verdicts, count);
     this.#judge();
     const found = mapped(descriptors, (_, index) => {
       const at = verdicts + VERDICT_SIZE * index, fault = this.#number(at + FAULT_AT);
@@ -915,7 +939,7 @@ class Sdtool {
 
   derive(parent, owner, group, options = {}) {
     const { inputs, numbers } = this.#derivation(parent, owner, group, options);
-    return this.#bytes(this.#calls.sdtool_derive, inputs, numbers, MOST_BYTES);
+    return this.#bytes("sdtool_derive", inputs, numbers, MOST_BYTES);
   }
 
   origins(parent, owner, group, options = {}) {
@@ -923,7 +947,7 @@ class Sdtool {
     const size = ORIGIN_SIZE * MOST_DERIVED_ACES, places = this.#put(inputs, 0, 2 * size);
     const sacl = this.#room + STRUCTS, dacl = sacl + size;
     const words = addAll(addAll(list(), places, 0, 8), numbers);
-    this.#call(this.#calls.sdtool_derive_origins, words, sacl, MOST_DERIVED_ACES, dacl, MOST_DERIVED_ACES);
+    this.#call("sdtool_derive_origins", words, sacl, MOST_DERIVED_ACES, dacl, MOST_DERIVED_ACES);
     this.#judge();
     const told = listOf(this.#origins(sacl, SACL_COUNT_AT), this.#origins(dacl, DACL_COUNT_AT));
     // The call that finds the ACEs takes the room.
@@ -954,12 +978,12 @@ class Sdtool {
   sidToText(sid, options = {}) {
     const bytes = bytesOf(sid, MOST_SID + 1, "sid"), asked = namedOf(options, PRINTING, "options");
     const inputs = listOf(bytes, this.#domain(asked));
-    return this.#text(this.#answer(this.#calls.sdtool_sid_to_text, inputs, listOf(asked.numeric ?? 0), MOST_SID_TEXT));
+    return this.#text(this.#answer("sdtool_sid_to_text", inputs, listOf(asked.numeric ?? 0), MOST_SID_TEXT));
   }
 
   sidSize(bytes) {
     const places = this.#put(listOf(bytesOf(bytes, MOST_SID, "bytes")), 0);
-    return this.#calls.sdtool_sid_size(places[0], places[1]);
+    return this.#enter("sdtool_sid_size", listOf(places[0], places[1]));
   }
 
   parts(descriptor) {
@@ -968,7 +992,7 @@ class Sdtool {
 
   #parts(bytes) {
     const places = this.#put(listOf(bytes), 0), at = places[0];
-    this.#call(this.#calls.sdtool_parts, listOf(at, places[1]));
+    this.#call("sdtool_parts", listOf(at, places[1]));
     this.#judge(bytes);
     const control = getU16(this.#view, this.#room + CONTROL_AT, true);
     const resourceManager = getU8(this.#view, this.#room + MANAGER_AT);
@@ -997,7 +1021,7 @@ class Sdtool {
     const found = list();
     fillBytes(this.#at(this.#room, ACE_SIZE), 0);
     for (let place = 0; wanted === null || place < wanted.length; place += 1) {
-      if (!this.#calls.sdtool_next_ace(at, size, this.#room)) break;
+      if (!this.#enter("sdtool_next_ace", listOf(at, size, this.#room))) break;
       if (wanted === null || wanted[place] === true) found[place] = this.#ace(at);
     }
     const fault = this.#number(FAULT_AT);
@@ -1023,7 +1047,7 @@ class Sdtool {
     const aces = addAll(addAll(list(), sacl.aces), dacl.aces);
     for (let size = FIRST_ANSWERS;;) {
       const output = this.#putParts(inputs, listOf(sacl, dacl), aces, { control, resourceManager }, size);
-      this.#call(this.#calls.sdtool_build, listOf(this.#room + STRUCTS), output, size);
+      this.#call("sdtool_build", listOf(this.#room + STRUCTS), output, size);
       const fault = this.#number(FAULT_AT), length = this.#number(LENGTH_AT);
       if (fault === OK) return this.#copyAt(output, length);
       if (fault !== TOO_SMALL) this.#refuse(fault);
@@ -1081,7 +1105,7 @@ class Sdtool {
     let size = FIRST_ANSWERS + 4 * lengthOf(given);
     for (;;) {
       const places = this.#put(listOf(spelled, given), size + MOST_MESSAGE), output = places[4], message = output + size;
-      this.#call(this.#calls.sdtool_run, addAll(list(), places, 0, 4), output, size, message, MOST_MESSAGE);
+      this.#call("sdtool_run", addAll(list(), places, 0, 4), output, size, message, MOST_MESSAGE);
       const status = this.#number(0), length = this.#number(4), said = this.#number(8);
       if (status === STATUS_NO_MEMORY) throw new NoRoom("sdtool: no memory");
       // Help that was cut ends with 0.
@@ -1156,5 +1180,6 @@ async function moduleOf(source) {
 
 /** Loads the library: from the file beside this module, or from bytes, a URL or a compiled module. */
 export async function load(source) {
-  return new Sdtool(await WebAssembly.instantiate(await moduleOf(source)));
+  const module = await moduleOf(source);
+  return new Sdtool(module, await WebAssembly.instantiate(module));
 }

@@ -449,6 +449,21 @@ add(thrown(() => sdtool.run(["convert"], huge)) instanceof RangeError,
     "an input that the memory does not hold with its answers");
 add(sdtool.toSddl(OF_USERS) === "O:BAD:(A;;FR;;;BU)", "a call after that");
 
+// Calls where the stack of JavaScript has ever more room, until one comes back. Those that it ends in the midst of the module
+// cost no later one.
+function atTheEnd(call) {
+  try {
+    return atTheEnd(call);
+  } catch {
+    return call();
+  }
+}
+const atEnds = new Set(), line = new TextEncoder().encode("O:BAD:(A;;FR;;;BU)\n");
+for (let round = 0; round < 10; round += 1)
+  atEnds.add(atTheEnd(() => String(sdtool.run(["convert", "--from", "sddl", "--to", "hex"], line).output)));
+add(atEnds.size === 1, "calls at the end of the stack");
+add(sdtool.toSddl(OF_USERS) === "O:BAD:(A;;FR;;;BU)", "a call behind them");
+
 add(hasVectors() === true, "hasVectors");
 // Each source that load takes, and some that are none.
 const file = new URL("sdtool.wasm", address), data = readFileSync(file);
