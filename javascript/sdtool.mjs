@@ -341,11 +341,13 @@ function kindOf(value, argument) {
 const isObject = (value) => (typeof value === "object" && value !== null) || typeof value === "function";
 
 // What an object has for a name that one of its levels has. A proxy can say two things at once, and then neither is believed;
-// one that puts another proxy around an object says the same.
+// one that puts another proxy around an object says the same. A getter that was read before can have taken the name away.
 function readOf(object, level, name) {
-  const own = getOwnPropertyDescriptor(level, name), value = get(object, name);
-  const isTwo = own !== undefined && hasOwn(own, "value") && own.value !== value && !(isObject(own.value) && isObject(value));
-  if (isTwo && !(own.value !== own.value && value !== value)) throw new Error("this says two things");
+  const own = getOwnPropertyDescriptor(level, name);
+  if (own === undefined) throw new Error("this is gone");
+  if (!hasOwn(own, "value")) return get(level, name, object);
+  const value = get(object, name), isSame = own.value === value || (own.value !== own.value && value !== value);
+  if (!isSame && !(isObject(own.value) && isObject(value))) throw new Error("this says two things");
   return value;
 }
 
