@@ -445,7 +445,7 @@ function refuseOfAce(name, argument, entry) {
 
 // What an object may have: the door of each name. Those of a part of a descriptor are told which part and which ACE it is, and
 // those of options their names.
-function namesFor(doors, { isPart = false, isNone = "this is no object of options", refuse = refuseOption } = {}) {
+function namesFor(doors, isNone = "this is no object of options", isPart = false, refuse = refuseOption) {
   return { doors: setPrototypeOf(doors, null), names: ownKeys(doors), isPart, isNone, refuse };
 }
 
@@ -493,13 +493,13 @@ const TOKEN = namesFor({ ...ofToken }), REQUESTED = namesFor({ ...ofRequest }), 
 const ASKER = namesFor({ ...ofAsker }), ASKERS = namesFor({ ...ofAsker, ...ofToken });
 const DERIVED = namesFor({ kind: optional(kindOf), creator: optional(creatorOf), mapping: optional(mappingOf) });
 const ACL = namesFor({ state: stateOf, aces: optional(acesOf) },
-                     { isPart: true, isNone: 'this is neither an array of ACEs nor { state: "absent" }, "null" or "list"' });
+                     'this is neither an array of ACEs nor { state: "absent" }, "null" or "list"', true);
 const ACE = namesFor({ kind: byteOf, flags: byteOf, mask: numberOf, sid: sidOf, objectType: nullable(guidOf),
                        inheritedObjectType: nullable(guidOf) },
-                     { isPart: true, isNone: "this is no ACE", refuse: refuseOfAce });
+                     "this is no ACE", true, refuseOfAce);
 // That an ACL is absent has to be said, or its name left out: what a lost ACL would grant is everything.
 const BUILT = namesFor({ owner: nullable(sidOf), group: nullable(sidOf), control: optional(wordOf),
-                         resourceManager: optional(byteOf), sacl: aclOf, dacl: aclOf }, { isNone: "this is no object of parts" });
+                         resourceManager: optional(byteOf), sacl: aclOf, dacl: aclOf }, "this is no object of parts");
 
 const NO_ACL = { state: STATES.absent, aces: list() };
 

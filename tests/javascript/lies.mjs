@@ -4,6 +4,7 @@
 // one thing and be another, beside the plain argument that means the same. The answer has to be that of the plain one, or the
 // argument is refused, by an ArgumentFault. Of a lie that leaves no doubt what is meant the answer has to be the same. Then the
 // plain calls again, with prototypes that somebody has changed: no answer may change. The last line is 'N passed, M failed'.
+import { readFileSync } from "node:fs";
 import { pathToFileURL } from "node:url";
 import { types } from "node:util";
 import vm from "node:vm";
@@ -161,6 +162,18 @@ function liesOfNames(value) {
   for (const name of names) Object.defineProperty(Names.prototype, name, { get: () => value[name], configurable: true });
   class Below extends Names {}
   const swapping = (other) => each((one) => changing(one, other));
+  // Each getter takes all other names away, or the prototype that they are in.
+  const dropping = () => {
+    const found = {};
+    for (const name of names)
+      own(found, { [name]: { get: () => { names.forEach((other) => other === name || delete found[other]); return value[name]; }, configurable: true } });
+    return found;
+  };
+  const cutting = () => {
+    const found = Object.create(Object.create(dropping()));
+    const name = names[0], get = () => { Object.setPrototypeOf(found, null); return value[name]; };
+    return names.length > 0 ? own(found, { [name]: { get, configurable: true } }) : found;
+  };
   return [
     same(Object.create(value)), same(middle(value)), same(Object.freeze({ ...value })), same(new Names()), same(new Below()),
     same(Object.assign(Object.create(null), value)), same(Object.create(Object.assign(Object.create(null), value))),
@@ -174,7 +187,7 @@ function liesOfNames(value) {
     same(Object.create(new Proxy(value, { ownKeys: () => [], getOwnPropertyDescriptor: () => undefined }))),
     same(names.reduce((below, name) => Object.assign(Object.create(below), { [name]: value[name] }), {})),
     same(own({ ...value }, { constructor: undefined && hidden(0) } && {})),
-    any(own({ ...value }, { constructor: hidden(5) })), any(own({ ...value }, { __proto__: null })),
+    any(dropping()), any(cutting()), any(own({ ...value }, { constructor: hidden(5) })), any(own({ ...value }, { __proto__: null })),
     any({ ...value, valueOf: () => ({}) }), any({ ...value, toJSON: () => ({}) }), any({ ...value, [Symbol("x")]: 1 }),
     any(own({ ...value }, { hidden: hidden(1) })), any(Object.assign(Object.create({ unknown: 1 }), value)),
     any(Object.assign(Object.create(own({}, { unknown: hidden(1) })), value)),
@@ -399,6 +412,25 @@ for (const { owner, name, descriptor } of POISONS) {
   found.forEach((one, index) => add(told(one) === PLAIN[index],
     `${ALL[index][0]} ${index} with another ${String(name)} of ${owner?.constructor?.name}: ${told(one)}, not ${PLAIN[index]}`));
 }
+
+// Names that each object has while the module begins, of all that it leaves to a default: no answer may change either.
+const file = new URL("sdtool.mjs", pathToFileURL(`${folder}/`));
+const names = new Set(Array.from(readFileSync(file, "utf8").matchAll(/[{,]\s+(\w+) = /g), ([, name]) => name));
+for (const name of names) defineProperty(Object.prototype, name, { value: () => true, configurable: true, writable: true });
+const { load: loadAmongThem, ...classes } = await import(`${file}?among-names`);
+const among = await loadAmongThem(readFileSync(new URL("sdtool.wasm", file)));
+for (const name of names) deleteProperty(Object.prototype, name);
+const messageOf = (library, call, given) => {
+  try {
+    const answer = library[call](...given);
+    return call === "checkMany" ? answer.map((one) => one.message ?? spelled(one)).join() : spelled(answer);
+  } catch (fault) {
+    return `${fault.constructor.name} ${fault.message}`;
+  }
+};
+add(names.size > 20 && classes.ArgumentFault !== ArgumentFault, "the module is read anew, among names");
+for (const [call, make] of ALL)
+  add(messageOf(among, call, make()) === messageOf(sdtool, call, make()), `${call} of a module that was read among names`);
 
 console.log(`${passed} passed, ${failed} failed`);
 process.exitCode = failed === 0 ? 0 : 1;
