@@ -200,11 +200,12 @@ def test_packed(count, place):
     named = [f"bad/{name}" for name in [*bad, "other.tgz", "a.tar", "zip", "seven", "tar"]]
     judge(count, place, "damaged files", got, out, {"good": "bad/good"}, named)
     place.write("frame.zst", b"\x28\xb5\x2f\xfd" + plain)
+    place.write("skipped", b"\x50\x2aM\x18\4\0\0\0data\x28\xb5\x2f\xfd" + plain)  # RFC 8878, 3.1.2
     place.write("hidden/zstandard/__init__.py", b"raise ImportError('not here')")
     out = place.out()
     python = {"PYTHONPATH": f"{place.folder}/hidden:{place.modules}"}
-    got = place.run(out, ["convert"], ["frame.zst", "plain"], ["--retries", "0"], python)
-    judge(count, place, "zstd without its package", got, out, {"plain": "plain"}, ["frame.zst"])
+    got = place.run(out, ["convert"], ["frame.zst", "skipped", "plain"], ["--retries", "0"], python)
+    judge(count, place, "zstd without its package", got, out, {"plain": "plain"}, ["frame.zst", "skipped"])
     count.add("python3-zstandard" in got.stderr, f"the package is named: {got}")
 
 

@@ -2,11 +2,12 @@
 import bz2
 import lzma
 import zlib
-from typing import IO, Any, Callable, Dict, Iterator, NamedTuple, Optional
+from typing import IO, Any, Callable, Dict, Iterator, NamedTuple, Optional, Tuple
 
 PIECE = 1 << 12  # bytes, which may become 32,000 times as long
 # How files begin that nothing here reads: zip, 7z, rar, lz4, lzip, lzop, compress.
-OTHER_BEGINNINGS = (b"PK\3\4", b"PK\5\6", b"7z\xbc\xaf\x27\x1c", b"Rar!\x1a\7", b"\4\x22M\x18", b"LZIP", b"\x89LZO", b"\x1f\x9d")
+OTHER_BEGINNINGS = (b"PK\3\4", b"PK\5\6", b"7z\xbc\xaf\x27\x1c", b"Rar!\x1a\7", b"\4\x22M\x18", b"\2\x21L\x18", b"LZIP",
+                    b"\x89LZO", b"\x1f\x9d")
 OTHER_SUFFIXES = (".zip", ".7z", ".rar", ".lz4", ".lz", ".lzo", ".lzma", ".z", ".br", ".sz", ".snappy", ".zz", ".tar", ".tgz",
                   ".tbz", ".tbz2", ".txz", ".tzst")
 TAR_AT, TAR = 257, b"ustar"  # where the header of a tar archive says what it is
@@ -23,16 +24,18 @@ def _zstd() -> Any:
 
 class Kind(NamedTuple):
     suffix: str
-    beginning: bytes
+    beginnings: Tuple[bytes, ...]
     open: Callable[[], Any]  # gives an object that decompresses one stream
     is_padded: bool  # whether zeros may follow a stream
 
 
+# How a frame of zstd without data begins, which may come first. One of lz4 does too, and what follows it is no zstd.
+SKIPPED = [bytes([first, *b"\x2aM\x18"]) for first in range(0x50, 0x60)]
 KINDS: Dict[str, Kind] = {
-    "gzip": Kind(".gz", b"\x1f\x8b", lambda: zlib.decompressobj(31), True),  # 31: with gzip's header and checksum
-    "bzip2": Kind(".bz2", b"BZh", bz2.BZ2Decompressor, False),
-    "xz": Kind(".xz", b"\xfd7zXZ\0", lambda: lzma.LZMADecompressor(lzma.FORMAT_XZ), True),
-    "zstd": Kind(".zst", b"\x28\xb5\x2f\xfd", _zstd, False),
+    "gzip": Kind(".gz", (b"\x1f\x8b",), lambda: zlib.decompressobj(31), True),  # 31: with gzip's header and checksum
+    "bzip2": Kind(".bz2", (b"BZh",), bz2.BZ2Decompressor, False),
+    "xz": Kind(".xz", (b"\xfd7zXZ\0",), lambda: lzma.LZMADecompressor(lzma.FORMAT_XZ), True),
+    "zstd": Kind(".zst", (b"\x28\xb5\x2f\xfd", *SKIPPED), _zstd, False),
 }
 
 
@@ -48,7 +51,7 @@ def kind_of(name: str, beginning: bytes) -> Optional[str]:
             return name
     if beginning.startswith(OTHER_BEGINNINGS) or beginning[TAR_AT:].startswith(TAR):
         raise ValueError("is compressed in a way that is not read here, by its first bytes")
-    return next((name for name, kind in KINDS.items() if beginning.startswith(kind.beginning)), None)
+    return next((name for name, kind in KINDS.items() if beginning.startswith(kind.beginnings)), None)
 
 
 def name_without_suffix(name: str, kind: Optional[str]) -> str:
