@@ -285,6 +285,20 @@ def test_files_of_others(count, place):
         judge(count, place, f"a file where a folder of answers has to be, {options}", got, out, {"y": "d/y"}, ["d/sub/x"], answers=answers)
 
 
+def test_file_that_comes(count, place):
+    """A file that somebody puts at the place of answers while they are made stays there."""
+    place.write("x", LINE * 300)
+    address, _ = place.cluster(place.patched("waits", WAITS))
+    place.hold()
+    out = place.out()
+    child = place.start_run(out, ["convert"], ["x"], ["--scheduler", address, "--block", "1500", "--retries", "0"])
+    wait_until(child, lambda: has_parts(out / "_sdtool/inputs/x"), "a part")
+    (out / "x").write_text("mine")
+    place.go()
+    judge(count, place, "a file that comes", runs.ended(child), out, {}, ["x"], answers={})
+    count.add((out / "x").read_text() == "mine", "the file that came is kept")
+
+
 def test_records(count, place):
     """Records that somebody has changed, and ones of another type."""
     place.write("x", LINE * 40 + b"zz\n")
@@ -728,7 +742,7 @@ def test_many(count, place):
 
 GROUPS = {
     "inputs": (test_no_inputs, test_closed_folders, test_names_of_runs, test_packed, test_words),
-    "others": (test_parts, test_files_of_others, test_records, test_touched),
+    "others": (test_parts, test_files_of_others, test_file_that_comes, test_records, test_touched),
     "workers": (test_other_modules, test_failing_worker, test_killed_worker, test_hopes, test_file_limit, test_deadly_input,
                 test_restart),
     "lost": (test_hanging, test_gone_output, test_many),

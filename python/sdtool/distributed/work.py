@@ -373,6 +373,9 @@ class Work:
         if self.is_parts:
             self.write_record(manifest, record)
         elif blocks != placed or self.place.fs.info(given.answers)["size"] != total["bytes"]:
+            problem = self.place.problem_of(given, self.is_parts)  # which may have come since the run began
+            if problem:
+                raise OSError(f"it {problem}")
             with self.written(given.answers) as file:
                 for block in blocks:
                     if self.copy_or_none(block, file.write) != block["digest"]:
