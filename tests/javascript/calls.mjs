@@ -116,7 +116,7 @@ const derive = (words) => `${hex(sdtool.derive(...derivation(words)))}\n`;
 // Where each ACE comes from, as ../c/calls.c prints it, each with the ACE that parts has at its place.
 function origins(words) {
   const asked = derivation(words), found = sdtool.origins(...asked), creator = asked[3].creator;
-  const parents = sdtool.parts(asked[0]), creators = creator.length > 0 ? sdtool.parts(creator) : null;
+  const parents = sdtool.parts(asked[0]), creators = creator === undefined ? null : sdtool.parts(creator);
   return `${["sacl", "dacl"].map((name) => name + found[name].map(({ fromCreator, place, inheritOnly, ace }) => {
     const listed = (fromCreator ? creators : parents)[name].aces[place];
     if (JSON.stringify(listed) !== JSON.stringify(ace)) throw new Error("another ACE");
