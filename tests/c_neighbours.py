@@ -19,7 +19,6 @@ It needs a C compiler. The last line is 'N passed, M failed'.
 """
 import ctypes
 import itertools
-import os
 import pathlib
 import re
 import subprocess

@@ -11,7 +11,6 @@ It needs a C compiler. The last line is 'N passed, M failed'.
 """
 import argparse
 import collections
-import ctypes
 import pathlib
 import random
 import subprocess

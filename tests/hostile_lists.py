@@ -314,7 +314,7 @@ def damaged(lists):
     lists.refused("icacls", f"a\nb\n{sddl[4:]}\n".encode(), "a line is missing")
     lists.refused("icacls", f"a\n{sddl[4:]}\n{sddl[4:]}\n".encode(), "a line too many")
     lists.refused("json", json_of([Row("a", good)])[:-5].encode(), "the end is cut off")
-    lists.refused("ldif", f"dn: a\nnTSecurityDescriptor\n".encode(), "a line without a colon")
+    lists.refused("ldif", b"dn: a\nnTSecurityDescriptor\n", "a line without a colon")
     lists.refused("ldif", b"dn: a\n\nsearch: 2\nresult: 4 Size limit exceeded\n", "a search that did not end")
     lists.refused("reg", b'[KEY]\n"a"=hex:00\n', "the head is missing")
     stream = (EXAMPLES / "secure.sds").read_bytes()

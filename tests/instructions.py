@@ -19,7 +19,6 @@ import concurrent.futures
 import importlib.machinery
 import importlib.util
 import itertools
-import os
 import pathlib
 import re
 import shutil

@@ -31,7 +31,7 @@ import weakref
 if "--without-extension" in sys.argv:
     sys.modules["sdtool._native"] = None
 import sdtool  # noqa: E402
-from sdtool import Ace, AceFlags, AceKind, Acl, Checker, Control, FileMask, SecurityDescriptor, Sid, Token  # noqa: E402
+from sdtool import Ace, AceFlags, AceKind, Acl, Checker, FileMask, SecurityDescriptor, Sid, Token  # noqa: E402
 
 # From MS-DTYP 2.4.2: Users, Authenticated Users, Administrators, Everyone, System, and a domain.
 BU, BA = bytes.fromhex("01020000000000052000000021020000"), bytes.fromhex("01020000000000052000000020020000")
