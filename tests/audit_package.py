@@ -23,7 +23,7 @@ PACKAGE = TOP / "python/sdtool/audit"
 MODULES = sorted(PACKAGE.rglob("*.py"))
 # Options of the program sdtool and of other programs, which messages may name.
 OF_OTHERS = {"--from", "--to", "--numeric", "--kind", "--owner", "--group", "--token", "--want", "--maximum", "--level", "--object",
-             "--self", "--type", "--domain", "--user-sids", "--help"}
+             "--self", "--type", "--domain", "--user-sids", "--help", "--show-binary"}
 # Takes away what Windows lacks, and starts the command.
 WITHOUT = """
 import multiprocessing, os, signal, sys

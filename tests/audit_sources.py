@@ -25,6 +25,7 @@ import sys
 import tarfile
 import tempfile
 import threading
+import time
 import zipfile
 from typing import Callable, Dict, List, NamedTuple, Optional, Sequence, Tuple
 
@@ -36,6 +37,8 @@ TOP = pathlib.Path(__file__).resolve().parent.parent
 READ, UNKNOWN = "read", "unknown"
 DOMAIN = "S-1-5-21-1-2-3"
 DAMAGES = 60  # of each kind, for each format
+LONG = 20_000  # characters
+MOST_SECONDS = 1.5  # of the processor, to read a list with such a text; lists of 20,000 lines take a third of that
 
 
 class Object(NamedTuple):
@@ -963,6 +966,20 @@ def test_encodings(place: Place) -> None:
     place.says("a line that is too long", f"a\t{FR}\nb\t{FR}" + "x" * (9 << 20) + f"\nc\t{FR}\n", 0, reads=3)
 
 
+def test_long(place: Place) -> None:
+    """No reader takes longer for each character of a text the longer that is: all read a text that goes on in one way for long."""
+    for name, made in MADE.items():
+        text = "".join(part.text for part in made.make(5))
+        line = line_starts(text)[len(line_starts(text)) // 2]
+        places = {0, line + 1, text.find(",", line) + 2, text.find("\"", line) + 2, len(text) // 2}
+        for unit in (" ", "\"", "\\\"", "O:", ",", "\\", "(", "a: ", "\n"):
+            for at in sorted(places):
+                began = time.process_time()
+                found = place.read(text[:at] + unit * (LONG // len(unit)) + "x" + text[at:])
+                place.count.add(time.process_time() - began < MOST_SECONDS and not found.fault,
+                                f"{name}, {unit!r} from {at} on: {time.process_time() - began:.1f} seconds {found.fault}")
+
+
 def test_pipes(place: Place) -> None:
     """A pipe is opened once, and no byte of it is lost."""
     from sdtool.audit.sources import reading
@@ -1146,7 +1163,7 @@ def test_help(place: Place) -> None:
 
 
 TESTS = (test_whole, test_damage, test_damaged_bytes, test_volume, test_bytes, test_titles, test_twice, test_others, test_dumps, test_registry, test_archives, test_json, test_layouts, test_json_behind_damage,
-         test_ldif, test_spellings, test_more, test_looks, test_encodings, test_pipes, test_jobs, test_parts, test_help)
+         test_ldif, test_spellings, test_more, test_looks, test_encodings, test_long, test_pipes, test_jobs, test_parts, test_help)
 
 
 def main() -> int:

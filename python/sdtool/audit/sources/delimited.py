@@ -29,7 +29,8 @@ _DELIMITER_LINE = re.compile(r'"?sep=([^"\r\n])"?\r?\Z', re.I)
 _TYPE_LINE = re.compile(r'"?#TYPE [^\s,;|"]+"?\s*\Z', re.I)
 _BLANK, _TITLES, _HEAD = "blank lines before the first row and behind the last", "the row of titles, also again", \
     "a line '#TYPE ..' or 'sep=..' before it"
-_DESCRIPTOR_INSIDE = re.compile(r"[OGDS]:(?![\\/])[^,\t|]*\(|01[0-9a-f]{38}|A[Q-Za-f][A-Za-z0-9+/]{25}", re.I)
+_SDDL_INSIDE = re.compile(r"[OGDS]:(?![\\/])", re.I)
+_BYTES_INSIDE = re.compile(r"01[0-9a-f]{38}|A[Q-Za-f][A-Za-z0-9+/]{25}", re.I)
 READ_AS = "; read as csv"
 _MAY_BE_TITLES = "if this row has titles, say --header"
 
@@ -154,9 +155,18 @@ def _sample_rows(sample: List[str], delimiter: str, quotes: bool = True) -> List
     return [record[1] for record in found if record[1]]
 
 
+def _has_descriptor(line: str) -> bool:
+    """Whether a descriptor may stand in a line. A text of SDDL has a parenthesis behind its first part, in the same cell."""
+    for cell in re.split(r"[,\t|]", line) if "(" in line else ():
+        found = _SDDL_INSIDE.search(cell)
+        if found and cell.rfind("(") >= found.end():
+            return True
+    return bool(_BYTES_INSIDE.search(line))
+
+
 def _sample_of(lines: List[str]) -> List[str]:
     """The first lines, as many as it takes to meet one with a descriptor."""
-    at = next((at for at, line in enumerate(lines) if _DESCRIPTOR_INSIDE.search(line)), _SAMPLE_LINES)
+    at = next((at for at, line in enumerate(lines) if _has_descriptor(line)), _SAMPLE_LINES)
     return lines[:max(_SAMPLE_LINES, at + 1)]
 
 

@@ -561,10 +561,9 @@ def _damaged_item(label: str, line: int, last: int, name: str, reason: object) -
     return unreadable(name or place, label, line, f"the JSON is cut or damaged: {reason}", _AGAIN)
 
 
-_NAMED = re.compile(r'"((?:[^"\\\n]|\\.)*)"[ \t]*:[ \t]*("(?:[^"\\\n]|\\.)*")')
-
-
-_KEY = re.compile(r'"((?:[^"\\\n]|\\.)*)"[ \t]*:')
+# A quotation mark behind a backslash begins no text. So no character is looked at again for each mark before it.
+_NAMED = re.compile(r'(?<!\\)"((?:[^"\\\n]|\\.)*)"[ \t]*:[ \t]*("(?:[^"\\\n]|\\.)*")')
+_KEY = re.compile(r'(?<!\\)"((?:[^"\\\n]|\\.)*)"[ \t]*:')
 
 
 def _key_in(text: str) -> str:

@@ -115,7 +115,8 @@ def _format_of(look: Look, options: SourceOptions) -> Format:
 
 def _check_words(look: Look, label: str, options: SourceOptions) -> None:
     """Refuses words that name a column which the first table of a file doesn't have."""
-    layout = delimited.layout_of([line + "\r" if look.text.count("\r\n") else line for line in look.lines], label, options)
+    end = "\r" if "\r\n" in look.text else ""
+    layout = delimited.layout_of([line + end for line in look.lines], label, options)
     if layout.columns.is_words:
         raise OpeningFault(f"{label}: {layout.columns.reason}; {layout.columns.help}")
 

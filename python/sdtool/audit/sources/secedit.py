@@ -11,7 +11,7 @@ _OTHERS = {"unicode", "version", "profile description", "system access", "event 
            "kerberos policy", "application log", "security log", "system log", "group membership", "strings"}
 _TITLE = re.compile(r"\s*\[([^\[\]]*)\]\s*\Z")
 _SETTING = re.compile(r'\s*[^\s",=][^",=]*=')
-_FIELD = re.compile(r'[ \t]*(?:"((?:[^"]|"")*)"|((?:[^",\s][^,]*?)?))[ \t]*(,|\Z)')
+_FIELD = re.compile(r'[ \t]*(?:"((?:[^"]|"")*)"|((?:[^",\s](?:[^,]*[^,\s])?)?))[ \t]*(,|\Z)')
 _BLANK, _COMMENT, _SECTION, _OTHER = "a blank line", "a comment", "the title of a section", "a setting (name = value)"
 _AGAIN = "run secedit /export again"
 
