@@ -189,3 +189,13 @@ def test_filter_of_type(count, page, _):
     page.call("bigFile", {"data": base64.b64encode(piece).decode(), "times": 1, "isShort": True})
     kept = page.do("await lastOfFilter('change'); return Array.from(document.querySelectorAll('table.lines tbody th'), (one) => one.textContent);")
     count.add(kept == ["2"], f"lines of a directory that Users may change: {kept}")
+    # Each command shows the type that the filter asks by. The kind of a pasted text is that of this text alone.
+    for text in ("\nD:(A;;CCDCLCSWRPWPDTLOCRRC;;;BU)", "channelAccess: O:BAG:SYD:(A;;0x7;;;BU)"):
+        page.see(text)
+        for command, kind, expected in (("convert", "ds", ["2"]), ("explain", "file", ["1", "3"]), ("check", "file", ["1", "3"])):
+            page.view("lines")
+            page.do("put('lines-command', given[0]); put('lines-from', 'sddl'); put('lines-type', given[1]);", command, kind)
+            page.call("bigFile", {"data": base64.b64encode(piece).decode(), "times": 1, "isShort": True})
+            kept = page.do("await lastOfFilter('change'); return Array.from(document.querySelectorAll('table.lines tbody th'), (one) => one.textContent);")
+            is_shown = page.do("return byId('lines-type').checkVisibility();")
+            count.add(kept == expected and is_shown, f"lines that Users may change, {command}, {kind}, beside {text!r}: {kept}")

@@ -4,16 +4,18 @@ import {FLAGS} from "./lines.mjs";
 import {visible} from "./naming.mjs";
 import {formatted, pagesBar} from "./parts_view.mjs";
 import {valueIn} from "./tables.mjs";
+import {changing} from "./warnings.mjs";
 import {say, WORDS} from "./words.mjs";
 
 const FORMS = ["hex", "base64", "sddl"];
 const TYPES = ["file", "key", "ds"];
+const TYPED = ["check", "derive"];
 const ROWS = 100;       // of a page of the table
 const MOST_SHOWN = 300; // characters of a cell
-// The options of each command: a list of values, 'flag', or 'text'.
+// The options of each command: a list of values, 'flag', or 'text'. Where a command has no type, a filter asks by it.
 const OPTIONS = {
-    convert: {from: FORMS, to: ["sddl", "hex", "base64"], domain: "text", numeric: "flag"},
-    explain: {from: FORMS, domain: "text", numeric: "flag"},
+    convert: {from: FORMS, to: ["sddl", "hex", "base64"], domain: "text", numeric: "flag", type: TYPES},
+    explain: {from: FORMS, domain: "text", numeric: "flag", type: TYPES},
     check: {
         from: FORMS,
         token: "text",
@@ -44,7 +46,7 @@ const OPTIONS = {
 export function wordsOf({command, options}) {
     return [
         command, ...Object.entries(valueIn(OPTIONS, command)).flatMap(([name, type]) => {
-            const value = options[name];
+            const value = name !== "type" || TYPED.includes(command) ? options[name] : "";
             if (type === "flag") {
                 return value ? [`--${name}`] : [];
             }
@@ -55,12 +57,9 @@ export function wordsOf({command, options}) {
     ];
 }
 
-function optionField(name, type, options, refresh) {
+function optionField(name, type, options) {
     const id = `lines-${name}`;
-    const set = (value) => {
-        options[name] = value;
-        refresh();
-    };
+    const set = (value) => { options[name] = value; };
     if (type === "flag") {
         return box(id, valueIn(WORDS.lines.options, name), Boolean(options[name]), set);
     }
@@ -72,15 +71,14 @@ function optionField(name, type, options, refresh) {
     return labelled(valueIn(WORDS.lines.options, name), input(id, options[name] ?? "", set));
 }
 
-function filtersOf({options, filterToken}, changeMask) {
+function filtersOf({options, filterToken}) {
     const from = options.from && options.from !== "hex" ? ["--from", options.from] : [];
     const domain = options.domain ? ["--domain", options.domain] : [];
-    const type = options.type && options.type !== "file" ? ["--type", options.type] : [];
     return {
         change: filterToken.trim() ?
-            ["check", ...from, ...domain, ...type, "--token", filterToken.trim(), "--maximum"] :
+            ["check", ...from, ...domain, "--type", options.type, "--token", filterToken.trim(), "--maximum"] :
             null,
-        changeMask,
+        changeMask: changing(options.type),
         explain: ["explain", ...from, ...domain],
     };
 }
@@ -155,9 +153,8 @@ class Run {
 }
 
 export class LinesView {
-    constructor(lines, {files, changeMask, onOpen, onCommand}) {
-        Object.assign(
-            this, {lines, files, changeMask, onOpen, onCommand, filter: "all", page: 0, file: null, run: null});
+    constructor(lines, {files, onOpen}) {
+        Object.assign(this, {lines, files, onOpen, filter: "all", page: 0, file: null, run: null});
     }
 
     make() {
@@ -189,7 +186,6 @@ export class LinesView {
         const setCommand = (command) => {
             this.lines.command = command;
             this.showOptions();
-            this.onCommand();
         };
         const setToken = (token) => { this.lines.filterToken = token; };
         return make("div", {class: "form"},
@@ -200,7 +196,7 @@ export class LinesView {
 
     showOptions() {
         const options = Object.entries(valueIn(OPTIONS, this.lines.command)).map(([name,
-            type]) => optionField(name, type, this.lines.options, this.onCommand));
+            type]) => optionField(name, type, this.lines.options));
         show(byId("lines-options"), options);
     }
 
@@ -229,9 +225,7 @@ export class LinesView {
         byId("lines-stop").disabled = false;
         byId("lines-save").disabled = true;
         const {run} = this;
-        const {type = TYPES[0]} = this.lines.options;
-        this.files.answerFile(
-            {file: this.file, words: wordsOf(this.lines), filters: filtersOf(this.lines, this.changeMask(type))},
+        this.files.answerFile({file: this.file, words: wordsOf(this.lines), filters: filtersOf(this.lines)},
             (message) => run === this.run && this.hear(message));
     }
 

@@ -14,12 +14,11 @@ import {faultInWords, ownNames, visible} from "./naming.mjs";
 import {commaed, descriptorField, isLarge, shortened} from "./parts_view.mjs";
 import {nameOfObject, objectWords, placeOfObject, ReportView} from "./report_view.mjs";
 import {showKindQuestion} from "./kind_view.mjs";
-import {isDirectory, mappingOf} from "./meanings.mjs";
+import {isDirectory} from "./meanings.mjs";
 import {knownGuids} from "./schema.mjs";
 import {addressOf, commandLine, takeAddress} from "./sharing.mjs";
 import {freshState} from "./state.mjs";
 import {valueIn} from "./tables.mjs";
-import {changing} from "./warnings.mjs";
 import {say, WORDS} from "./words.mjs";
 import {FileDesk, SECONDS_TO_ANSWER, serve, startDesk, TooSlow} from "./worker.mjs";
 
@@ -75,9 +74,7 @@ class Page {
         this.state.view = this.views[0];
         this.linesView = new LinesView(this.state.lines, {
             files: new FileDesk(source, bytes, isWorker),
-            changeMask: (type) => changing(mappingOf(this.state.kind) === type ? this.state.kind : type),
             onOpen: (text, form) => this.open(text, form),
-            onCommand: () => this.showCommand(),
         });
         this.unread = takeAddress(this.state, location.hash.slice(1));
         this.makeControls();
@@ -578,12 +575,6 @@ class Page {
             return;
         }
         this.copy(`${location.href.split("#")[0]}#${text}`, WORDS.linkWarning);
-    }
-
-    showCommand() {
-        if (byId("copied-command")) {
-            byId("copied-command").value = this.command();
-        }
     }
 
     command() {
