@@ -467,6 +467,39 @@ async function hostileField(...given) {
     return ended(began);
 }
 
+// What a view says of a text: whether it asks for the kind, what else it says, and the kind that is shown. Then what a copied
+// command has, and what the view says once a kind is chosen there.
+const answerOf = (view) => byId(view === "look" ? "view-look" : `${view}-result`);
+function said(view) {
+    const place = answerOf(view).cloneNode(true);
+    const question = place.querySelector("[data-kind]")?.closest("section");
+    question?.remove();
+    return {
+        asks: Boolean(question),
+        text: place.textContent,
+        kind: byId("kind").value,
+        boxes: byId("ask-rights").textContent,
+        isSeen: answerOf(view).checkVisibility({visibilityProperty: true})
+    };
+}
+
+async function openKind(...given) {
+    const [view, text, kind] = given;
+    byId("clear").click();
+    byId(`tab-${view}`).click();
+    await see(text);
+    const before = said(view);
+    const names = await namesAndLabels();
+    const faint = await contrast();
+    byId("copied").replaceChildren();
+    byId("share-command").click();
+    await until(() => byId("copied").textContent !== "");
+    const command = byId("copied-text")?.value ?? "";
+    answerOf(view).querySelector(`[data-kind=${kind}]`)?.click();
+    await until(isIdle);
+    return {before, command, after: said(view), names, faint, focus: document.activeElement.id};
+}
+
 // A worker that gets no question: it is silent, as one in an endless loop is.
 async function stopWorker(...given) {
     const {postMessage, terminate} = window.Worker.prototype;

@@ -99,6 +99,8 @@ TESTS = [
     page_texts.test_faults,
     page_texts.test_warnings,
     page_texts.test_kinds,
+    page_texts.test_open_kinds,
+    page_texts.test_kind_of_text,
     page_texts.test_guids,
     page_texts.test_wrong_texts,
     page_texts.test_hostile_texts,

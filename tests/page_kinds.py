@@ -30,6 +30,8 @@ TEXTS = [
     ("\n" + SERVICE, "service"),
     ("dn: CN=Ann,DC=example,DC=com\nnTSecurityDescriptor:: AQAEgBQA", "ds"),
     ("dn: CN=User,CN=Certificate Templates,CN=Public Key Services,CN=Services\nnTSecurityDescriptor:: AQAEgBQA", "template"),
+    ("CN=Ann,DC=example,DC=com", "ds"),
+    ("CN=User,CN=Certificate Templates,CN=Public Key Services,CN=Services", "template"),
     ("O:BAD:(OA;;CR;ab721a53-1e2f-11d0-9819-00aa0040529b;;WD)", "ds"),
     ("O:BAD:(A;;0x1;;;WD)(OA;CI;WP;;bf967aba-0de6-11d0-a285-00aa003049e2;AU)", "ds"),
     ("C:\\Data\\plan.txt O:BAG:SYD:(A;;FA;;;WD)", "folder"),

@@ -1,5 +1,5 @@
-// Asks the page's desk the questions that come as JSON, a list of {name, text, kind, more}, and prints its answers. Its argument
-// is the library, sdtool.mjs beside its sdtool.wasm.
+// Asks the page's desk the questions that come as JSON, a list of {name, text, kind, more}, and prints its answers. Without a
+// kind none is chosen, and an older text told another one. Its argument is the library, sdtool.mjs beside its sdtool.wasm.
 import fs from "node:fs";
 import {pathToFileURL} from "node:url";
 
@@ -10,11 +10,22 @@ const module = await import(pathToFileURL(place));
 const library = module.library ?? await module.load();
 const {questionOf} = await import(new URL("web/desk.mjs", TOP));
 const {freshState} = await import(new URL("web/state.mjs", TOP));
+const OLDER = "process";
 
 function answer({name, text, kind, more}) {
-    const state = {...freshState(), text, kind, isKindChosen: true};
-    const {ask, made} = state;
-    return questionOf(library, name, {state, asked: {...ask, ...more}, made: {...made, ...more}});
+    const fresh = freshState();
+    const state = {
+        ...fresh,
+        view: name,
+        text,
+        chosen: more.chosen ?? 0,
+        kind: kind ?? OLDER,
+        isKindChosen: kind !== null,
+        ask: {...fresh.ask, ...more},
+        made: {...fresh.made, ...more}
+    };
+    const about = {state, asked: state.ask, made: state.made, other: {...fresh.other, text: more.other ?? ""}};
+    return questionOf(library, name, name === "look" ? state : about);
 }
 
 process.stdout.write(JSON.stringify(JSON.parse(fs.readFileSync(0, "utf8")).map(answer)));

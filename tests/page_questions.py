@@ -2,11 +2,13 @@
 """page_questions.py
 
 Asks the page's desk, in Node over the module that `make wasm` builds, about kinds of objects for which the library has no mapping
-of generic rights and no words about levels: what is unknown is said to be, and nothing that is granted is left out. Expected
+of generic rights and no words about levels: what is unknown is said to be, and nothing that is granted is left out.
+Where nothing tells the kind, each view asks for it, and answers nothing that depends on it. Expected
 values are those of winnt.h, winspool.h and certadm.h. Without Node or the module it is skipped in a line. The last line is
 'N passed, M failed'.
 """
 import argparse
+import base64
 import json
 import os
 import pathlib
@@ -59,6 +61,80 @@ ROWS = [
     ("inherit", "key", "O:SYG:SYD:(A;CI;GA;;;BA)", {}, {"isMappingUnknown": None}),
 ]
 
+OF_USERS = "0102000000000005" "20000000" "21020000"
+FRONT = "01000480" "00000000" "00000000" "00000000" "14000000"
+IN_HEX = FRONT + "02002000" "01000000" "00001800" "02000000" + OF_USERS
+TYPED_IN_HEX = FRONT + "02003400" "01000000" "05002c00" "01000000" "01000000" "ba7a96bfe60dd011a28500aa003049e2" + OF_USERS
+SERVICE = "D:(A;;CCLCSWRPWPDTLOCRRC;;;SY)(A;;CCDCLCSWRPWPDTLOCRSDRCWDWO;;;BA)"
+# Texts that tell no kind, with rights that fit no file.
+OPEN = ["D:(A;;DC;;;BU)", "D:(A;OICI;DC;;;BU)", "O:BAG:SYD:(D;;LC;;;BU)(A;;RC;;;BU)", "C:\\Data D:(A;;DC;;;BU)", IN_HEX, SERVICE,
+        "x,\"D:(A;;DC;;;BU)\""]
+KEY, OTHER_KEY = "HKLM:\\X D:(A;;0x2;;;BU)", "D:(A;;KA;;;BU)"
+FOLDER = "O:BAG:SYD:(A;OICI;FA;;;BA)"
+TYPED = "O:BAD:(OA;;CC;bf967aba-0de6-11d0-a285-00aa003049e2;;AU)"
+# Texts that tell a kind, or fit a file.
+TOLD = [(KEY, "key"), (OTHER_KEY, "key"), (FOLDER, "folder"), ("C:\\Data " + FOLDER, "folder"), (TYPED, "ds"), (TYPED_IN_HEX, "ds"),
+        ("\n" + SERVICE, "service"), ("channelAccess: O:BAG:SYD:(A;;0x7;;;BU)", "log")]
+# Texts with several descriptors, and the kind of each.
+BYTES = base64.b64encode(bytes.fromhex(IN_HEX)).decode()
+SEVERAL = [
+    ("dn: CN=User,CN=Certificate Templates,CN=x\nnTSecurityDescriptor:: %s\n\ndn: CN=Ann,DC=x\nnTSecurityDescriptor:: %s" % (BYTES, BYTES),
+     ("template", "ds")),
+    ("Path : Microsoft.PowerShell.Core\\Registry::HKEY_LOCAL_MACHINE\\X\nSddl : D:(A;;0x2;;;BU)\n\n"
+     "Path : Microsoft.PowerShell.Core\\FileSystem::C:\\X\nSddl : D:(A;;FA;;;BU)", ("key", "folder")),
+]
+# Two descriptors, and the kind that both are compared as, or why the page asks for it.
+PAIRS = [(FOLDER, "D:(A;;DC;;;BU)", "rights"), ("D:(A;;DC;;;BU)", FOLDER, "rights"), ("D:(A;;DC;;;BU)", KEY, "texts"),
+         (FOLDER, KEY, "texts"), (KEY, TYPED, "texts"), ("C:\\Data " + FOLDER, KEY, "texts"), (FOLDER, TYPED_IN_HEX, "rights"), (KEY, "D:(A;;DC;;;BU)", "key"),
+         (KEY, FOLDER, "key"), (KEY, OTHER_KEY, "key"), (FOLDER, "C:\\Data " + FOLDER, "folder"), (TYPED, TYPED_IN_HEX, "ds")]
+# A folder and what its creator gives, and the same.
+CREATORS = [(FOLDER, "D:(A;;DC;;;BU)", "rights"), (FOLDER, OTHER_KEY, "texts"), ("D:(A;;DC;;;BU)", FOLDER, "rights"), (FOLDER, FOLDER, "folder"),
+            (KEY, "D:(A;;DC;;;BU)", "key"), (KEY, OTHER_KEY, "key")]
+VIEWS = ["look", "ask", "inherit", "compare"]
+# What an answer has that depends on the kind.
+OF_KIND = {"look": "grid", "ask": "verdict", "inherit": "object", "compare": "rights"}
+DEPENDS = {"grid", "model", "warnings", "dangers", "texts", "verdict", "reasons", "object", "parent", "creator", "rights", "changed",
+           "isMappingUnknown", "isLevelUnknown"}
+
+
+def rows_of_kinds():
+    """Questions about texts of open and of known kinds: (view, kind, text, more, what the answer has, the key that depends on the
+    kind and whether it is there)."""
+    for view in VIEWS:
+        more = {"other": "D:(A;;RC;;;BU)"} if view == "compare" else {}
+        for text in OPEN:
+            yield view, None, text, more, {"asksKind": "rights"}, False
+            for kind in ("folder", "file", "key", "ds", "service", "log", "process"):
+                yield view, kind, text, more, {"asksKind": None, "kind": kind}, True
+        for text, kind in TOLD:
+            yield view, None, text, more, {"asksKind": None, "kind": kind}, True
+        for text, kinds in SEVERAL:
+            for chosen, kind in enumerate(kinds):
+                yield view, None, text, {**more, "chosen": chosen}, {"asksKind": None, "kind": kind}, True
+    for name, pairs, key in (("compare", PAIRS, "other"), ("inherit", CREATORS, "creator")):
+        for text, other, kind in pairs:
+            is_open = kind in ("rights", "texts")
+            yield name, None, text, {key: other}, {"asksKind": kind} if is_open else {"asksKind": None, "kind": kind}, not is_open
+            yield name, "service", text, {key: other}, {"asksKind": None, "kind": "service"}, True
+    # What does not depend on the kind is said before.
+    yield "compare", None, OPEN[0], {}, {"isOtherEmpty": True, "asksKind": None}, False
+    yield "compare", None, OPEN[0], {"other": OPEN[0]}, {"isSame": True, "asksKind": "rights", "count": 1}, False
+    yield "compare", None, OPEN[0], {"other": OPEN[1]}, {"isSame": False, "asksKind": "rights", "count": 1}, False
+    yield "inherit", None, OPEN[0], {"owner": ""}, {"asksKind": None}, False
+    yield "ask", None, OPEN[0], {"token": ""}, {"isNobody": True, "asksKind": None}, False
+    yield "ask", None, OPEN[0], {"maximum": False}, {"refused": 50, "asksKind": None}, False
+    for view in VIEWS:
+        yield view, None, "D:(A;;DC;;;Everyone)", {}, {"asksKind": None}, False
+
+
+def judge_kind(count, row, got):
+    name, kind, text, more, expected, is_answered = row
+    told = {key: got.get(key) for key in expected}
+    count.add(told == expected, f"{name} of {kind} {text!r} {more}: {told}, not {expected}")
+    depends = sorted(DEPENDS & {key for key, value in got.items() if value is not None})
+    is_right = OF_KIND[name] in depends or bool(got.get("isMappingUnknown")) if is_answered else not depends
+    count.add(is_right, f"{name} of {kind} {text!r} {more} answers {depends}")
+
 
 def main():
     count = preload.Count()
@@ -68,13 +144,17 @@ def main():
     if not (shutil.which("node") and os.path.exists(chosen.library)):
         print(f"skipped: no Node, or no {chosen.library}")
         return count.end()
-    given = json.dumps([{"name": name, "kind": kind, "text": text, "more": more} for name, kind, text, more, _ in ROWS])
+    of_kinds = [*rows_of_kinds()]
+    rows = [*ROWS, *(row[:5] for row in of_kinds)]
+    given = json.dumps([{"name": name, "kind": kind, "text": text, "more": more} for name, kind, text, more, _ in rows])
     ended = subprocess.run(["node", str(SCRIPT), chosen.library], input=given, capture_output=True, text=True, timeout=SECONDS)
     answers = json.loads(ended.stdout) if ended.returncode == 0 else []
-    count.add(len(answers) == len(ROWS), f"the page gave no answers: {ended.stderr[-2000:]}")
+    count.add(len(answers) == len(rows), f"the page gave no answers: {ended.stderr[-2000:]}")
     for (name, kind, text, more, expected), got in zip(ROWS, answers):
         told = {key: got.get(key) for key in expected}
         count.add(told == expected, f"{name} of {kind} {text} {more}: {told}, not {expected}")
+    for row, got in zip(of_kinds, answers[len(ROWS) :]):
+        judge_kind(count, row, got)
     return count.end()
 
 

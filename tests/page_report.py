@@ -197,6 +197,8 @@ def judge_kinds(count, page, maker):
     got = local.call("openRow", local.call("reportRows")[0]["line"])
     kind = local.do("return byId('kind').value;")
     count.add(kind == "service" and "change configuration" in got["look"], f"a service in a report: {kind} {got['look'][:300]}")
+    got = local.do("await see('D:(A;;LC;;;BU)'); return said('look');")
+    count.add(got["asks"] and got["kind"] == "", f"a text behind a service of a report: {got}")
 
 
 def judge_groups(count, page, maker):

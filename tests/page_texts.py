@@ -3,11 +3,12 @@ import base64
 import json
 import random
 import re
+import tomllib
 
 import compare
 import fault_places
 import sddl_texts
-from page_driver import line_of
+from page_driver import TOP, line_of
 from reference.places import ACE_FIELDS, place_of_bytes
 
 
@@ -404,6 +405,84 @@ def test_kinds(count, page, _):
     page.do("document.querySelector('[data-kind=service]').click(); await until(isIdle);")
     shown = page.texts(".warning")
     count.add(any("can change configuration" in one for one in shown), f"a kind that was asked for: {shown}")
+
+
+# Users may do 0x2, which fits no file, and nothing tells the kind: as text, hex and base64, and below a path.
+OPEN_HEX = "01000480" + 12 * "00" + "14000000" "02002000" "01000000" "00001800" "02000000" "0102000000000005" "20000000" "21020000"
+OPEN = [
+    "D:(A;;DC;;;BU)",
+    "D:(A;OICI;DC;;;BU)",
+    "C:\\Data D:(A;;DC;;;BU)",
+    OPEN_HEX,
+    base64.b64encode(bytes.fromhex(OPEN_HEX)).decode(),
+]
+# What that is called, by winnt.h, winsvc.h and MS-ADTS, and the type that the program asks by.
+CALLED = {"folder": ("add files", ""), "key": ("set values", "--type key"), "ds": ("delete children", "--type ds"), "service": ("change configuration", "")}
+# What would say something about rights, or about a folder.
+TABLES = tomllib.loads((TOP / "windows/kinds.toml").read_text(encoding="utf-8"))
+NAMES = {right["name"] for kind in [*TABLES["kind"], {"rights": TABLES["standard"]}] for right in kind.get("rights", [])}
+NAMES |= {name for kind in TABLES["kind"] for name in kind.get("masks", {})} | {"this folder", "granted", "denied", "gains", "loses"}
+WORDS_OF_RIGHTS = re.compile(rf"\b(?:{'|'.join(map(re.escape, sorted(NAMES)))})\b")
+
+
+def test_open_kinds(count, page, _):
+    """Where nothing tells the kind, each view asks for it before it uses words of rights or answers, and answers after the choice."""
+    page.open()
+    page.do("put('other-text', 'D:(A;;RC;;;BU)');")
+    for number, text in enumerate(OPEN):
+        for view in ("look", "ask", "inherit", "compare"):
+            kind = list(CALLED)[number % len(CALLED)]
+            got = page.call("openKind", view, text, kind)
+            what = f"{view} of {text!r}: {got}"
+            before, after = got["before"], got["after"]
+            count.add(before["asks"] and before["isSeen"] and before["kind"] == "" and before["boxes"] == "", f"no question: {what}")
+            count.add(not WORDS_OF_RIGHTS.search(before["text"]), f"words before the kind is known: {what}")
+            count.add("two differ" in before["text"] if view == "compare" else before["text"] == "", f"what does not depend on it: {what}")
+            count.add(not any(got["names"].values()) and not got["faint"], f"the question of {what}")
+            count.add(bool(got["command"]) == (view in ("look", "compare")), f"a command before the kind is known: {what}")
+            name, option = CALLED[kind]
+            is_answered = not after["asks"] and after["isSeen"] and name in after["text"] and after["kind"] == kind and name in after["boxes"]
+            count.add(is_answered and got["focus"] == f"tab-{view}", f"after the choice of {kind}: {what}")
+            page.do("byId('share-command').click(); await until(() => byId('copied-text'));")
+            command = page.do("return byId('copied-text').value;")
+            expected = option if view in ("ask", "inherit") else ""
+            count.add(expected in command and ("--type" in command) == bool(expected), f"{command} of {what}")
+
+
+# What comes before a text whose kind is open, and whether the page then asks: only the list of kinds holds for later texts.
+BEFORE = [
+    ("await see('D:(A;;DC;;;BU)'); document.querySelector('#view-look [data-kind=service]').click();", True),
+    ("byId('example-folder').click();", True),
+    ("location.hash = '#kind=service&d=D:(A;;DC;;;BU)'; await until(() => byId('kind').value === 'service');", True),
+    ("put('kind', 'service');", False),
+    ("put('kind', 'service'); await see('D:(A;;DC;;;BU)'); byId('clear').click();", True),
+    ("await see('HKLM:\\\\X D:(A;;KA;;;BU)');", True),
+    ("await see('D:(A;;DC;;;BU)'); document.querySelector('#view-look [data-kind=key]').click(); await until(isIdle); put('ask-token', 'WD');", True),
+]
+
+
+def test_kind_of_text(count, page, _):
+    """A kind that came with another text, or was the answer for it, is not that of the next one."""
+    for script, asks in BEFORE:
+        page.open()
+        page.do(f"{script} await until(isIdle); await see('D:(A;;LC;;;BU)');")
+        for view in ("look", "ask", "inherit", "compare"):
+            got = page.do("byId(`tab-${given[0]}`).click(); put('other-text', 'D:'); await until(isIdle); return said(given[0]);", view)
+            count.add(got["asks"] == asks and got["kind"] == ("" if asks else "service"), f"{view} after {script}: {got}")
+    # The answer holds while the text stays, whatever else changes.
+    page.open()
+    page.do(
+        "await see('D:(A;;DC;;;BU)'); document.querySelector('#view-look [data-kind=service]').click(); await until(isIdle); "
+        "byId('tab-ask').click(); put('ask-token', 'BU,WD'); put('domain', 'S-1-5-21-1-2-3'); await until(isIdle);"
+    )
+    got = page.do("return said('ask');")
+    count.add(not got["asks"] and "change configuration" in got["text"], f"another token: {got}")
+    # Two texts that tell of different kinds, of which the first alone fits a file.
+    page.do("byId('clear').click(); await see('O:BAG:SYD:(A;;FA;;;BA)'); byId('tab-compare').click(); put('other-text', 'HKLM:\\\\X D:(A;;KA;;;BA)');")
+    got = page.do("await until(isIdle); return said('compare');")
+    count.add(got["asks"] and "full control" not in got["text"] and "0x001f01ff" in got["text"], f"two kinds: {got}")
+    got = page.do("document.querySelector('#compare-result [data-kind=key]').click(); await until(isIdle); return said('compare');")
+    count.add(not got["asks"] and got["kind"] == "key" and "full control" in got["text"], f"two kinds, and a choice: {got}")
 
 
 # An ACE of a directory object, and what its GUID is called. Five GUIDs are a property and a validated write.

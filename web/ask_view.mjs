@@ -29,11 +29,13 @@ function rightBoxes(asked, kind, refresh) {
         }));
 }
 
-// The rights to choose from are those of the kind of object, so they change with it.
+// The rights to choose from are those of the kind of object, so they change with it. Without a kind there are none.
 export function showAskRights(asked, kind, refresh) {
-    const known = rightsOf(kind).map((right) => right.bit);
-    asked.rights = asked.rights.filter((bit) => known.includes(bit));
-    show(byId("ask-rights"), rightBoxes(asked, kind, refresh));
+    if (kind) {
+        const known = rightsOf(kind).map((right) => right.bit);
+        asked.rights = asked.rights.filter((bit) => known.includes(bit));
+    }
+    show(byId("ask-rights"), kind && rightBoxes(asked, kind, refresh));
 }
 
 export function makeAsk(asked, refresh) {

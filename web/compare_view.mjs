@@ -1,6 +1,8 @@
 // The fourth view: what differs between two descriptors, and whose rights.
 import {linesOf} from "./desk.mjs";
 import {byId, labelled, make, show, showParts, someRows} from "./dom.mjs";
+import {kindQuestion} from "./kind_view.mjs";
+import {maskText} from "./library.mjs";
 import {foundText} from "./look_view.mjs";
 import {faultInWords, guidInWords, rightsInWords, whereOf} from "./naming.mjs";
 import {aceRights, commaed, descriptorField, faultBox, formatted, kindClass, who} from "./parts_view.mjs";
@@ -20,10 +22,15 @@ export function makeCompare(other, refresh) {
     ];
 }
 
+// Without a kind there are no words for rights and flags.
+const rightsAndPlace = (ace, kind) => (kind ?
+        [aceRights(ace, kind), make("span", {class: "where"}, ` ${whereOf(kind, ace)}`)] :
+        make("code", {}, [maskText(ace.mask), ace.object, ace.inherited, ...ace.flags].filter(Boolean).join(" ")));
+
 const side = (ace, kind, names) => (ace ?
         [
             make("span", {class: "badge"}, valueIn(WORDS.aceKinds, ace.kind)), " ", who(ace.sid, ace.alias, names), " ",
-            aceRights(ace, kind), make("span", {class: "where"}, ` ${whereOf(kind, ace)}`), ` #${ace.number}`
+            rightsAndPlace(ace, kind), ` #${ace.number}`
         ] :
         "");
 
@@ -114,7 +121,7 @@ function rightsSection(result, kind, names, later) {
 }
 
 // Shows it. Returns what a screen reader says of it, and a promise that ends when all is shown.
-export function showCompare(result, {kind, names}, isOver) {
+export function showCompare(result, {kind, names, onKind}, isOver) {
     const place = byId("compare-result");
     if (result.isOtherEmpty) {
         show(place, make("p", {class: "hint"}, WORDS.compare.waiting));
@@ -127,17 +134,17 @@ export function showCompare(result, {kind, names}, isOver) {
         return [say(WORDS.compare.fault, {fault: faultInWords(result.otherFault.fault)})];
     }
     const verdict = result.isSame ? WORDS.compare.same : WORDS.compare.different;
-    const {changed} = result;
+    const {asksKind, changed = 0} = result;
     const parts = [
         () => make("div", {},
             make("p", {class: `verdict ${result.isSame ? "same" : "differs"}`}, make("strong", {}, verdict)),
             make("p", {class: "hint"}, foundText({...result.other, chosen: 0})), partLines(result, names)),
-        (later) => rightsSection(result, kind, names, later),
+        (later) => (asksKind ? kindQuestion("compare", asksKind, onKind) : rightsSection(result, kind, names, later)),
         (later) => make("div", {}, aceTable("dacl", result.dacl, kind, names, later)),
         (later) => make("div", {}, aceTable("sacl", result.sacl, kind, names, later))
     ];
     const shown = showParts(place, result.count + changed, parts, isOver);
     const known = changed ? say(WORDS.compare.rightsCount, {count: changed}) : WORDS.compare.rightsNone;
-    const rights = areLeft(result) ? rightsLeft(result) : known;
+    const rights = asksKind ? valueIn(WORDS.kindAsked, asksKind) : areLeft(result) ? rightsLeft(result) : known;
     return [`${verdict} ${rights}`, shown];
 }

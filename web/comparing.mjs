@@ -120,7 +120,7 @@ function compareTrustee(library, sides, who, types, {mapping, object}) {
 
 // Groups that nearly everybody is in come first. The others are asked about in their order, as long as the questions are not
 // too many for two descriptors of this length.
-function compareRights(library, sides, {mapping, object, common}) {
+export function compareRights(library, sides, {mapping, object, common}) {
     const types = sides.map(({model}) => typesOf(model, mapping));
     const trustees = trusteesOf(sides).map(
         (who) => ({...who, tokens: sides.map(({model}) => tokenSids(who.sid, model, common))}));
@@ -136,11 +136,16 @@ function compareRights(library, sides, {mapping, object, common}) {
         }
         rows.set(who.sid, compareTrustee(library, sides, who, asked, {mapping, object}));
     }
-    return {rights: trustees.map(({sid}) => rows.get(sid)).filter(Boolean), compared: rows.size, trustees: trustees.length};
+    return {
+        rights: trustees.map(({sid}) => rows.get(sid)).filter(Boolean),
+        compared: rows.size,
+        trustees: trustees.length,
+        areTypesLeft: !object && types.some(({isCut}) => isCut)
+    };
 }
 
 // SIDES are two of {descriptor, asked, model}: what is compared, and what the library is asked about.
-export function compare(library, sides, options) {
+export function compare(library, sides) {
     const both = sides.map((side) => ({...side, pieces: piecesOf(library, side.descriptor)}));
     const [one, other] = both;
     const parts = ["owner", "group"].map((part) => ({
@@ -168,7 +173,5 @@ export function compare(library, sides, options) {
         flags,
         dacl: compareAces(listOf(one, "dacl"), listOf(other, "dacl")),
         sacl: compareAces(listOf(one, "sacl"), listOf(other, "sacl")),
-        ...compareRights(library, both, options),
-        areTypesLeft: !options.object && both.some(({model}) => typesOf(model, options.mapping).isCut),
     };
 }

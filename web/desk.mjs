@@ -2,12 +2,12 @@
 // document.
 import {ask, gridOf, isRefusedRequest, levelOfObject, maskOfText, meaningOf, typesOf} from "./access.mjs";
 import {descriptorsIn} from "./clipboard.mjs";
-import {compare} from "./comparing.mjs";
+import {compare, compareRights} from "./comparing.mjs";
 import {placeOf} from "./faults.mjs";
 import {inherit} from "./inheriting.mjs";
-import {answerTo, descriptorOf, descriptorOfPieces, guidBytes, hexOf, piecesOf, readExplanation, Refusal, sidBytes,
+import {descriptorOf, descriptorOfPieces, guidBytes, hexOf, piecesOf, readExplanation, Refusal, sidBytes,
     sidText} from "./library.mjs";
-import {fitsNoFile, kindIn} from "./kinds.mjs";
+import {fitsNoFile, hasObjectTypes, kindIn} from "./kinds.mjs";
 import {hasOwnMapping, isDirectory, mappingOf, rightsOfKind, withoutGeneric} from "./meanings.mjs";
 import {writtenAces} from "./scanning.mjs";
 import {valueIn} from "./tables.mjs";
@@ -48,8 +48,10 @@ const printingUnder = (domain) => (domain.bytes.length ? {domain: domain.bytes} 
 const meaningFor = (library, mask, kind) =>
     hasOwnMapping(kind) ? withoutGeneric(mask, kind) : meaningOf(library, mask, mappingOf(kind));
 
+const acesIn = ({dacl, sacl}) => [...dacl.aces, ...sacl.aces];
+
 const withMeanings = (library, model, kind) => {
-    for (const ace of [...model.dacl.aces, ...model.sacl.aces]) {
+    for (const ace of acesIn(model)) {
         ace.meaning = ace.kind === "ML" ? ace.mask : meaningFor(library, ace.mask, kind);
     }
     return model;
@@ -121,37 +123,54 @@ function optionsOf(library, state, domain) {
     };
 }
 
-// The kind that the user has chosen, or that the text tells of, or else a folder.
-const kindOf = ({kind, isKindChosen, text}) => (isKindChosen ? kind : kindIn(text.slice(0, MOST_OF_KIND)) ?? "folder");
+const kindTold = (text) => kindIn(text.slice(0, MOST_OF_KIND));
 
-// Everything that the first view shows of a text.
-function look(library, given) {
-    const state = {...given, kind: kindOf(given)};
-    const domain = domainOf(library, state.domain);
+// The kind that the user has chosen, or that the name of one of several, the text or an object type tells of, or else a folder.
+const kindOf = ({kind, isKindChosen, text}, {found, names, chosen}, model) => (isKindChosen ? kind :
+        kindTold((found > 1 && names[chosen]) || "") ?? kindTold(text) ?? (hasObjectTypes(acesIn(model)) ? "ds" : "folder"));
+
+// Why each view has to ask for the kind, or null: nobody chose it, and a second text tells of another one, or rights fit no file
+// though nothing tells of another kind.
+function whyOpen({kind, isKindChosen}, models, other = "") {
+    if (isKindChosen) {
+        return null;
+    }
+    const isOther = (kindTold(other) ?? kind) !== kind;
+    return isOther ? "texts" : kind === "folder" && models.some((model) => fitsNoFile(acesIn(model))) ? "rights" : null;
+}
+
+// A question about a text: about the descriptor in it, what that says, and its kind.
+function about(library, given, question) {
+    const domain = domainOf(library, given.domain);
     if (domain.fault) {
         return {domainFault: domain.fault};
     }
-    if (isEmpty(state.text)) {
+    if (isEmpty(given.text)) {
         return {isEmpty: true};
     }
-    const found = read(library, state, domain);
+    const {descriptor, ...found} = read(library, given, domain);
     if (found.fault) {
-        return found;
+        return {...found, descriptorFault: found.fault};
+    }
+    const model = readExplanation(library.explain(descriptor, printingUnder(domain)));
+    const state = {...given, kind: kindOf(given, found, model)};
+    return {kind: state.kind, ...question({state, descriptor, found, model: withMeanings(library, model, state.kind), domain})};
+}
+
+// Everything that the first view shows of a text.
+const look = (library, given) => about(library, given, ({state, descriptor, found, model, domain}) => {
+    const asksKind = whyOpen(state, [model]);
+    if (asksKind) {
+        return {...found, asksKind};
     }
     const options = optionsOf(library, state, domain);
-    const model = explained(library, found.descriptor, domain, state.kind);
-    if (!given.isKindChosen && state.kind === "folder" && fitsNoFile(model.dacl.aces)) {
-        return {...found, descriptor: undefined, kind: state.kind, asksKind: true};
-    }
-    const question = asked(library, found.descriptor, model, state.kind);
+    const question = asked(library, descriptor, model, state.kind);
     const grid = gridOf(library, question, model, options);
-    const sddl = library.toSddl(found.descriptor, printingUnder(domain));
-    const {descriptor, ...about} = found;
+    const sddl = library.toSddl(descriptor, printingUnder(domain));
     const warnings = warningsOf(library, question, model, grid, options);
     const {dacl, sacl} = acesOf(sddl);
     return {
-        ...about,
-        kind: state.kind,
+        ...found,
         model: {...model, dacl: packedList(model.dacl, dacl), sacl: packedList(model.sacl, sacl)},
         grid,
         sddl: sddl.slice(0, MOST_SHOWN),
@@ -161,7 +180,7 @@ function look(library, given) {
         warnings: packed(warnings),
         dangers: warnings.filter(({level}) => level !== "note").length,
     };
-}
+});
 
 // The texts of the ACEs of each list, in printed SDDL, in which a parenthesis is that of an ACE.
 function acesOf(sddl) {
@@ -171,19 +190,6 @@ function acesOf(sddl) {
             part.slice(part.indexOf("(") + 1, -1).split(")(").map((ace) => `(${ace})`);
     }
     return lists;
-}
-
-// A question about a descriptor that has to be read first.
-function about(library, state, question) {
-    const domain = domainOf(library, state.domain);
-    if (domain.fault) {
-        return {domainFault: domain.fault};
-    }
-    if (isEmpty(state.text)) {
-        return {isEmpty: true};
-    }
-    const found = read(library, state, domain);
-    return found.fault ? {descriptorFault: found.fault} : question(found.descriptor, domain);
 }
 
 // What is asked for, read by the library: names of rights, or a number.
@@ -200,8 +206,8 @@ function levelOf(text, listed) {
     return text === "" ? null : Number(text);
 }
 
-function askAbout(library, {state, asked: question}) {
-    return about(library, state, (descriptor, domain) => {
+function askAbout(library, {state: given, asked: question}) {
+    return about(library, given, ({state, descriptor, model, domain}) => {
         const options = optionsOf(library, state, domain);
         const token = readToken(library, question.token, domain.text, question.exact);
         const wanted = tried(() => wantedOf(library, question, state.kind));
@@ -223,7 +229,10 @@ function askAbout(library, {state, asked: question}) {
         if (refused || limit || token.entries.length === 0) {
             return {...told, refused, isTooMany: limit, isNobody: token.entries.length === 0};
         }
-        const model = explained(library, descriptor, domain, state.kind);
+        const asksKind = whyOpen(state, [model]);
+        if (asksKind) {
+            return {asksKind};
+        }
         const level = levelOf(question.level, token.level);
         const isOwn = hasOwnMapping(state.kind);
         if (isOwn && level !== null && level < levelOfObject(model)) {
@@ -254,8 +263,8 @@ function askAbout(library, {state, asked: question}) {
 const hasGeneric = (from, mustGoOn) => Boolean(from) && [from.model.dacl, from.model.sacl].some(({aces}) => aces.some(
     ({mask, flags}) => (mask & GENERIC) !== 0 && (!mustGoOn || flags.includes("OI") || flags.includes("CI"))));
 
-function inheritFrom(library, {state, made}) {
-    return about(library, state, (parent, domain) => {
+function inheritFrom(library, {state: given, made}) {
+    return about(library, given, ({state, descriptor: parent, model, domain}) => {
         const sid = (text) => tried(() => sidBytes(library, text.trim(), domain.text));
         const [owner, group] = [sid(made.owner), sid(made.group)];
         const creator =
@@ -265,6 +274,13 @@ function inheritFrom(library, {state, made}) {
             return {ownerFault: owner.fault, groupFault: group.fault, creatorFault: creator.fault, creatorPlace};
         }
         const printing = printingUnder(domain);
+        const above = (descriptor, model = explained(library, descriptor, domain, state.kind)) =>
+            ({model, written: acesOf(library.toSddl(descriptor, printing))});
+        const from = {parent: above(parent, model), ...(creator.value ? {creator: above(creator.value)} : {})};
+        const asksKind = whyOpen(state, Object.values(from).map((one) => one.model), made.creator);
+        if (asksKind) {
+            return {asksKind};
+        }
         const mapping = mappingOf(state.kind);
         const object = derived(() => inherit(library, {
             parent,
@@ -278,11 +294,6 @@ function inheritFrom(library, {state, made}) {
         if (object.fault) {
             return object;
         }
-        const above = (descriptor) => descriptor && {
-            model: explained(library, descriptor, domain, state.kind),
-            written: acesOf(library.toSddl(descriptor, printing))
-        };
-        const from = {parent: above(parent), creator: above(creator.value)};
         if (hasOwnMapping(state.kind) && (hasGeneric(from.parent, true) || hasGeneric(from.creator, false))) {
             return {isMappingUnknown: true};
         }
@@ -340,8 +351,8 @@ function derived(question) {
     }
 }
 
-function compareWith(library, {state, other}) {
-    return about(library, state, (descriptor, domain) => {
+function compareWith(library, {state: given, other}) {
+    return about(library, given, ({state, descriptor, model, domain}) => {
         if (isEmpty(other.text)) {
             return {isOtherEmpty: true};
         }
@@ -349,18 +360,25 @@ function compareWith(library, {state, other}) {
         if (second.fault) {
             return {otherFault: second};
         }
-        const options = optionsOf(library, state, domain);
-        const side = (bytes) => {
-            const model = explained(library, bytes, domain, state.kind);
-            return {descriptor: bytes, asked: asked(library, bytes, model, state.kind), model};
-        };
-        const found = compare(library, [side(descriptor), side(second.descriptor)], options);
-        const changed = found.rights.filter((row) => row.gained || row.lost || row.typed.length);
-        return {
+        const otherModel = explained(library, second.descriptor, domain, state.kind);
+        const sides = [[descriptor, model], [second.descriptor, otherModel]].map(
+            ([bytes, one]) => ({descriptor: bytes, asked: asked(library, bytes, one, state.kind), model: one}));
+        const found = compare(library, sides);
+        const shown = {
             ...found,
+            asksKind: whyOpen(state, [model, otherModel], other.text),
             other: {line: second.line, dropped: second.dropped, found: second.found, form: second.form},
             areBelowSame: !found.dacl.some(isBelow),
             ...inLists((list) => found[list]),
+        };
+        if (shown.asksKind) {
+            return shown;
+        }
+        const rights = compareRights(library, sides, optionsOf(library, state, domain));
+        const changed = rights.rights.filter((row) => row.gained || row.lost || row.typed.length);
+        return {
+            ...shown,
+            ...rights,
             rights: packed(changed),
             changed: changed.length
         };
@@ -377,8 +395,6 @@ const QUESTIONS = {
     inherit: inheritFrom,
     compare: compareWith,
     version: (library) => library.version(),
-    // The program on one line, for the tests and for the command line that is shown.
-    answer: (library, {words, line}) => answerTo(library, words, line),
 };
 
 export const questionOf = (library, name, about) => valueIn(QUESTIONS, name)(library, about);

@@ -1,10 +1,11 @@
-// The question which kind of object a descriptor is of, where its rights fit no file.
-import {button, make, show} from "./dom.mjs";
+// The question which kind of object a descriptor is of, which each view asks where nothing tells it.
+import {button, make} from "./dom.mjs";
+import {valueIn} from "./tables.mjs";
 import {WORDS} from "./words.mjs";
 
-export function showKindQuestion(place, onKind) {
+export function kindQuestion(view, why, onKind) {
     const kinds = Object.entries(WORDS.kinds)
                       .map(([kind, text]) => make("li", {}, button(text, () => onKind(kind), {"data-kind": kind})));
-    show(place, make("section", {"aria-labelledby": "kind-heading"},
-        make("h2", {id: "kind-heading"}, WORDS.kindAskedHeading), make("p", {}, WORDS.kindAsked), make("ul", {class: "kinds"}, kinds)));
+    return make("section", {"aria-labelledby": `${view}-kind`}, make("h2", {id: `${view}-kind`}, WORDS.kindAskedHeading),
+        make("p", {}, valueIn(WORDS.kindAsked, why)), make("ul", {class: "kinds"}, kinds));
 }

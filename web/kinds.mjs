@@ -10,8 +10,8 @@ const OF_A_VALUE = /"(?:Security|SD)"\s?=|\b(?:Security|SD)[ \t]{1,40}REG_BINARY
 // The first that fits counts. A registry value that has the descriptor of something else comes before the key: below some keys
 // only a value with one of two names is that.
 const AROUND = [
-    [/^[ \t]*dn::?[ \t]*CN=[^,\n]+,CN=Certificate Templates,/im, "template"],
-    [/^[ \t]*dn::?\s|\bnTSecurityDescriptor\b|\bDistinguishedName\b/im, "ds"],
+    [/^[ \t]*(?:dn::?[ \t]*)?CN=[^,\n]+,CN=Certificate Templates,/im, "template"],
+    [/^[ \t]*dn::?\s|^(?:CN|OU|DC)=[^,\n]+,(?:CN|OU|DC)=|\bnTSecurityDescriptor\b|\bDistinguishedName\b/im, "ds"],
     [/\bchannelAccess\s*:|\bCustomSD\b/i, "log"],
     [/\\Services\\[^\\\]\n]+\\Security\b/i, "service"],
     [/\\(?:LanmanServer\\)?Shares\\Security\b/i, "share"],
@@ -55,10 +55,13 @@ export function kindIn(text) {
     return OF_A_KEY.test(text) ? "key" : null;
 }
 
+// Whether some ACE can be for an object type, which only ACEs of directory objects are.
+export const hasObjectTypes = (aces) => aces.some(({kind}) => kind[0] === "O");
+
 // Whether the rights fit no file: some ACE would let somebody write, and none has SYNCHRONIZE, which Windows gives to
 // everybody who may do anything with a file.
 export function fitsNoFile(aces) {
     const deciding = aces.filter(({kind, mask}) => DECIDING.includes(kind) && mask !== 0);
-    return deciding.some(({mask}) => (mask & WRITING) !== 0) &&
-        deciding.every(({mask}) => (mask & (SYNCHRONIZE | GENERIC)) === 0);
+    return hasObjectTypes(aces) || (deciding.some(({mask}) => (mask & WRITING) !== 0) &&
+        deciding.every(({mask}) => (mask & (SYNCHRONIZE | GENERIC)) === 0));
 }

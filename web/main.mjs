@@ -13,7 +13,7 @@ import {foundText, showFault, showLook, showReason, spokenSummary} from "./look_
 import {faultInWords, ownNames, visible} from "./naming.mjs";
 import {commaed, descriptorField, isLarge, shortened} from "./parts_view.mjs";
 import {nameOfObject, objectWords, placeOfObject, ReportView} from "./report_view.mjs";
-import {showKindQuestion} from "./kind_view.mjs";
+import {kindQuestion} from "./kind_view.mjs";
 import {isDirectory} from "./meanings.mjs";
 import {knownGuids} from "./schema.mjs";
 import {addressOf, commandLine, takeAddress} from "./sharing.mjs";
@@ -76,13 +76,19 @@ class Page {
             files: new FileDesk(source, bytes, isWorker),
             onOpen: (text, form) => this.open(text, form),
         });
+        this.listen();
+        this.begin();
+        this.counted(async () => this.reportView?.begin());
+    }
+
+    // Begins with an address. Its form and its kind are those of its text.
+    begin() {
         this.unread = takeAddress(this.state, location.hash.slice(1));
+        this.hasFormOfText = this.hasKindOfText = this.state.text !== "";
         this.makeControls();
         this.makeViews();
-        this.listen();
         this.showView();
         this.refresh();
-        this.counted(async () => this.reportView?.begin());
     }
 
     // Whether an option applies that is among the ones that can be folded away.
@@ -107,6 +113,7 @@ class Page {
             texts: linesOf(this.result?.texts),
             made: this.state.made,
             onCell: (row, right) => showReason(row, right.bit, this.context),
+            onKind: (kind) => this.answerKind(kind),
             onAll: () => this.set("all", true),
         };
     }
@@ -124,8 +131,7 @@ class Page {
         this.state[name] = value;
         this.hasFormOfText &&= name !== "form";
         if (name === "kind") {
-            this.state.isKindChosen = true;
-            this.takeKind(value);
+            this.takeKind(value, false);
         }
         this.refresh();
     }
@@ -174,7 +180,8 @@ class Page {
     makeViews() {
         const refresh = () => this.refreshView();
         show(byId("view-ask"), makeAsk(this.state.ask, refresh));
-        showAskRights(this.state.ask, this.state.kind, refresh);
+        this.shownKind = this.state.kind;
+        showAskRights(this.state.ask, this.shownKind, refresh);
         byId("ask-result").hidden = true;
         show(byId("view-inherit"), makeInherit(this.state.made, refresh));
         show(byId("view-compare"), makeCompare(this.state.other, refresh));
@@ -208,11 +215,7 @@ class Page {
         if (location.hash.slice(1) !== this.written) {
             const {names, lines} = this.state;
             Object.assign(this.state, {...freshState(), names, lines, view: this.views[0]});
-            this.unread = takeAddress(this.state, location.hash.slice(1));
-            this.makeControls();
-            this.makeViews();
-            this.showView();
-            this.refresh();
+            this.begin();
         }
     }
 
@@ -245,18 +248,18 @@ class Page {
         this.remember();
     }
 
-    // A form that came with another text is none that the user chose.
     setText(text) {
-        show(byId("opened"));
-        if (this.hasFormOfText) {
-            this.hasFormOfText = false;
-            this.state.form = "auto";
-            byId("form").value = "auto";
-        }
-        this.state.text = text;
-        this.state.chosen = 0;
-        this.state.all = false;
+        this.takeText(text, this.hasFormOfText ? "auto" : this.state.form);
+        this.hasFormOfText = false;
         this.refresh();
+    }
+
+    // A form or a kind that came with another text, or was chosen for it, is none of this one.
+    takeText(text, form) {
+        show(byId("opened"));
+        byId("form").value = form;
+        Object.assign(this.state, {text, form, chosen: 0, all: false});
+        this.state.isKindChosen &&= !this.hasKindOfText;
     }
 
     drop(event) {
@@ -268,15 +271,14 @@ class Page {
         }
     }
 
-    // Shows a text as if it had been pasted, under the first view.
-    open(text, form) {
-        show(byId("opened"));
+    // Shows a text as if it had been pasted, under the first view. Without a text nothing is chosen.
+    open(text, form, kind = null) {
+        this.hasKindOfText ||= text === "";
+        this.takeText(text, form);
         this.hasFormOfText = form !== "auto";
-        this.state.form = form;
-        byId("form").value = form;
-        this.state.chosen = 0;
-        this.state.all = false;
-        this.state.text = text;
+        if (kind) {
+            this.takeKind(kind);
+        }
         this.text.put(text);
         this.choose("look");
         this.refresh();
@@ -284,17 +286,33 @@ class Page {
 
     example(name) {
         const [kind, text] = valueIn(EXAMPLES, name);
-        this.takeKind(kind);
-        this.open(text, "auto");
+        this.open(text, "auto", kind);
     }
 
-    takeKind(kind, isChosen = true) {
+    // Takes a kind that is known for this text, or for all to come.
+    takeKind(kind, isOfText = true) {
+        this.state.isKindChosen = true;
+        this.hasKindOfText = isOfText;
+        this.showKind(kind);
+    }
+
+    // Shows the kind of object, or none while the page asks for it.
+    showKind(kind, isOpen = false) {
         this.state.kind = kind;
-        this.state.isKindChosen = isChosen;
-        byId("kind").value = kind;
-        byId("object-field").hidden = !isDirectory(kind);
-        this.openOptions();
-        showAskRights(this.state.ask, kind, () => this.refreshView());
+        const shown = isOpen ? "" : kind;
+        if (shown !== this.shownKind) {
+            this.shownKind = byId("kind").value = shown;
+            byId("object-field").hidden = !isDirectory(kind);
+            this.openOptions();
+            showAskRights(this.state.ask, shown, () => this.refreshView());
+        }
+    }
+
+    // Takes the answer to the question which kind it is.
+    answerKind(kind) {
+        this.takeKind(kind);
+        byId(`tab-${this.state.view}`).focus();
+        this.refresh();
     }
 
     // What a report says of all its objects: the domain of aliases, and names of SIDs, which stay in the page.
@@ -311,11 +329,10 @@ class Page {
 
     // An object of the report, in the first view, below what the report says of it.
     openObject(object) {
-        this.takeKind(object.kind);
         this.state.domain = this.reportView.report.head?.domain ?? "";
         byId("domain").value = this.state.domain;
         this.openOptions();
-        this.open(object.descriptor, object.form);
+        this.open(object.descriptor, object.form, object.kind);
         const back = () => {
             this.choose("report");
             byId("tab-report").focus();
@@ -345,7 +362,10 @@ class Page {
     refresh() {
         this.remember();
         const turn = this.beginTurn(["look", ...ANSWERED]);
-        Object.assign(this, {result: null, asked: null, otherLine: null});
+        Object.assign(this, {result: null, asked: null});
+        if (!this.state.isKindChosen) {
+            this.state.kind = freshState().kind; // what an older text told
+        }
         clearTimeout(this.slow);
         this.slow = setTimeout(() => this.tell(WORDS.busy), MILLISECONDS_TO_TELL);
         return this.counted(async () => {
@@ -384,6 +404,7 @@ class Page {
     // A question that got no answer: each place that would have one says so.
     broke(error) {
         this.result = null;
+        this.showKind(this.state.kind);
         clearTimeout(this.slow);
         for (const view of ["look", ...ANSWERED]) {
             this.show(view, make("p", {class: "fault-name"}, errorWords(error)));
@@ -417,9 +438,7 @@ class Page {
     async showResult(result) {
         const turn = this.turns.get("look");
         let shown = null;
-        if (result.kind && result.kind !== this.state.kind) {
-            this.takeKind(result.kind, false);
-        }
+        this.showKind(result.kind ?? this.state.kind, result.asksKind);
         this.showChosen(result);
         this.showPrintHead(result);
         document.body.classList.toggle("has-result", Boolean(result.model));
@@ -437,12 +456,8 @@ class Page {
             this.isNew("look");
             this.tell(`${faultInWords(result.fault)} ${foundText(result)}`);
         } else if (result.asksKind) {
-            showKindQuestion(byId("view-look"), (kind) => {
-                this.takeKind(kind);
-                this.refresh();
-            });
-            this.isNew("look");
-            this.tell(`${foundText(result)} ${WORDS.kindAsked}`);
+            this.show("look", kindQuestion("look", result.asksKind, this.context.onKind));
+            this.tell(`${foundText(result)} ${valueIn(WORDS.kindAsked, result.asksKind)}`);
         } else {
             shown = showLook(byId("view-look"), result, this.context, () => turn.isOver("look"));
             this.isNew("look");
@@ -498,6 +513,7 @@ class Page {
     // The question of the view that is open. The first view was answered already.
     refreshView() {
         this.remember();
+        this.asked = null;
         const {view} = this.state;
         if (!ANSWERED.includes(view)) {
             return Promise.resolve();
@@ -529,14 +545,16 @@ class Page {
         } else if (result.descriptorFault) {
             this.show(view, make("p", {class: "fault-name"}, faultInWords(result.descriptorFault)),
                 make("p", {}, WORDS.error.intro));
+        } else if (result.asksKind && view !== "compare") {
+            this.show(view, kindQuestion(view, result.asksKind, this.context.onKind));
+            this.speak(valueIn(WORDS.kindAsked, result.asksKind));
         } else {
-            const answer = showAnswer(result, this.context, isOver);
+            const answer = showAnswer(result, {...this.context, kind: result.asksKind ? "" : result.kind}, isOver);
             this.isNew(view);
             this.speak(answer[0]);
             shown = answer[1];
         }
-        this.asked = view === "ask" ? result : this.asked;
-        this.otherLine = view === "compare" ? result.other?.line : this.otherLine;
+        this.asked = result;
         await shown;
     }
 
@@ -577,13 +595,15 @@ class Page {
         this.copy(`${location.href.split("#")[0]}#${text}`, WORDS.linkWarning);
     }
 
-    command() {
-        const look = {form: this.result?.form ?? "sddl", line: this.result?.line ?? "", otherLine: this.otherLine};
-        return commandLine(this.state, look, this.asked);
-    }
-
+    // A command whose answer depends on the kind has to wait for it.
     copyCommand() {
-        this.copy(this.command(), WORDS.share.command);
+        const {asked, result, state} = this;
+        if ((!this.shownKind || asked?.asksKind) && ["ask", "inherit"].includes(state.view)) {
+            show(byId("copied"), make("p", {role: "status"}, valueIn(WORDS.kindAsked, asked?.asksKind ?? "rights")));
+            return;
+        }
+        const look = {form: result?.form ?? "sddl", line: result?.line ?? "", otherLine: asked?.other?.line};
+        this.copy(commandLine(state, look, asked), WORDS.share.command);
     }
 
     showPrintHead(result) {

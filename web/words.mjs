@@ -55,7 +55,10 @@ export const WORDS = {
     kindLabel: "Object",
     kindHint: "It says what the bits of a mask mean. A text may tell of it.",
     kindAskedHeading: "What is it?",
-    kindAsked: "These rights fit no file or folder, so choose the kind of object.",
+    kindAsked: {
+        rights: "These rights fit no file or folder, so choose the kind of object.",
+        texts: "The two texts don't tell the same kind of object, so choose it.",
+    },
     kinds: {
         folder: "Folder",
         file: "File",
