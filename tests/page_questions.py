@@ -2,8 +2,8 @@
 """page_questions.py
 
 Asks the page's desk, in Node over the module that `make wasm` builds, about kinds of objects for which the library has no mapping
-of generic rights and no words about levels: what is unknown is said to be, and nothing that is granted is left out.
-Where nothing tells the kind, each view asks for it, and answers nothing that depends on it. Expected
+of generic rights and no words about levels: what is unknown is said to be, nothing that is granted is left out, and the copied
+command has the same answer. Where nothing tells the kind, each view asks for it, and answers nothing that depends on it. Expected
 values are those of winnt.h, winspool.h and certadm.h. Without Node or the module it is skipped in a line. The last line is
 'N passed, M failed'.
 """
@@ -28,8 +28,10 @@ def asked(kind, text, token, expected, **more):
     return ("ask", kind, text, {"token": token, "exact": True, "maximum": False, **more}, expected)
 
 
-def verdict(is_granted, mask):
-    return {"verdict": {"granted": is_granted, "mask": mask}}
+def verdict(is_granted, mask, missing=None):
+    """MISSING is what the command asks for, if the page asks for all that is granted and nothing is."""
+    said = f"{'granted' if is_granted else 'denied'} 0x{mask if missing is None else missing:08x}"
+    return {"verdict": {"granted": is_granted, "mask": mask}, "command": said}
 
 
 HIGH = "O:SYG:SYD:(A;;0x1fffff;;;WD)S:(ML;;NW;;;HI)"
@@ -45,7 +47,7 @@ ROWS = [
     asked("process", "O:SYD:(A;;0x800;;;BU)", "BU", verdict(True, 0x800), maximum=True),
     asked("process", "O:SYD:(A;;0x800;;;BU)", "BU", verdict(True, 0x800), maximum=True, want="0x800"),
     asked("process", "O:SYD:(A;;0x800;;;BU)", "BU", verdict(False, 0x1), maximum=True, want="0x801"),
-    asked("process", "O:SYD:(A;;0x800;;;BU)", "AU", verdict(False, 0), maximum=True),
+    asked("process", "O:SYD:(A;;0x800;;;BU)", "AU", verdict(False, 0, 0x1fffff), maximum=True),
     asked("process", "D:NO_ACCESS_CONTROL", "AU", verdict(True, 0x1fffff), maximum=True),
     asked("authority", "O:SYD:(A;;0x200;;;AU)", "AU", verdict(True, 0x200), maximum=True),
     # Generic rights that are wanted mean those of the kind.
@@ -53,6 +55,16 @@ ROWS = [
     asked("process", "O:SYD:(A;;0x20bea;;;BU)", "BU", verdict(True, 0x20bea), want="GW"),
     asked("service", "O:SYD:(A;;0xf01ff;;;BU)", "BU", verdict(True, 0xf01ff), want="GA"),
     asked("file", "O:SYD:(A;;FA;;;BU)", "BU", verdict(True, 0x1f01ff), want="GA"),
+    # So do those of an ACE, also in the command.
+    asked("service", "O:SYD:(A;;GA;;;BU)", "BU", verdict(True, 0xf01ff), maximum=True),
+    asked("service", "O:SYD:(D;;GW;;;BU)(A;;GA;;;BU)", "BU", verdict(True, 0xd01fd), maximum=True),
+    asked("service", "O:SYD:(A;;GR;;;BU)", "BU", verdict(False, 0x2), maximum=True, want="0xf"),
+    asked("service", "O:SYD:(A;;GX;;;BU)", "BU", verdict(True, 0x170), want="0x170"),
+    asked("log", "O:SYD:(A;;GR;;;BU)(A;;0x100;;;BU)", "BU", verdict(True, 0x20001), maximum=True),
+    asked("log", "O:SYD:(A;;0x100;;;BU)", "BU", verdict(False, 0, 0xf0007), maximum=True),
+    asked("com", "O:SYD:(A;;0x1;;;BU)", "BU", verdict(True, 0x1f), maximum=True),
+    asked("authority", "O:SYD:(A;;GX;;;AU)", "AU", verdict(True, 0x20200), maximum=True),
+    asked("key", "O:SYD:(A;;GA;;;BU)", "BU", verdict(True, 0xf003f), maximum=True),
     # What a new object gets.
     ("inherit", "printer", "O:SYG:SYD:(A;OIIO;GA;;;CO)", {}, {"isMappingUnknown": True}),
     ("inherit", "printer", "O:SYG:SYD:(A;;GA;;;BA)S:(AU;OISA;GA;;;WD)", {}, {"isMappingUnknown": True}),
@@ -93,7 +105,7 @@ CREATORS = [(FOLDER, "D:(A;;DC;;;BU)", "rights"), (FOLDER, OTHER_KEY, "texts"), 
 VIEWS = ["look", "ask", "inherit", "compare"]
 # What an answer has that depends on the kind.
 OF_KIND = {"look": "grid", "ask": "verdict", "inherit": "object", "compare": "rights"}
-DEPENDS = {"grid", "model", "warnings", "dangers", "texts", "verdict", "reasons", "object", "parent", "creator", "rights", "changed",
+DEPENDS = {"grid", "model", "warnings", "dangers", "texts", "verdict", "reasons", "command", "object", "parent", "creator", "rights", "changed",
            "isMappingUnknown", "isLevelUnknown"}
 
 

@@ -238,12 +238,14 @@ function askAbout(library, {state: given, asked: question}) {
         if (isOwn && level !== null && level < levelOfObject(model)) {
             return {...told, isLevelUnknown: true};
         }
+        const meant = asked(library, descriptor, model, state.kind);
         return {
             ...told,
             wanted: wanted.value,
+            line: meant === descriptor ? null : library.toSddl(meant, {numeric: true}),
             level,
             isForWhole: !options.object && typesOf(model, options.mapping).all.length > 0,
-            ...ask(library, asked(library, descriptor, model, state.kind), token.entries, {
+            ...ask(library, meant, token.entries, {
                 wanted: wanted.value,
                 maximum: question.maximum,
                 mapping: options.mapping,

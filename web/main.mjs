@@ -602,7 +602,7 @@ class Page {
             show(byId("copied"), make("p", {role: "status"}, valueIn(WORDS.kindAsked, asked?.asksKind ?? "rights")));
             return;
         }
-        const look = {form: result?.form ?? "sddl", line: result?.line ?? "", otherLine: asked?.other?.line};
+        const look = {form: result?.form ?? "sddl", line: result?.line ?? ""};
         this.copy(commandLine(state, look, asked), WORDS.share.command);
     }
 

@@ -2,7 +2,7 @@
 // answer.
 import {bitsOf} from "./access.mjs";
 import {wordsOf} from "./lines_view.mjs";
-import {mappingOf} from "./meanings.mjs";
+import {hasOwnMapping, mappingOf, rightsOfKind} from "./meanings.mjs";
 import {HIDDEN, rightsOf} from "./naming.mjs";
 import {between} from "./scanning.mjs";
 import {valueIn} from "./tables.mjs";
@@ -13,6 +13,7 @@ const VIEWS = ["look", "ask", "inherit", "compare", "lines"]; // a report is not
 const KINDS = Object.keys(TABLE_OF_KINDS);
 const FORMS = ["auto", "sddl", "hex", "base64"];
 const MOST_LEVEL = 0xffffffff;
+const MAXIMUM_ALLOWED = 0x2000000;
 
 const FIELDS = [
     ["d", (state) => state, "text"],
@@ -166,10 +167,16 @@ const domainWords = (state) => (state.domain.trim() ? ["--domain", state.domain.
 const formWords = (form) => (form === "hex" ? [] : ["--from", form]);
 const typeWords = (state) => (mappingOf(state.kind) === "file" ? [] : ["--type", mappingOf(state.kind)]);
 
+// What is wanted of a kind that the program has no mapping for: what was granted, or what was not.
+const ownWanted = ({verdict, wanted}, kind) =>
+    (verdict.granted ? verdict.mask : (wanted & ~MAXIMUM_ALLOWED) >>> 0 || rightsOfKind(kind));
+
 function askWords(state, result) {
-    const {ask} = state;
-    const mask = ask.rights.reduce((all, bit) => (all | bit) >>> 0, 0);
-    const want = ask.want.trim() && !mask ? ask.want.trim() : mask ? `0x${(result?.wanted ?? mask).toString(16)}` : "";
+    const {ask, kind} = state;
+    const isOwn = result?.verdict && hasOwnMapping(kind);
+    const named = ask.rights.reduce((all, bit) => (all | bit) >>> 0, 0);
+    const mask = isOwn ? ownWanted(result, kind) : named && (result?.wanted ?? named);
+    const want = mask ? `0x${mask.toString(16)}` : ask.want.trim();
     const token = result?.entries?.length ? result.entries.map((entry) => entry.text).join(",") : ask.token.trim();
     const level = result?.level ?? (/^ \d+$/.test(ask.level) ? Number(ask.level) : null);
     return [
@@ -177,7 +184,7 @@ function askWords(state, result) {
         "--token",
         token,
         ...(want ? ["--want", want] : []),
-        ...(ask.maximum ? ["--maximum"] : []),
+        ...(ask.maximum && !isOwn ? ["--maximum"] : []),
         ...typeWords(state),
         ...(mappingOf(state.kind) === "ds" && state.object.trim() ? ["--object", state.object.trim()] : []),
         ...(ask.self.trim() ? ["--self", ask.self.trim()] : []),
@@ -190,8 +197,9 @@ function askWords(state, result) {
 const inheritWords = ({made, ...state}) => ["derive", "--kind", made.kind, "--owner", made.owner.trim(), "--group",
     made.group.trim(), ...(made.creator.trim() ? ["--creator", made.creator.trim()] : []), ...typeWords(state)];
 
-// The words after the program's name that answer the question of a view, and the line that they read.
-export function commandWords(state, look, asked) {
+// The words after the program's name that answer the question of a view, and the lines that they read: of a kind that the
+// program has no mapping for, the descriptor that the library was asked about.
+export function commandOf(state, look, asked) {
     const words = {
         look: () => ["explain"],
         report: () => ["explain"],
@@ -199,14 +207,17 @@ export function commandWords(state, look, asked) {
         inherit: () => inheritWords(state),
         compare: () => ["convert", "--to", "hex"]
     };
-    return [...valueIn(words, state.view)(), ...formWords(look.form), ...domainWords(state)];
+    const {form, line} = asked?.line ? {form: "sddl", line: asked.line} : look;
+    return {
+        words: [...valueIn(words, state.view)(), ...formWords(form), ...domainWords(state)],
+        lines: asked?.other ? [line, asked.other.line] : [line]
+    };
 }
 
 export function commandLine(state, look, asked) {
     if (state.view === "lines") {
         return ["sdtool", ...wordsOf(state.lines).map(quoted), "< FILE"].join(" ");
     }
-    const program = ["sdtool", ...commandWords(state, look, asked).map(quoted)].join(" ");
-    const lines = state.view === "compare" && look.otherLine ? [look.line, look.otherLine] : [look.line];
-    return `printf '%s\\n' ${lines.map(quoted).join(" ")} | ${program}`;
+    const {words, lines} = commandOf(state, look, asked);
+    return `printf '%s\\n' ${lines.map(quoted).join(" ")} | ${["sdtool", ...words.map(quoted)].join(" ")}`;
 }
