@@ -443,6 +443,8 @@ def test_open_kinds(count, page, _):
             name, option = CALLED[kind]
             is_answered = not after["asks"] and after["isSeen"] and name in after["text"] and after["kind"] == kind and name in after["boxes"]
             count.add(is_answered and got["focus"] == f"tab-{view}", f"after the choice of {kind}: {what}")
+            is_called = view != "inherit" or ("folder" in after["text"]) == (kind == "folder")
+            count.add(is_called, f"a folder that is none, or is not called one: {what}")
             page.do("byId('share-command').click(); await until(() => byId('copied-text'));")
             command = page.do("return byId('copied-text').value;")
             expected = option if view in ("ask", "inherit") else ""

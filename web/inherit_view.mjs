@@ -43,10 +43,13 @@ const aceLists = (side, item, later) => LISTS.filter((list) => side[list].length
     return [make("h4", {}, valueIn(WORDS.parts, list)), body, more];
 });
 
+// What a container, and what is in it, is called: only files are in folders.
+const calledOf = (kind) => (["folder", "file"].includes(kind) ? WORDS.inherit.files : WORDS.inherit.others);
+
 // An ACE with its arrow, and a number to follow it by.
 function madeItem({ace, text, source}, kind, names) {
     const words = say(source.who === "parent" ? WORDS.inherit.fromParent : WORDS.inherit.fromCreator,
-        {number: source.number});
+        {number: source.number, parent: calledOf(kind).container});
     return make("li", {class: kindClass(ace.kind), "data-from": `${source.who} ${source.number}`},
         aceText(ace, text, kind, names),
         make("div", {class: "arrow"}, `${WORDS.inherit.arrow} ${words} `, make("code", {}, source.text)));
@@ -61,7 +64,7 @@ function nodeView(node, title, kind, names, level, later) {
         node.isEmpty ? make("p", {class: "warning caution"}, WORDS.inherit.nothing) : null,
         aceLists(node, (item) => madeItem(item, childKind, names), later));
     for (const child of node.children) {
-        const title = valueIn(WORDS.inherit.below, child.kind);
+        const title = say(WORDS.inherit.below, {kind: valueIn(calledOf(kind), child.kind)});
         afterwards(later, () => section.append(make("details", {open: level < 1}, make("summary", {}, title),
             nodeView(child, title, kind, names, level + 1, later))));
     }
@@ -94,12 +97,13 @@ export function showInherit(result, {kind, names, made}, isOver) {
         return [place.textContent];
     }
     const {object, parent, creator} = result;
-    const title = say(inherit.object, {kind: valueIn(inherit.kinds, made.kind)});
+    const called = calledOf(kind);
+    const title = say(inherit.object, {kind: valueIn(called, made.kind)});
     const flow = make("div", {class: "flow"});
     show(place, flow);
     const count = object.count + parent.count + (creator?.count ?? 0);
     const shown = showParts(flow, count, [
-        (later) => make("div", {}, parentView(inherit.parent, parent, kind, names, later),
+        (later) => make("div", {}, parentView(say(inherit.parent, {parent: called.container}), parent, kind, names, later),
             creator && parentView(inherit.theCreator, creator, kind, names, later)),
         (later) => nodeView(object, title, kind, names, 0, later)
     ], isOver);
