@@ -100,6 +100,7 @@ TESTS = [
     page_texts.test_warnings,
     page_texts.test_kinds,
     page_texts.test_open_kinds,
+    page_texts.test_unknown_commands,
     page_texts.test_kind_of_text,
     page_texts.test_guids,
     page_texts.test_wrong_texts,

@@ -451,6 +451,26 @@ def test_open_kinds(count, page, _):
             count.add(expected in command and ("--type" in command) == bool(expected), f"{command} of {what}")
 
 
+# Questions about a kind that the program has no mapping for, and the beginning of what is said of them.
+UNKNOWN = [
+    ("process", "ask", "O:SYG:SYD:(A;;0x1fffff;;;WD)S:(ML;;NW;;;HI)", "put('ask-level', ' 4096');", "The level is below"),
+    ("printer", "inherit", "O:SYG:SYD:(A;OIIO;GA;;;CO)", "", "What generic rights become"),
+]
+
+
+def test_unknown_commands(count, page, _):
+    """Where the page says that an answer is unknown, no command answers it."""
+    for kind, view, text, script, words in UNKNOWN:
+        page.open()
+        page.do(f"put('kind', given[0]); byId(`tab-${{given[1]}}`).click(); {script} await see(given[2]);", kind, view, text)
+        got = page.do(
+            "byId('share-command').click(); await until(() => byId('copied').textContent !== ''); "
+            "return [answerOf(given[0]).textContent, byId('copied').textContent, byId('copied-text') === null];",
+            view,
+        )
+        count.add(got[0].startswith(words) and got[1] == got[0] and got[2], f"{kind}, {view} of {text}: {got}")
+
+
 # What comes before a text whose kind is open, and whether the page then asks: only the list of kinds holds for later texts.
 BEFORE = [
     ("await see('D:(A;;DC;;;BU)'); document.querySelector('#view-look [data-kind=service]').click();", True),

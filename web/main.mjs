@@ -595,11 +595,19 @@ class Page {
         this.copy(`${location.href.split("#")[0]}#${text}`, WORDS.linkWarning);
     }
 
-    // A command whose answer depends on the kind has to wait for it.
+    // Why there is no command with the page's answer: the kind is open, or something of it is unknown.
+    whyNoCommand({asksKind, isLevelUnknown, isMappingUnknown}) {
+        if ((asksKind || !this.shownKind) && ["ask", "inherit"].includes(this.state.view)) {
+            return valueIn(WORDS.kindAsked, asksKind ?? "rights");
+        }
+        return isLevelUnknown ? WORDS.ask.levelUnknown : isMappingUnknown ? WORDS.inherit.mappingUnknown : null;
+    }
+
     copyCommand() {
         const {asked, result, state} = this;
-        if ((!this.shownKind || asked?.asksKind) && ["ask", "inherit"].includes(state.view)) {
-            show(byId("copied"), make("p", {role: "status"}, valueIn(WORDS.kindAsked, asked?.asksKind ?? "rights")));
+        const why = this.whyNoCommand(asked ?? {});
+        if (why) {
+            show(byId("copied"), make("p", {role: "status"}, why));
             return;
         }
         const look = {form: result?.form ?? "sddl", line: result?.line ?? ""};
