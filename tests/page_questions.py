@@ -103,10 +103,18 @@ PAIRS = [(FOLDER, "D:(A;;DC;;;BU)", "rights"), ("D:(A;;DC;;;BU)", FOLDER, "right
 CREATORS = [(FOLDER, "D:(A;;DC;;;BU)", "rights"), (FOLDER, OTHER_KEY, "texts"), ("D:(A;;DC;;;BU)", FOLDER, "rights"), (FOLDER, FOLDER, "folder"),
             (KEY, "D:(A;;DC;;;BU)", "key"), (KEY, OTHER_KEY, "key")]
 VIEWS = ["look", "ask", "inherit", "compare"]
+# Of these none is made in another one, by windows/kinds.toml.
+HEIRLESS = ["service", "log", "process", "template"]
 # What an answer has that depends on the kind.
 OF_KIND = {"look": "grid", "ask": "verdict", "inherit": "object", "compare": "rights"}
 DEPENDS = {"grid", "model", "warnings", "dangers", "texts", "verdict", "reasons", "command", "object", "parent", "creator", "rights", "changed",
            "isMappingUnknown", "isLevelUnknown"}
+
+
+def answered(view, kind):
+    """What a view says of a kind that is known, and whether it has what depends on the kind."""
+    is_nothing = view == "inherit" and kind in HEIRLESS
+    return {"asksKind": None, "kind": kind, **({"hasNoHeirs": True} if is_nothing else {})}, not is_nothing
 
 
 def rows_of_kinds():
@@ -117,17 +125,17 @@ def rows_of_kinds():
         for text in OPEN:
             yield view, None, text, more, {"asksKind": "rights"}, False
             for kind in ("folder", "file", "key", "ds", "service", "log", "process"):
-                yield view, kind, text, more, {"asksKind": None, "kind": kind}, True
+                yield view, kind, text, more, *answered(view, kind)
         for text, kind in TOLD:
-            yield view, None, text, more, {"asksKind": None, "kind": kind}, True
+            yield view, None, text, more, *answered(view, kind)
         for text, kinds in SEVERAL:
             for chosen, kind in enumerate(kinds):
-                yield view, None, text, {**more, "chosen": chosen}, {"asksKind": None, "kind": kind}, True
+                yield view, None, text, {**more, "chosen": chosen}, *answered(view, kind)
     for name, pairs, key in (("compare", PAIRS, "other"), ("inherit", CREATORS, "creator")):
         for text, other, kind in pairs:
             is_open = kind in ("rights", "texts")
             yield name, None, text, {key: other}, {"asksKind": kind} if is_open else {"asksKind": None, "kind": kind}, not is_open
-            yield name, "service", text, {key: other}, {"asksKind": None, "kind": "service"}, True
+            yield name, "service", text, {key: other}, *answered(name, "service")
     # What does not depend on the kind is said before.
     yield "compare", None, OPEN[0], {}, {"isOtherEmpty": True, "asksKind": None}, False
     yield "compare", None, OPEN[0], {"other": OPEN[0]}, {"isSame": True, "asksKind": "rights", "count": 1}, False

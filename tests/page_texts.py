@@ -441,25 +441,30 @@ def test_open_kinds(count, page, _):
             count.add(not any(got["names"].values()) and not got["faint"], f"the question of {what}")
             count.add(bool(got["command"]) == (view in ("look", "compare")), f"a command before the kind is known: {what}")
             name, option = CALLED[kind]
-            is_answered = not after["asks"] and after["isSeen"] and name in after["text"] and after["kind"] == kind and name in after["boxes"]
+            shown = "Nothing inherits from" if (view, kind) == ("inherit", "service") else name
+            is_answered = not after["asks"] and after["isSeen"] and shown in after["text"] and after["kind"] == kind and name in after["boxes"]
             count.add(is_answered and got["focus"] == f"tab-{view}", f"after the choice of {kind}: {what}")
             is_called = view != "inherit" or ("folder" in after["text"]) == (kind == "folder")
             count.add(is_called, f"a folder that is none, or is not called one: {what}")
-            page.do("byId('share-command').click(); await until(() => byId('copied-text'));")
-            command = page.do("return byId('copied-text').value;")
+            command = page.do(
+                "byId('copied').replaceChildren(); byId('share-command').click(); await until(() => byId('copied').textContent !== ''); "
+                "return byId('copied-text')?.value ?? '';"
+            )
             expected = option if view in ("ask", "inherit") else ""
-            count.add(expected in command and ("--type" in command) == bool(expected), f"{command} of {what}")
+            is_there = bool(command) == ((view, kind) != ("inherit", "service"))
+            count.add(is_there and expected in command and ("--type" in command) == bool(expected), f"{command} of {what}")
 
 
-# Questions about a kind that the program has no mapping for, and the beginning of what is said of them.
+# Questions without an answer about a kind that the program has no mapping for, and the beginning of what is said of them.
 UNKNOWN = [
     ("process", "ask", "O:SYG:SYD:(A;;0x1fffff;;;WD)S:(ML;;NW;;;HI)", "put('ask-level', ' 4096');", "The level is below"),
     ("printer", "inherit", "O:SYG:SYD:(A;OIIO;GA;;;CO)", "", "What generic rights become"),
+    ("process", "inherit", "O:SYG:SYD:(A;;0x1fffff;;;WD)", "", "Nothing inherits from"),
 ]
 
 
 def test_unknown_commands(count, page, _):
-    """Where the page says that an answer is unknown, no command answers it."""
+    """Where the page says that an answer is unknown, or that there is none, no command answers it."""
     for kind, view, text, script, words in UNKNOWN:
         page.open()
         page.do(f"put('kind', given[0]); byId(`tab-${{given[1]}}`).click(); {script} await see(given[2]);", kind, view, text)

@@ -8,7 +8,7 @@ import {inherit} from "./inheriting.mjs";
 import {descriptorOf, descriptorOfPieces, guidBytes, hexOf, piecesOf, readExplanation, Refusal, sidBytes,
     sidText} from "./library.mjs";
 import {fitsNoFile, hasObjectTypes, kindIn} from "./kinds.mjs";
-import {hasOwnMapping, isDirectory, mappingOf, rightsOfKind, withoutGeneric} from "./meanings.mjs";
+import {hasOwnMapping, inheritedBy, isDirectory, mappingOf, rightsOfKind, withoutGeneric} from "./meanings.mjs";
 import {writtenAces} from "./scanning.mjs";
 import {valueIn} from "./tables.mjs";
 import {MOST_SIDS, readToken} from "./tokens.mjs";
@@ -282,6 +282,9 @@ function inheritFrom(library, {state: given, made}) {
         const asksKind = whyOpen(state, Object.values(from).map((one) => one.model), made.creator);
         if (asksKind) {
             return {asksKind};
+        }
+        if (inheritedBy(state.kind).length === 0) {
+            return {hasNoHeirs: true};
         }
         const mapping = mappingOf(state.kind);
         const object = derived(() => inherit(library, {

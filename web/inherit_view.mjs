@@ -89,8 +89,11 @@ export function showInherit(result, {kind, names, made}, isOver) {
         faults.push(
             make("p", {class: "fault-name"}, inherit.creator), faultBox(result.creatorFault, result.creatorPlace));
     }
-    if (result.fault || result.isMappingUnknown) {
-        faults.push(make("p", {class: "fault-name"}, result.fault ? faultInWords(result.fault) : inherit.mappingUnknown));
+    const why = result.fault ? faultInWords(result.fault) :
+        result.isMappingUnknown ? inherit.mappingUnknown :
+        result.hasNoHeirs && inherit.noHeirs;
+    if (why) {
+        faults.push(make("p", {class: "fault-name"}, why));
     }
     if (faults.length) {
         show(place, faults);

@@ -595,12 +595,13 @@ class Page {
         this.copy(`${location.href.split("#")[0]}#${text}`, WORDS.linkWarning);
     }
 
-    // Why there is no command with the page's answer: the kind is open, or something of it is unknown.
-    whyNoCommand({asksKind, isLevelUnknown, isMappingUnknown}) {
+    // Why there is no command with the page's answer: the kind is open, or something of it is unknown or is not at all.
+    whyNoCommand({asksKind, isLevelUnknown, isMappingUnknown, hasNoHeirs}) {
         if ((asksKind || !this.shownKind) && ["ask", "inherit"].includes(this.state.view)) {
             return valueIn(WORDS.kindAsked, asksKind ?? "rights");
         }
-        return isLevelUnknown ? WORDS.ask.levelUnknown : isMappingUnknown ? WORDS.inherit.mappingUnknown : null;
+        const {mappingUnknown, noHeirs} = WORDS.inherit;
+        return isLevelUnknown ? WORDS.ask.levelUnknown : isMappingUnknown ? mappingUnknown : hasNoHeirs ? noHeirs : null;
     }
 
     copyCommand() {
