@@ -373,7 +373,7 @@ function compareWith(library, {state: given, other}) {
             ...found,
             asksKind: whyOpen(state, [model, otherModel], other.text),
             other: {line: second.line, dropped: second.dropped, found: second.found, form: second.form},
-            areBelowSame: !found.dacl.some(isBelow),
+            areBelowSame: !found.dacl.some((row) => isBelow(row, inheritedBy(state.kind))),
             ...inLists((list) => found[list]),
         };
         if (shown.asksKind) {
@@ -391,8 +391,8 @@ function compareWith(library, {state: given, other}) {
 }
 
 // Whether a row of a comparison has an ACE that differs and that children inherit.
-const isBelow = ({state, one, other}) =>
-    state !== "same" && [one, other].some((ace) => ace && /OI|CI/.test(ace.flags.join(" ")));
+const isBelow = ({state, one, other}, inherited) =>
+    state !== "same" && [one, other].some((ace) => ace && inherited.some((flag) => ace.flags.includes(flag)));
 
 const QUESTIONS = {
     look,
