@@ -189,6 +189,8 @@ def test_filter_of_type(count, page, _):
     page.call("bigFile", {"data": base64.b64encode(piece).decode(), "times": 1, "isShort": True})
     kept = page.do("await lastOfFilter('change'); return Array.from(document.querySelectorAll('table.lines tbody th'), (one) => one.textContent);")
     count.add(kept == ["2"], f"lines of a directory that Users may change: {kept}")
+    kind = page.do("document.querySelector('table.lines .jump').click(); await until(() => byId('text').value !== ''); await until(isIdle); return byId('kind').value;")
+    count.add(kind == "ds", f"the kind of a line of a directory is {kind}")
     # Each command shows the type that the filter asks by. The kind of a pasted text is that of this text alone.
     for text in ("\nD:(A;;CCDCLCSWRPWPDTLOCRRC;;;BU)", "channelAccess: O:BAG:SYD:(A;;0x7;;;BU)"):
         page.see(text)

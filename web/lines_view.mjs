@@ -350,7 +350,9 @@ export class LinesView {
     async open(line) {
         const {first, places} = this.run.pieceOf(line);
         const text = await this.file.slice(places[line - first], places[line - first] + 1_100_000).text();
-        this.onOpen(text.split("\n", 1)[0].replace(/\r$/, ""), this.lines.options.from ?? "hex");
+        const {from = FORMS[0], type} = this.lines.options;
+        // The first type is what the program takes without the option, so it says nothing of a line.
+        this.onOpen(text.split("\n", 1)[0].replace(/\r$/, ""), from, type === TYPES[0] ? null : type);
     }
 }
 

@@ -74,7 +74,7 @@ class Page {
         this.state.view = this.views[0];
         this.linesView = new LinesView(this.state.lines, {
             files: new FileDesk(source, bytes, isWorker),
-            onOpen: (text, form) => this.open(text, form),
+            onOpen: (text, form, kind) => this.open(text, form, kind),
         });
         this.listen();
         this.begin();
