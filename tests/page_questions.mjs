@@ -30,6 +30,9 @@ function answer({name, text, kind, more}) {
     };
     const about = {state, asked: state.ask, made: state.made, other: {...fresh.other, text: more.other ?? ""}};
     const got = questionOf(library, name, name === "look" ? state : about);
+    if (got.object) {
+        got.heirs = got.object.children.map((one) => one.kind);
+    }
     if (!got.verdict) {
         return got;
     }

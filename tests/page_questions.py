@@ -71,6 +71,11 @@ ROWS = [
     ("inherit", "printer", "O:SYG:SYD:(A;;GA;;;BA)(A;OIIO;0xf0030;;;CO)", {}, {"isMappingUnknown": None}),
     ("inherit", "printer", "O:SYG:SYD:(A;OI;0xf0030;;;BA)", {"creator": "D:(A;;GA;;;BU)"}, {"isMappingUnknown": True}),
     ("inherit", "key", "O:SYG:SYD:(A;CI;GA;;;BA)", {}, {"isMappingUnknown": None}),
+    # What is made in an object, by the flags that its kind inherits by.
+    *(("inherit", kind, "O:SYG:SYD:(A;OICI;0x20001;;;BA)", {"kind": made}, expected) for kind, made, expected in (
+        ("folder", "container", {"heirs": ["container", "file"]}), ("folder", "file", {"heirs": []}), ("key", "container", {"heirs": ["container"]}),
+        ("key", "file", {"hasNoHeirs": True}), ("ds", "file", {"hasNoHeirs": True}), ("wmi", "container", {"heirs": ["container"]}),
+        ("task", "file", {"heirs": []}), ("share", "container", {"hasNoHeirs": True}))),
     # Whether what children inherit differs: subkeys inherit by CI alone, and from a service nothing inherits.
     *(("compare", kind, f"D:(A;{flag};0xf003f;;;BA)", {"other": "D:(A;;0xf003f;;;BA)"}, {"areBelowSame": is_same})
       for kind, flag, is_same in (("folder", "OI", False), ("folder", "CI", False), ("key", "CI", False), ("key", "OI", True), ("service", "CI", True))),

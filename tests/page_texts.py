@@ -441,7 +441,7 @@ def test_open_kinds(count, page, _):
             count.add(not any(got["names"].values()) and not got["faint"], f"the question of {what}")
             count.add(bool(got["command"]) == (view in ("look", "compare")), f"a command before the kind is known: {what}")
             name, option = CALLED[kind]
-            shown = "Nothing inherits from" if (view, kind) == ("inherit", "service") else name
+            shown = "so nothing inherits" if (view, kind) == ("inherit", "service") else name
             is_answered = not after["asks"] and after["isSeen"] and shown in after["text"] and after["kind"] == kind and name in after["boxes"]
             count.add(is_answered and got["focus"] == f"tab-{view}", f"after the choice of {kind}: {what}")
             is_called = view != "inherit" or ("folder" in after["text"]) == (kind == "folder")
@@ -459,7 +459,8 @@ def test_open_kinds(count, page, _):
 UNKNOWN = [
     ("process", "ask", "O:SYG:SYD:(A;;0x1fffff;;;WD)S:(ML;;NW;;;HI)", "put('ask-level', ' 4096');", "The level is below"),
     ("printer", "inherit", "O:SYG:SYD:(A;OIIO;GA;;;CO)", "", "What generic rights become"),
-    ("process", "inherit", "O:SYG:SYD:(A;;0x1fffff;;;WD)", "", "Nothing inherits from"),
+    ("process", "inherit", "O:SYG:SYD:(A;;0x1fffff;;;WD)", "", "No such object"),
+    ("key", "inherit", "O:SYG:SYD:(A;CI;KA;;;WD)", "put('made-kind', 'file');", "No such object"),
 ]
 
 

@@ -8,7 +8,7 @@ import {inherit} from "./inheriting.mjs";
 import {descriptorOf, descriptorOfPieces, guidBytes, hexOf, piecesOf, readExplanation, Refusal, sidBytes,
     sidText} from "./library.mjs";
 import {fitsNoFile, hasObjectTypes, kindIn} from "./kinds.mjs";
-import {hasOwnMapping, inheritedBy, isDirectory, mappingOf, rightsOfKind, withoutGeneric} from "./meanings.mjs";
+import {hasOwnMapping, heirsOf, inheritedBy, isDirectory, mappingOf, rightsOfKind, withoutGeneric} from "./meanings.mjs";
 import {writtenAces} from "./scanning.mjs";
 import {valueIn} from "./tables.mjs";
 import {MOST_SIDS, readToken} from "./tokens.mjs";
@@ -283,7 +283,8 @@ function inheritFrom(library, {state: given, made}) {
         if (asksKind) {
             return {asksKind};
         }
-        if (inheritedBy(state.kind).length === 0) {
+        const heirs = heirsOf(state.kind);
+        if (!heirs.includes(made.kind)) {
             return {hasNoHeirs: true};
         }
         const mapping = mappingOf(state.kind);
@@ -293,6 +294,7 @@ function inheritFrom(library, {state: given, made}) {
             owner: owner.value,
             group: group.value,
             kind: made.kind,
+            heirs,
             mapping,
             printing
         }));

@@ -24,15 +24,14 @@ function below(library, parent, asked, levels) {
     if (levels === 0) {
         return [];
     }
-    return ["container", "file"].map((kind) => {
+    return asked.heirs.map((kind) => {
         const object = objectOf(library, parent, asked, kind, null);
         return {...object, children: kind === "file" ? [] : below(library, object.descriptor, asked, levels - 1)};
     });
 }
 
 // The new object, and for a folder the two levels below it, which their own folders alone make.
-export function inherit(library, {parent, creator, owner, group, kind, mapping, printing}) {
-    const asked = {owner, group, mapping, printing};
+export function inherit(library, {parent, creator, kind, ...asked}) {
     const object = objectOf(library, parent, asked, kind, creator);
     return {...object, children: kind === "file" ? [] : below(library, object.descriptor, asked, LEVELS_BELOW)};
 }

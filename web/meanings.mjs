@@ -88,5 +88,8 @@ export const isDirectory = (kind) => mappingOf(kind) === "ds";
 // The flags by which children inherit an ACE.
 export const inheritedBy = (kind) => tableOf(kind).inherits.match(/../g) ?? [];
 
+// What inherits from an object of a kind.
+export const heirsOf = (kind) => inheritedBy(kind).map((flag) => (flag === "CI" ? "container" : "file")).sort();
+
 // Whether an ACE applies to nothing: it is for children alone, and none inherits it.
 export const isForNothing = ({flags}, kind) => flags.includes("IO") && !inheritedBy(kind).some((flag) => flags.includes(flag));

@@ -538,7 +538,7 @@ export const WORDS = {
         nothing: "Nothing is inherited: the list is empty and grants nothing. " +
             "Windows would use the default of the creator's token instead.",
         mappingUnknown: "What generic rights become in a new object of this kind is unknown.",
-        noHeirs: "Nothing inherits from an object of this kind.",
+        noHeirs: "No such object is made in one of this kind, so nothing inherits.",
         notPassed: "not passed on",
         fault: "{field}: {fault}",
         arrow: "\u2190",
