@@ -497,7 +497,7 @@ async function openKind(...given) {
     const command = byId("copied-text")?.value ?? "";
     answerOf(view).querySelector(`[data-kind=${kind}]`)?.click();
     await until(isIdle);
-    return {before, command, after: said(view), names, faint, focus: document.activeElement.id};
+    return {before, command, after: said(view), names, faint, focus: document.activeElement.id, copied: byId("copied").textContent};
 }
 
 // A worker that gets no question: it is silent, as one in an endless loop is.

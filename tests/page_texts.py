@@ -444,6 +444,7 @@ def test_open_kinds(count, page, _):
             shown = "so nothing inherits" if (view, kind) == ("inherit", "service") else name
             is_answered = not after["asks"] and after["isSeen"] and shown in after["text"] and after["kind"] == kind and name in after["boxes"]
             count.add(is_answered and got["focus"] == f"tab-{view}", f"after the choice of {kind}: {what}")
+            count.add(got["copied"] == "", f"what was copied before the choice of {kind}: {what}")
             is_called = view != "inherit" or ("folder" in after["text"]) == (kind == "folder")
             count.add(is_called, f"a folder that is none, or is not called one: {what}")
             command = page.do(

@@ -558,8 +558,10 @@ class Page {
         await shown;
     }
 
-    // The state goes to the address a moment after the last key; the names that the user gave don't.
+    // The state goes to the address a moment after the last key; the names that the user gave don't. What was copied is of an
+    // older state.
     remember() {
+        show(byId("copied"));
         clearTimeout(this.timer);
         this.timer = setTimeout(() => {
             const text = addressOf(this.state, freshState());
