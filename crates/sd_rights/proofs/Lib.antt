@@ -1,3 +1,4 @@
+mod FrontMasks
 pub mod MaskNumbers
 mod NameRows
 pub mod laws

@@ -1,4 +1,5 @@
 pub mod AccessRights
+pub mod HexValues
 pub mod Mapping
 pub mod MappingValues
 pub mod RightValues

@@ -3,6 +3,7 @@
 
 mod access_rights;
 mod mapping;
+mod mask_fronts;
 mod right_cells;
 mod rights;
 mod rights_reading;
@@ -14,5 +15,6 @@ pub use access_rights::{
     SECOND_RESERVED, SYNCHRONIZE, WRITE_DAC, WRITE_OWNER, has_right,
 };
 pub use mapping::{Mapping, mask_if};
+pub use mask_fronts::front_mask;
 pub use rights::{is_label, print_rights, put_rights};
 pub use rights_reading::rights_from_text;

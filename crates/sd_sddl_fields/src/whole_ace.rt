@@ -11,12 +11,9 @@ ghost use Rattle.sd_sddl_fields.specs.FieldFronts.{FieldAt, ObjectsAt};
 use crate::field_texts::object_from_text;
 use sd_ace::GUID_TEXT_SIZE;
 use sd_kinds::{AceKind, INHERIT_ONLY, INHERITED, ONWARD, flags_from_text};
-use sd_rights::rights_from_text;
+use sd_rights::{front_mask, rights_from_text};
 use sd_text::MOST_FIELD_SIZE;
 use uuid::Uuid;
-
-/// Where most masks end: after one name, after two, and after six digits of hex.
-const USUAL_ENDS: [usize; 3] = [2, 4, 8];
 
 /// The kind at the front of a text, and what follows its semicolon. None where there is none.
 #[inline(always)]
@@ -95,28 +92,22 @@ fn usual_flags(text: &[u8]) -> Option<(u8, &[u8])>
 pub fn front_rights(text: &[u8]) -> Option<(u32, &[u8])>
     ensures { IfSome result (λ r. FieldAt (λ t. rights_reads t ≡ Some r.0) (char ";") text.now r.1.now) }
 {
-    if let Some((field, rest)) = usual_cut(text) {
-        if let Some(mask) = rights_from_text(field) {
-            return Some((mask, rest));
-        }
+    if let Some(usual) = usual_rights(text) {
+        return Some(usual);
     }
     let (field, rest) = cut(text)?;
     let mask = rights_from_text(field)?;
     Some((mask, rest))
 }
 
-// The text before a semicolon where most masks end, and what follows it. It need not be the first semicolon: a text
-// with another one in it does not read.
+// The same, for the forms that most masks have: names, or hex digits.
 #[inline(always)]
-fn usual_cut(text: &[u8]) -> Option<(&[u8], &[u8])>
-    ensures { IfSome result (λ r. text.now ≡ r.0.now ++ char ";" ∷ r.1.now) }
+fn usual_rights(text: &[u8]) -> Option<(u32, &[u8])>
+    ensures { IfSome result (λ r. FieldAt (λ t. rights_reads t ≡ Some r.0) (char ";") text.now r.1.now) }
 {
-    for end in USUAL_ENDS {
-        if end < text.len() && text[end] == b';' {
-            return Some((&text[..end], &text[end + 1..]));
-        }
-    }
-    None
+    let (mask, size) = front_mask(text)?;
+    let rest = behind_byte(text, size, b';')?;
+    Some((mask, rest))
 }
 
 /// What follows this text at the front.
@@ -174,7 +165,18 @@ fn cut(text: &[u8]) -> Option<(&[u8], &[u8])>
 pub fn behind(text: &[u8], size: usize) -> Option<&[u8]>
     ensures { IfSome result (λ r. (size ≤ most_field) × (text.now ≡ take size text.now ++ char ")" ∷ r.now)) }
 {
-    if size > MOST_FIELD_SIZE || text.len() <= size || text[size] != b')' {
+    if size > MOST_FIELD_SIZE {
+        return None;
+    }
+    behind_byte(text, size, b')')
+}
+
+// What follows this byte at offset `size`. `None` if it isn't there.
+#[inline(always)]
+fn behind_byte(text: &[u8], size: usize, byte: u8) -> Option<&[u8]>
+    ensures { IfSome result (λ r. text.now ≡ take size text.now ++ byte ∷ r.now) }
+{
+    if text.len() <= size || text[size] != byte {
         return None;
     }
     Some(&text[size + 1..])

@@ -1,6 +1,6 @@
 //! Names of two letters for bits.
 
-ghost use Rattle.std.specs.Prelude.{◌≡◌, ◌≤◌, ◌<◌, List, length, take, true};
+ghost use Rattle.std.specs.Prelude.{◌≡◌, ◌≤◌, ◌<◌, ◌+◌, List, length, take, get_or, true, Some, None};
 ghost use Rattle.std.specs.Char.{to_ascii_uppercase};
 ghost use Rattle.sd_text.specs.Names.{IsSameCapital, bits_named, has_cells, name_cell, names_of, run_of};
 ghost use Rattle.sd_text.specs.declared.names.NamedBits.{NamedBits};
@@ -99,6 +99,29 @@ pub fn read_names(cells: &NameCells, text: &[u8]) -> Option<u32>
         rest = tail;
     }
     Some(bits)
+}
+
+/// The bits of the run of names at the front, and how many bytes it has. The next two bytes are no name, or fewer are
+/// left.
+#[inline(always)]
+pub fn front_names(cells: &NameCells, text: &[u8]) -> (u32, usize)
+    ghost table: { List NamedBits }
+    requires { has_cells table cells.now ≡ true }
+    ensures within { result.1 ≤ length text.now }
+    ensures run { run_of table (take result.1 text.now) ≡ Some result.0 }
+    ensures ends { result.1 + 1 < length text.now
+        → bits_named table (get_or text.now result.1 0) (get_or text.now (result.1 + 1) 0) ≡ None }
+{
+    let mut bits = 0;
+    let mut size = 0;
+    while size + 1 < text.len() {
+        let Some(more) = bits_named(cells, text[size], text[size + 1]) else {
+            return (bits, size);
+        };
+        bits |= more;
+        size += 2;
+    }
+    (bits, size)
 }
 
 // The bits of two letters. Any other byte may have the cell of a letter, so it is told apart first.

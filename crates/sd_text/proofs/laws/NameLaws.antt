@@ -1,7 +1,8 @@
 -- The bits of a table's names, one entry after another.
 use Rattle.std.proofs.Common.{◌≡◌, ◌≤◌, ℕ, zero, suc, ◌*◌, ◌^◌, ◌<◌, Bool, true, false, List, [], ◌∷◌}
 use Rattle.std.proofs.Common.{length, bit_and, bit_or, Some, None, arith, sym, ap, ◌∙◌, refl, eq-eqb}
-use Rattle.std.proofs.Common.{eqb-true, ne_eqb}
+use Rattle.std.proofs.Common.{eqb-true, ne_eqb, ◌+◌, ◌++◌, take, get_or, append-nil, append_assoc}
+use Rattle.std.proofs.lemmas.List.{take_more}
 use Rattle.std.specs.Prelude.{Option, IfSome, ◌==◌, ◌&&◌, ◌||◌, if◌then◌else◌}
 use Rattle.std.specs.Char.{to_ascii_uppercase}
 use Rattle.std.specs.Int.{IsPowerOfTwo, bit_at}
@@ -106,6 +107,42 @@ pub run-end : (table : List NamedBits) (bits : ℕ) (text : List ℕ) → length
 unfolding run_of
 run-end table bits [] e = ap Some (sym (or_zero bits))
 run-end table bits (a ∷ tail) e = absurd (omega arith)
+
+-- The run of names at the front of a text has these bits, whatever follows it.
+abbrev pub HasRun : List NamedBits → List ℕ → ℕ → Type 0
+HasRun table front bits = (rest : List ℕ) → run_of table (front ++ rest) ≡ joined (Some bits) (run_of table rest)
+
+-- no name
+pub no-names : (table : List NamedBits) → HasRun table [] 0
+no-names table rest = none-before (run_of table rest)
+  where
+    none-before : (o : Option ℕ) → o ≡ joined (Some 0) o
+    none-before None = refl
+    none-before (Some n) = ap Some (sym (zero_or n))
+
+-- one name more behind it
+pub one-name : (table : List NamedBits) (bits more i : ℕ) (text : List ℕ) → i + 1 < length text
+    → HasRun table (take i text) bits → Some more ≡ bits_named table (get_or text i 0) (get_or text (i + 1) 0)
+    → HasRun table (take (i + 2) text) (bit_or bits more)
+one-name table bits more i text h run known rest =
+    let a = get_or text i 0 in
+    let b = get_or text (i + 1) 0 in
+    let next : i + 2 ≡ (i + 1) + 1 = omega arith in
+    let two : take (i + 2) text ≡ (take i text ++ a ∷ []) ++ b ∷ [] =
+    ap (λ n. take n text) next ∙ take_more text (i + 1) 0 h
+    ∙ ap (λ (t : List ℕ). t ++ b ∷ []) (take_more text i 0 (omega (arith, h))) in
+    ap (λ (t : List ℕ). run_of table (t ++ rest)) two
+    ∙ ap (run_of table) (append_assoc (take i text ++ a ∷ []) (b ∷ []) rest
+    ∙ append_assoc (take i text) (a ∷ []) (b ∷ rest))
+    ∙ run (a ∷ b ∷ rest)
+    ∙ sym (run-step table bits more a b (a ∷ b ∷ rest) (b ∷ rest) rest refl refl known)
+
+-- the run by itself
+pub run-alone : (table : List NamedBits) (front : List ℕ) (bits : ℕ) → HasRun table front bits
+    → run_of table front ≡ Some bits
+unfolding run_of
+run-alone table front bits run =
+    ap (run_of table) (sym (append-nil front)) ∙ run [] ∙ ap Some (or_zero bits)
 
 -- every bit of a mask is among these
 abbrev pub among : ℕ → ℕ → Bool

@@ -1,9 +1,9 @@
-use Rattle.std.proofs.Common.{◌≡◌, ◌+◌, ◌-◌, arith, drop, refl, sym, ◌∙◌, take, true, false}
+use Rattle.std.proofs.Common.{◌≡◌, ◌+◌, ◌-◌, arith, drop, refl, sym, ◌∙◌, take, true}
 use Rattle.std.specs.List.{list_all}
 use Rattle.std.proofs.Math.Seq.{take-add}
 use Rattle.std.proofs.lemmas.List.Folds.{list_all-append}
 use Rattle.std.proofs.lemmas.Bool.{and_parts}
-use Rattle.std.specs.Prelude.{ℕ, List, [], ◌∷◌, nat_lt}
+use Rattle.std.specs.Prelude.{ℕ, List, [], ◌∷◌}
 use Rattle.sd_sddl_fields.specs.Held.{is_plain_text}
 use Rattle.sd_sddl_fields.specs.Inner.Blocks.{is_plain_late}
 use Rattle.sd_sddl_fields.proofs.plain.plain_blocks.Goals as goal
