@@ -10,6 +10,7 @@ use Rattle.sd_builder.specs.Draft.{DraftParts, built, closed}
 use Rattle.sd_builder.specs.declared.builder.Builder.{Builder}
 use Rattle.sd_sddl_builder.specs.FoldedReading.{FieldsRead, begun_or_null, described, finished, no_fields, take_front}
 use Rattle.sd_sddl_builder.specs.FoldedReading.{with_flags}
+use Rattle.sd_sid.specs.KeptDomain.{DomainOf}
 use Rattle.sd_sddl_fields.specs.FieldTexts.{object_reads}
 use Rattle.sd_sddl_builder.specs.Meaning.{control_flags, unless_large}
 use Rattle.sd_sddl_builder.specs.FieldReading.{AreAceFields, BuildsParts, HasReadFields}
@@ -50,6 +51,18 @@ module _ (r : FieldReader) (buf : List ℕ) (t : FieldsRead) (h : HasReadFields 
     ace = refl;
     large = h.large;
     sound = sound;
+    builds = h.builds;
+    open_acl = h.open_acl;
+  }
+
+  -- the domain that is kept is no part of what was read
+  pub holds-kept : (d : DomainOf) → HasReadFields (record r { kept = d }) buf t
+  holds-kept d = record {
+    sacl = h.sacl;
+    dacl = h.dacl;
+    ace = h.ace;
+    large = h.large;
+    sound = h.sound;
     builds = h.builds;
     open_acl = h.open_acl;
   }

@@ -25,7 +25,7 @@ use sd_sddl_fields::{
     NO_FLAGS, after, behind, front_flags, front_from_text, front_kind, front_objects, front_rights,
     object_from_text,
 };
-use sd_sid::{Account, Sid, SidFault, front_account};
+use sd_sid::{Account, KeptDomain, Sid, SidFault, front_account};
 use uuid::Uuid;
 
 /// The fields of an ACE before its SID.
@@ -49,6 +49,8 @@ pub struct FieldReader {
     dacl: AclFlags,
     ace: AceFields,
     large: Option<Which>,
+    /// The domain of accounts that were read, in this line and those before it.
+    pub kept: KeptDomain,
 }
 
 impl FieldReader {
@@ -72,7 +74,22 @@ impl FieldReader {
             dacl: NO_FLAGS,
             ace: no_fields(AceKind::Allow),
             large: None,
+            kept: KeptDomain::none(),
         }
+    }
+
+    /// Begins another line, as a reader of this domain that has read nothing.
+    pub fn restart(&mut self, domain: Option<Sid>, buf: &mut SdBuf)
+        ensures held { HasReadFields self.new buf.new nothing_read }
+        ensures domain { self.new.domain ≡ domain }
+    {
+        self.domain = domain;
+        self.builder = Builder::new(buf);
+        self.open_acl = None;
+        self.sacl = NO_FLAGS;
+        self.dacl = NO_FLAGS;
+        self.ace = no_fields(AceKind::Allow);
+        self.large = None;
     }
 
     /// Reads a field whose text has no blank and at most 183 bytes.
@@ -358,8 +375,9 @@ impl FieldReader {
             self.new buf.new rest.now) }
         ensures domain { self.new.domain ≡ self.old.domain }
     {
-        let (account, behind) = front_account(text)?;
+        let (account, domain, behind) = front_account(text, &self.kept)?;
         let rest = after(behind, b")")?;
+        self.kept.note(&text[..domain], account);
         self.ace = AceFields {
             flags,
             mask,

@@ -35,7 +35,7 @@ use Rattle.sd_text.specs.Chains.{and_then, unless}
 use Rattle.sd_sddl_reader.specs.Inner.Progress.{Seen, is_inside, fields_left, is_shaped_here, text_with, inner_with}
 use Rattle.sd_sddl_reader.specs.Inner.Progress.{fields_here, is_seen, with_head, has_seen, judged, rest_answer}
 use Rattle.sd_sddl_reader.specs.Inner.Progress.{state_of, ended_with}
-use Rattle.sd_sddl_builder.proofs.laws.Heads.{head-paired, headed, no-colon, no_head, not_letter}
+use Rattle.sd_sddl_builder.proofs.laws.Heads.{head-paired, headed, no_head, not_letter}
 use Rattle.sd_sddl_reader.proofs.FieldTexts.{Same, same_reads, text_ended, inner_ended}
 
 -- 1. Small facts.

@@ -14,7 +14,7 @@ ghost use Rattle.sd_text.specs.Limits.{most_field};
 use sd_parts::{SidPart, Which};
 use sd_sddl_builder::{AceField, Head};
 use sd_sddl_fields::{is_plain_text, plain_text};
-use sd_sid::{Account, front_account};
+use sd_sid::{Account, KeptDomain, front_account};
 use sd_text::MOST_FIELD_SIZE;
 
 /// Where in a line the next byte is.
@@ -132,12 +132,12 @@ pub fn next_head(text: &[u8]) -> Option<(&[u8], Head, &[u8])>
 }
 
 /// The account of an owner or a group at the front of a text, the head that ends it, and what follows its colon. Where
-/// it is `None`, `next_head` decides.
+/// it is `None`, `next_head` decides. The numbers of the domain that is kept are not read again.
 #[inline(always)]
-pub fn next_account(text: &[u8]) -> Option<(Account, Head, &[u8])>
+pub fn next_account<'a>(text: &'a [u8], kept: &KeptDomain) -> Option<(Account, Head, &'a [u8])>
     ensures { IfSome result (λ r. AccountBefore r.0 r.1 r.2.now text.now) }
 {
-    let (account, behind) = front_account(text)?;
+    let (account, _, behind) = front_account(text, kept)?;
     let (_, head, rest) = front_head(behind)?;
     Some((account, head, rest))
 }

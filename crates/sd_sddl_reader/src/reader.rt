@@ -88,7 +88,7 @@ impl SddlReader {
         self.seen = Parts::each(false);
         self.field.clear();
         self.fault = None;
-        self.fields = FieldReader::new(domain, buf);
+        self.fields.restart(domain, buf);
     }
 
     // A byte inside parentheses.
@@ -465,7 +465,7 @@ impl SddlReader {
         ensures { MatchOption result ((self.new ≡ self.old) × (buf.new ≡ buf.old))
             (λ rest. Feeds self.old buf.old text.now self.new buf.new rest.now) }
     {
-        let (account, head, rest) = next_account(text)?;
+        let (account, head, rest) = next_account(text, &self.fields.kept)?;
         self.fields.put_sid(buf, part, &account.sid());
         self.note_head(head);
         Some(rest)

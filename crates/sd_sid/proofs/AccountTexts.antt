@@ -1,6 +1,8 @@
 -- The text of an account's SID, from the numbers in it.
 use Rattle.std.proofs.Common.{◌≡◌, ◌≤◌, ℕ, Bool, true, false, ◌&&◌, List, [], ◌∷◌, ◌++◌, length, drop}
 use Rattle.std.proofs.Common.{Option, Some, Ok, Err, slice_index, refl, ap, sym, ◌∙◌, arith, append-nil, append_assoc, length-append}
+use Rattle.std.proofs.Common.{◌+◌, ◌-◌, take, subst}
+use Rattle.std.proofs.Math.Seq.{take-append_seam}
 use Rattle.std.specs.Prelude.{◌==◌, nat_le, nat_lt, if◌then◌else◌}
 use Rattle.std.specs.Char.{is_digit}
 use Rattle.std.specs.List.{list_all}
@@ -14,6 +16,7 @@ use Rattle.sd_sid.specs.declared.sid_text.SidFault.TheVariants as faults
 use Rattle.sd_sid.specs.declared.account.Account.{Account}
 use Rattle.sd_sid.specs.Account.{AccountAt, account_sid}
 use Rattle.sd_sid.specs.Inner.Read.{NumberAt}
+use Rattle.sd_sid.specs.KeptDomain.{IsDomainText}
 use Rattle.sd_sid.proofs.laws.TextLaws.{cut-digits, digit_byte, digits_16, joined_bytes, list_all-more}
 
 decimal-digits : (ds : List ℕ) → is_decimal ds ≡ true → list_all (λ b. is_digit b 10) ds ≡ true
@@ -135,3 +138,40 @@ account-at text p q r s rest a stands k l m n =
       plain = account-bytes k.digits l.digits m.digits n.digits k.form l.form m.form n.form;
       short = short;
     }
+
+-- the texts of the first three numbers, and the dash behind each, are the text of the domain
+pub domain-text : (text p q r s : List ℕ) (a : Account)
+    → text ≡ 83 ∷ 45 ∷ 49 ∷ 45 ∷ 53 ∷ 45 ∷ 50 ∷ 49 ∷ 45 ∷ p
+    → NumberAt p a.first (45 ∷ q) → NumberAt q a.second (45 ∷ r) → NumberAt r a.third (45 ∷ s)
+    → IsDomainText (take (length text - length s) text) a
+domain-text text p q r s a stands k l m =
+    let inner : List ℕ = k.digits ++ 45 ∷ (l.digits ++ 45 ∷ (m.digits ++ 45 ∷ [])) in
+    let front : List ℕ = 83 ∷ 45 ∷ 49 ∷ 45 ∷ 53 ∷ 45 ∷ 50 ∷ 49 ∷ 45 ∷ inner in
+    let behind : (t : List ℕ)
+    → inner ++ t ≡ k.digits ++ 45 ∷ (l.digits ++ 45 ∷ (m.digits ++ 45 ∷ t)) =
+    λ t. append_assoc k.digits (45 ∷ (l.digits ++ 45 ∷ (m.digits ++ 45 ∷ []))) t
+    ∙ ap (λ (u : List ℕ). k.digits ++ 45 ∷ u)
+    (append_assoc l.digits (45 ∷ (m.digits ++ 45 ∷ [])) t
+    ∙ ap (λ (u : List ℕ). l.digits ++ 45 ∷ u) (append_assoc m.digits (45 ∷ []) t)) in
+    let is : text ≡ front ++ s =
+    stands ∙ ap (λ (t : List ℕ). 83 ∷ 45 ∷ 49 ∷ 45 ∷ 53 ∷ 45 ∷ 50 ∷ 49 ∷ 45 ∷ t)
+    (k.stands ∙ ap (λ (t : List ℕ). k.digits ++ 45 ∷ t) (l.stands ∙ ap (λ (t : List ℕ). l.digits ++ 45 ∷ t) m.stands)
+    ∙ sym (behind s)) in
+    let sizes : length text ≡ length front + length s = ap length is ∙ length-append front s in
+    let same : length text - length s ≡ length front = omega (arith, sizes) in
+    let text-is : take (length text - length s) text ≡ front =
+    ap (λ (n : ℕ). take n text) same ∙ ap (λ (t : List ℕ). take (length front) t) is ∙ take-append_seam front s in
+    let one = length-append k.digits (45 ∷ (l.digits ++ 45 ∷ (m.digits ++ 45 ∷ []))) in
+    let two = length-append l.digits (45 ∷ (m.digits ++ 45 ∷ [])) in
+    let three = length-append m.digits (45 ∷ []) in
+    subst (λ (t : List ℕ). IsDomainText t a) (sym text-is) (record {
+      short = omega (arith, one, two, three, k.few, l.few, m.few);
+      reads = λ own rest n h.
+          account-at (front ++ own) (k.digits ++ 45 ∷ (l.digits ++ 45 ∷ (m.digits ++ 45 ∷ own)))
+          (l.digits ++ 45 ∷ (m.digits ++ 45 ∷ own)) (m.digits ++ 45 ∷ own) own rest (record a { last = n })
+          (ap (λ (t : List ℕ). 83 ∷ 45 ∷ 49 ∷ 45 ∷ 53 ∷ 45 ∷ 50 ∷ 49 ∷ 45 ∷ t) (behind own))
+          (record { digits = k.digits; stands = refl; form = k.form; reads = k.reads; few = k.few })
+          (record { digits = l.digits; stands = refl; form = l.form; reads = l.reads; few = l.few })
+          (record { digits = m.digits; stands = refl; form = m.form; reads = m.reads; few = m.few })
+          h;
+    })

@@ -1,20 +1,30 @@
 //! The SIDs of accounts of a domain, `S-1-5-21` and four numbers: most SIDs of a line are such.
 
-ghost use Rattle.std.specs.Prelude.{◌≡◌, ◌∷◌, ◌++◌, IfSome};
+ghost use Rattle.std.specs.Prelude.{◌≡◌, ◌≤◌, ◌<◌, ◌∷◌, ◌++◌, length, take, true, IfSome};
 ghost use Rattle.std.specs.Str.{byte as char};
 ghost use Rattle.sd_sid.specs.Account.{AccountAt, account_sid};
 ghost use Rattle.sd_sid.specs.Inner.Read.{NumberAt};
+ghost use Rattle.sd_sid.specs.KeptDomain.{IsKept, no_domain, noted, same_domain};
 ghost use Rattle.sd_sid.specs.Sid.{IsSid};
 
 use crate::sid::Sid;
 use crate::usual_sid::{DOMAIN, NT};
 use sd_text::front_decimal;
+use std::marker::Model;
 
 /// The text before the numbers of an account.
 const DOMAIN_TEXT: &str = "S-1-5-21-";
 
+/// The bytes of the text before the last number of an account, at most: that and three numbers with a dash each.
+const MOST_DOMAIN_TEXT: usize = 42;
+
+/// The bytes at both ends of such a text that are compared at once.
+const FRONT: usize = 32;
+
+const BACK: usize = 16;
+
 /// The SID of an account of a domain: the numbers after `S-1-5-21-`.
-#[derive(Clone, Copy)]
+#[derive(Clone, Copy, Default)]
 pub struct Account {
     pub first: u32,
     pub second: u32,
@@ -49,24 +59,144 @@ impl Account {
     }
 }
 
-/// The account at the front of a text, and what follows the last digit of its text. `None` means only that the general
-/// reader must decide.
+/// The domain of accounts that were read, and the text of their SIDs up to the dash before the last number. Most accounts
+/// of a line, and of a file, are of one domain, so its numbers need not be read again.
+#[derive(Drop)]
+pub struct KeptDomain {
+    cells: [u8; MOST_DOMAIN_TEXT],
+    size: usize,
+    // Of these two the last number counts for nothing.
+    account: Account,
+    latest: Account,
+}
+
+impl Model for KeptDomain {
+    ghost use Rattle.std.specs.Prelude.{◌≤◌, take, length};
+    ghost use Rattle.sd_sid.specs.KeptDomain.{DomainOf, IsKept};
+
+    ghost Value = { DomainOf };
+
+    ghost view = { λ k. record { text = take k.size k.cells; account = k.account; latest = k.latest } };
+
+    ghost invariant = { λ k. (k.size ≤ length k.cells) × IsKept (take k.size k.cells) k.account };
+}
+
+impl KeptDomain {
+    /// None yet.
+    pub fn none() -> KeptDomain
+        ensures { result ≡ no_domain }
+    {
+        KeptDomain {
+            cells: [0; MOST_DOMAIN_TEXT],
+            size: 0,
+            account: Account::default(),
+            latest: Account::default(),
+        }
+    }
+
+    /// Notes an account that was read, with the text of its domain, or no text where its domain is kept. A domain is kept
+    /// once two accounts of it follow each other: to copy the text for one account costs more than it saves.
+    #[inline(always)]
+    pub fn note(&mut self, text: &[u8], account: Account)
+        requires { IsKept text.now account }
+        ensures { self.new ≡ noted self.old text.now account }
+    {
+        if text.is_empty() {
+            return;
+        }
+        if same_domain(account, self.latest) {
+            self.size = text.len();
+            self.cells[..self.size].copy_from_slice(text);
+            self.account = account;
+        }
+        self.latest = account;
+    }
+
+    // The account at the front of a text that is of this domain, and what follows the last digit of its text.
+    #[inline(always)]
+    fn account_at<'a>(&self, text: &'a [u8]) -> Option<(Account, &'a [u8])>
+        ensures { IfSome result (λ r. AccountAt text.now r.0 r.1.now) }
+    {
+        let own = self.behind_text(text)?;
+        let (last, rest) = number(own)?;
+        let account = Account {
+            last,
+            ..self.account
+        };
+        Some((account, rest))
+    }
+
+    // What follows the domain's text at the front. Both of its ends are compared, which overlap: to compare as many bytes
+    // as are known when the program is built takes a few steps. Nearly all domains have texts so long.
+    #[inline(always)]
+    fn behind_text<'a>(&self, text: &'a [u8]) -> Option<&'a [u8]>
+        ensures { IfSome result (λ r. (0 < length self.now.text) × (text.now ≡ self.now.text ++ r.now)) }
+    {
+        let size = self.size;
+        if size < FRONT || text.len() < size || !has_front::<FRONT>(text, &self.cells) {
+            return None;
+        }
+        if !has_front::<BACK>(&text[size - BACK..], &self.cells[size - BACK..]) {
+            return None;
+        }
+        Some(&text[size..])
+    }
+}
+
+// Whether the first bytes of two texts are there and the same.
 #[inline(always)]
-pub fn front_account(text: &[u8]) -> Option<(Account, &[u8])>
-    ensures { IfSome result (λ r. AccountAt text.now r.0 r.1.now) }
+fn has_front<const COUNT: usize>(one: &[u8], other: &[u8]) -> bool
+    requires { COUNT ≤ FRONT }
+    ensures { result ≡ true → take COUNT one.now ≡ take COUNT other.now }
+{
+    match (one.first_chunk::<COUNT>(), other.first_chunk::<COUNT>()) {
+        (Some(front), Some(same)) => *front == *same,
+        _ => false,
+    }
+}
+
+// Whether two accounts are of one domain.
+#[inline(always)]
+fn same_domain(one: Account, other: Account) -> bool
+    ensures { result ≡ same_domain one other }
+{
+    one.first == other.first && one.second == other.second && one.third == other.third
+}
+
+/// The account at the front of a text, and what follows the last digit of its text. Between them is how many bytes at
+/// the front are the text of its domain, or 0 where that domain is kept. `None` means only that the general reader must
+/// decide.
+#[inline(always)]
+pub fn front_account<'a>(text: &'a [u8], kept: &KeptDomain) -> Option<(Account, usize, &'a [u8])>
+    ensures found { IfSome result (λ r. AccountAt text.now r.0 r.2.now) }
+    ensures within { IfSome result (λ r. r.1 ≤ length text.now) }
+    ensures domain { IfSome result (λ r. IsKept (take r.1 text.now) r.0) }
+{
+    match kept.account_at(text) {
+        Some((account, rest)) => Some((account, 0, rest)),
+        None => read_account(text),
+    }
+}
+
+// The same where no domain is kept.
+#[inline(always)]
+fn read_account(text: &[u8]) -> Option<(Account, usize, &[u8])>
+    ensures found { IfSome result (λ r. AccountAt text.now r.0 r.2.now) }
+    ensures within { IfSome result (λ r. r.1 ≤ length text.now) }
+    ensures domain { IfSome result (λ r. IsKept (take r.1 text.now) r.0) }
 {
     let rest = behind(text, DOMAIN_TEXT.as_bytes())?;
     let (first, rest) = number_and_dash(rest)?;
     let (second, rest) = number_and_dash(rest)?;
-    let (third, rest) = number_and_dash(rest)?;
-    let (last, rest) = number(rest)?;
+    let (third, own) = number_and_dash(rest)?;
+    let (last, rest) = number(own)?;
     let account = Account {
         first,
         second,
         third,
         last,
     };
-    Some((account, rest))
+    Some((account, text.len() - own.len(), rest))
 }
 
 // A number, and what follows the dash behind it.

@@ -8,7 +8,7 @@ mod sid;
 mod sid_text;
 mod usual_sid;
 
-pub use account::{Account, front_account};
+pub use account::{Account, KeptDomain, front_account};
 pub use naming::Naming;
 pub use sid::Sid;
 pub use sid_text::SidFault;

@@ -4,7 +4,7 @@ use Rattle.sd_sddl_reader.proofs.line.next_account.Goals as goal
 
 pub returns : goal.returns
 returns c =
-    let at = c.in_ok-account.ensures in
+    let at = c.in_ok-account.ensures.found in
     let next = c.in_ok-head.ensures.found in
     record {
       field = at.field;

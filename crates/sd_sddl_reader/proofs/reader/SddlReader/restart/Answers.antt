@@ -8,9 +8,9 @@ use Rattle.sd_sddl_reader.proofs.reader.SddlReader.restart.Goals as goal
 
 pub returns-clause-read : goal.returns-clause-read
 returns-clause-read c =
-    let domain = c.new-self.ensures.domain in (
+    let domain = c.restart.ensures.domain in (
       nothing_read,
-      record { fields = λ _. c.new-self.ensures.held; fits = λ _. rw (c.each-self.ensures) fits-start },
+      record { fields = λ _. c.restart.ensures.held; fits = λ _. rw (c.each-self.ensures) fits-start },
       λ rest. rw (c.each-self.ensures) (started _ _ rest) ∙ ap (λ (d : Option SecurityId). reads_as d rest) domain,
     )
 
@@ -20,5 +20,5 @@ returns-clause-reader c = record {
   still = λ e. refl;
   letter = λ b e. absurd cc;
   read = nothing_read;
-  held = record { fields = λ _. c.new-self.ensures.held; fits = λ _. rw (c.each-self.ensures) fits-start };
+  held = record { fields = λ _. c.restart.ensures.held; fits = λ _. rw (c.each-self.ensures) fits-start };
 }
