@@ -1,3 +1,4 @@
+mod LargeRows
 mod Rows
 pub mod Cuttings
 pub mod Faults
