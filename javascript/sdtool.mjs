@@ -1180,8 +1180,17 @@ async function moduleOf(source) {
   return compiled(await bytesAt(new URL("sdtool.wasm", import.meta.url)));
 }
 
+// A call of the library that older modules lack.
+const NEWEST_CALL = "sdtool_sddl_place";
+
+// Another module, or that of an older version, is refused before it runs.
+function own(module) {
+  if (WebAssembly.Module.exports(module).some(({ name }) => name === NEWEST_CALL)) return module;
+  throw new Error("sdtool: this module of WebAssembly is another one than sdtool.wasm of this version");
+}
+
 /** Loads the library: from the file beside this module, or from bytes, a URL or a compiled module. */
 export async function load(source) {
-  const module = await moduleOf(source);
+  const module = own(await moduleOf(source));
   return new Sdtool(module, await WebAssembly.instantiate(module));
 }

@@ -477,6 +477,14 @@ for (const source of [null, 5, {}, "sdtool.wasm", new URL("none.wasm", address),
   await load(source).catch((reason) => { error = reason; });
   add(error instanceof Error && !error.message.includes("vectors"), `loading from ${source}: ${error}`);
 }
+// Other modules: an empty one, and one that has a call of the library and no more.
+const NO_CALL = [0, 97, 115, 109, 1, 0, 0, 0], OLDER = [7, 18, 1, 14, ...new TextEncoder().encode("sdtool_version"), 0, 0];
+for (const bytes of [NO_CALL, [...NO_CALL, 1, 4, 1, 96, 0, 0, 3, 2, 1, 0, ...OLDER, 10, 4, 1, 2, 0, 11]])
+  for (const source of [Uint8Array.from(bytes), await WebAssembly.compile(Uint8Array.from(bytes))]) {
+    let error;
+    await load(source).catch((reason) => { error = reason; });
+    add(/^sdtool: .*another one/.test(error?.message), `loading another module: ${error}`);
+  }
 
 console.log(`${passed} passed, ${failed} failed`);
 process.exitCode = failed === 0 ? 0 : 1;
