@@ -28,7 +28,7 @@ const ACCOUNT_SUBS_OFFSET: usize = FRONT_SIZE + 8;
 // The size of such an ACE for an account of a domain.
 const ACCOUNT_ACE_SIZE: usize = ACCOUNT_SUBS_OFFSET + 4 * ACCOUNT_SUBS;
 
-// The first of them.
+// The first sub-authority of an account of a domain.
 const DOMAIN: u32 = 21;
 
 // Appends a SID (MS-DTYP 2.4.2.2). Inlined, since most of a descriptor's bytes are SIDs.
