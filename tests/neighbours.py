@@ -316,6 +316,9 @@ def changed_bytes(text):
 USUAL_SDDL = b"O:BAG:S-1-5-21-1-2-3-513D:PAI(D;;0x10;;;AN)(OA;CIIO;RPWP;bf967aba-0de6-11d0-a285-00aa003049e2;;PS)" \
              b"(A;OICI;FA;;;SY)S:AR(AU;SAFA;SD;;;WD)(ML;;NW;;;HI)"
 
+# What the usual line lacks: an authority in hex, an octal number, a null ACL, and small letters.
+OTHER_SDDL = b"o:s-1-0x0123456789aB-4294967295 g:da\td:aiarpNO_ACCESS_CONTROL S:(ou;cinpfa;017;;bf967aba-0de6-11d0-a285-00aa003049e2;ps)"
+
 
 def usual_descriptor():
     """A descriptor with each part, each family of types and each field."""
@@ -328,8 +331,9 @@ def changed_lines():
     for words in (("convert", "--to=hex"), ("explain",), ("check", "--token=SY,!AN,BA", "--maximum", "--level=8192"),
                   ("derive", "--kind=container", "--owner=BA", "--group=SY", "--to=hex")):
         yield from in_pieces(line_run, words, items=lines, size=LINES_AT_ONCE)
-    yield from in_pieces(line_run, READ, items=changed_bytes(USUAL_SDDL), size=LINES_AT_ONCE)
-    yield line_run, (READ, [USUAL_SDDL[:at] + USUAL_SDDL[at + 1:] for at in range(len(USUAL_SDDL))])
+    for text in (USUAL_SDDL, OTHER_SDDL):
+        yield from in_pieces(line_run, READ, items=changed_bytes(text), size=LINES_AT_ONCE)
+        yield line_run, (READ, [text[:at] + text[at + 1:] for at in range(len(text))])
 
 
 def numbers_read():
