@@ -8,7 +8,7 @@ answers it, and all else is the argument that is wrong.
            an ACE's type and of its flags
   lengths  of a SID, a domain, an owner, a group, a creator, a GUID and a token, from 0 to 100, each with zeros, with ones and
            with what has another length
-  bytes    each byte in each place of a usual descriptor
+  bytes    each byte in each place of a usual descriptor, and of an ACL that is walked through
   GUIDs    zeros, ones, others, and each with a byte off, of an object ACE and in the call
   SIDs     the same, of an ACE and in a token, also in memory of the caller
   words    of sdtool_run: each text of one and two bytes as the value of an option with a list, and as a mark in a token
@@ -72,6 +72,15 @@ class Origin(Structure):
 class Origins(Structure):
     _fields_ = [("fault", c_uint32), ("part", c_uint32), ("other_part", c_uint32), ("argument", c_uint32), ("entry", c_size_t),
                 ("sacl_count", c_size_t), ("dacl_count", c_size_t)]
+
+
+class Place(Structure):
+    _fields_ = [("offset", c_size_t), ("size", c_size_t)]
+
+
+class FoundAce(Structure):
+    _fields_ = [("fault", c_uint32), ("mask", c_uint32), ("number", c_uint32), ("kind", c_uint8), ("flags", c_uint8),
+                *((name, Place) for name in ("place", "object_type", "inherited", "sid"))]
 
 
 class Bytes(Structure):
@@ -441,15 +450,52 @@ def creators():
         yield f"normalize {data.hex()}", answered("sdtool_normalize", data), reference.layout(found) if found else (fault, 0, 0)
 
 
+def nearly(data):
+    """Some bytes with each other byte in each place, and their fronts."""
+    found = {data[:at] + bytes([byte]) + data[at + 1:] for at in range(len(data)) for byte in range(256)}
+    return sorted(found | {data[:length] for length in range(len(data))})
+
+
 def descriptors():
-    """A usual descriptor with each other byte in each place, and its fronts."""
-    usual = neighbours.usual_descriptor()
-    for data in [*neighbours.changed_bytes(usual), *(usual[:length] for length in range(len(usual)))]:
+    for data in nearly(neighbours.usual_descriptor()):
         try:
             right = reference.layout(reference.read(data))
         except reference.parts.Fault as fault:
             right = (fault.args[0], 0, 0)
         yield f"normalize {data.hex()}", answered("sdtool_normalize", data), right
+
+
+def walks():
+    acl = reference.read(neighbours.usual_descriptor()).dacl
+    for data in nearly(acl.to_bytes()) + nearly(Acl(acl.aces[:1]).to_bytes() + bytes(3)):
+        yield f"walk through {data.hex()}", walked(data), walk_of(data)
+
+
+def walked(data):
+    """Each ACE that a walk finds, and the fault that ends it or 0."""
+    found, ace = [], FoundAce()
+    while len(found) <= len(data) and call("sdtool_next_ace", c_bool, data, byref(ace)):
+        parts = [data[one.offset:one.offset + one.size] for one in (ace.place, ace.object_type, ace.inherited, ace.sid)]
+        found.append((ace.number, ace.kind, ace.flags, ace.mask, ace.place.offset, *parts))
+    return [*found, ace.fault]
+
+
+def walk_of(data):
+    """The same by the reference, which reads one ACE behind the other."""
+    found, at = [], reference.ACL_HEADER.size
+    if len(data) < at:
+        return [10]
+    _, _, size, count, _ = reference.ACL_HEADER.unpack_from(data)
+    try:
+        reference.binary.read_acl(data[:4] + bytes(2) + data[6:], "dacl")  # of no ACEs
+        for number in range(1, count + 1):
+            ace, ace_size = reference.binary.read_ace(data[at:size], "dacl")
+            found.append((number, ace.type, ace.flags, ace.mask, at, data[at:at + ace_size], ace.object_type or b"",
+                          ace.inherited_object_type or b"", ace.sid.to_bytes()))
+            at += ace_size
+    except reference.parts.Fault as fault:
+        return [*found, fault.args[0]]
+    return [*found, OK]
 
 
 def guids_compared():
@@ -572,7 +618,7 @@ def ran(program):
 
 
 PARTS = (mappings, kinds, entries, states, types_and_flags, faults, sids_as_texts, owners, trustees, domains, askers,
-         guid_lengths, creators, descriptors, guids_compared, sids_compared, token_sizes, token_marks, words, layers)
+         guid_lengths, creators, descriptors, walks, guids_compared, sids_compared, token_sizes, token_marks, words, layers)
 
 
 def main():

@@ -72,7 +72,7 @@ COMPARED = re.compile(rf'(?P<equals>nat_eq|bytes_eq|str_eq_ignore_ascii_case) (?
                       rf'|(?P<first>(?:(?:slice_index|to_ascii_uppercase|to_ascii_lowercase|length) {OPERAND}(?: \d+)?)|[\w.]+) == '
                       r'(?P<second>char "[^"\\]"|\d+|0x[0-9A-Fa-f]+|[A-Za-z_]+)(?![\w.(])')
 BEFORE_COMPARED = ("if", "(", "&&", "||", "=", ".", "then", "else", "not", "")
-FIELD = re.compile(r"^  (\w+) = (.*);$", re.M)
+RECORD, FIELD = re.compile(r"record \{(.*?)\}", re.S), re.compile(r"(\w+) = ([^;]*[^;\s])")
 DECLARED = re.compile(r"^(?:abbrev |unfoldable )?(?:pub )?(?:record |data |module )?([^\s(){}]+)(?= [:(])")
 WORD = re.compile(r"[^\s(){}\[\].,;◌]+")
 ERROR = re.compile(r"^(?:\./)?specs/([MR])(\d+)_(\w+)\.antt:(\d+):\d+: error: (?:`([^`]*)`: )?(.*)", re.M)
@@ -450,15 +450,16 @@ class Changes:
         for declared, text in self.module.declarations().items():
             if declared not in self.definitions.cited[self.module.name]:
                 continue
-            records = [dict(FIELD.findall(one)) for one in re.findall(r"record \{\n(.*?)\n\}", text, re.S)]
-            ends = [i for i, line in enumerate(lines) if re.match(r"\} List\.\[\]\)*$", line)
-                    and i > next(j for j, other in enumerate(lines) if other.startswith(f"{declared} ="))]
-            for field in records[-1] if records and ends else ():
-                value = new_value([record[field] for record in records], [record for record in records], field)
+            # a record has a line or several; lists in it are in parentheses
+            records = [dict(FIELD.findall(one)) for one in RECORD.findall(text)]
+            first = next(i for i, line in enumerate(lines) if line.startswith(f"{declared} ="))
+            line = first + text.count("\n") - 2  # (the text has the type before that one)
+            for field in records[-1] if records else ():
+                value = new_value([record[field] for record in records], records, field)
                 if value is not None:
                     fields = "; ".join(f"{name} = {value if name == field else old}" for name, old in records[-1].items())
                     entry = f"(List.◌∷◌ record {{ {fields}; }} List.[])"
-                    yield Change(0, self.module.name, ends[0], 2, "List.[]", entry, "", declared)
+                    yield Change(0, self.module.name, line, lines[line].rindex("List.[]"), "List.[]", entry, "", declared)
 
     def prelude(self, name):
         """The line that imports a name of the Prelude, where the module lacks it."""
