@@ -13,9 +13,9 @@ differs from all others in one field.
 A bug in code and definition alike passes every contract, since contracts only compare the two. Rows (proofs/*Rows.antt)
 have their values from elsewhere. So neither code nor contract is looked at here: a change counts as refused only if a
 row fails over the changed definitions. The rows tried are those of the crate itself, or of the crates that --rows
-lists. Tables are changed too, where a definition cites them. Left out are files that code alone cites (specs/Inner,
-FieldReading and WholeAce), tables written out again (*Values.antt), and FoldedReading.antt, which a law proves equal to
-another definition.
+lists, but for those that name a proof of their own crate. Tables are changed too, where a definition cites them. Left
+out are files that code alone cites (specs/Inner, FieldReading and WholeAce), tables written out again (*Values.antt), and
+FoldedReading.antt, which a law proves equal to another definition.
 
 Many changes are judged at once: each changed file, what depends on it and the rows become modules in a copy of the
 crate that has the rows, and `rt check --only` runs there. So they may name the private types of that crate. Only rows
@@ -65,13 +65,12 @@ LIKE_FIELDS = (("owner", "group"), ("sacl", "dacl"), ("object", "inherited"), ("
 NEXT_FIELD = {name: like[(i + 1) % len(like)] for like in LIKE_FIELDS for i, name in enumerate(like)}
 OTHER = {"&&": "||", "||": "&&", "≤": "<", "<": "≤", "nat_lt": "nat_le", "nat_le": "nat_lt", "true": "false",
          "false": "true"}
-# What a comparison may have on its left, and what before that.
+# A comparison with a literal or a constant. What is compared stands before `==`, from BEFORE_COMPARED on.
 OPERAND = r"(?:[\w.◌]+|\([^()]*\))"
-COMPARED = re.compile(rf'(?P<equals>nat_eq|bytes_eq|str_eq_ignore_ascii_case) (?P<left>{OPERAND}) '
+COMPARED = re.compile(rf'(?P<equals>(?:nat_eq|bytes_eq|str_eq_ignore_ascii_case) {OPERAND}) '
                       r'(?P<right>\(codes "[^"\\]+"\)|\d+|0x[0-9A-Fa-f]+|[A-Z][A-Z_]+)'
-                      rf'|(?P<first>(?:(?:slice_index|to_ascii_uppercase|to_ascii_lowercase|length) {OPERAND}(?: \d+)?)|[\w.]+) == '
-                      r'(?P<second>char "[^"\\]"|\d+|0x[0-9A-Fa-f]+|[A-Za-z_]+)(?![\w.(])')
-BEFORE_COMPARED = ("if", "(", "&&", "||", "=", ".", "then", "else", "not", "")
+                      r'| == (?P<second>char "[^"\\]"|\d+|0x[0-9A-Fa-f]+|[A-Za-z_]+)(?=\s*(?:[])},;]|&&|\|\||then\b|else\b|$))')
+BEFORE_COMPARED = re.compile(r"[(\[{]|[])}]|&&|\|\||\b(?:if|then|else|not)\b|[=→∷,;]|\. ")
 RECORD, FIELD = re.compile(r"record \{(.*?)\}", re.S), re.compile(r"(\w+) = ([^;]*[^;\s])")
 DECLARED = re.compile(r"^(?:abbrev |unfoldable )?(?:pub )?(?:record |data |module )?([^\s(){}]+)(?= [:(])")
 WORD = re.compile(r"[^\s(){}\[\].,;◌]+")
@@ -152,6 +151,18 @@ class Module:
                     yield i, found.end(), line[found.end():], True, declared
 
 
+def without_proofs(rows):
+    """The rows that name no proof of their own crate: their copies are definitions, and these may name none."""
+    own = f"Rattle.{rows.crate}.proofs."
+    lost = {name for use in rows.uses if use[1].startswith(own) for name in (use[2] or use[3]).split(", ")}
+    texts, more = rows.declarations(), lost
+    while more:
+        more = {name for name, text in texts.items() if name and not words_of(text).isdisjoint(lost)} - lost
+        lost |= more
+    kept = "".join(text for name, text in texts.items() if name not in lost)
+    return Module(rows.name, rows.crate, re.sub(rf"^use {re.escape(own)}.*\n", "", kept, flags=re.M))
+
+
 def constants_of(crate):
     """By its module below `declared`, the text of each file of constants, as the toolchain prints it."""
     sources = TOP / "crates" / crate / "src"
@@ -213,7 +224,7 @@ class Definitions:
                     self.add(Module(".".join(("Rattle", crate, "specs", *parts)), crate, path.read_text("utf-8")))
             for path in sorted((folder / "proofs").glob("*Rows.antt")):
                 module = Module(f"Rattle.{crate}.proofs.{path.stem}", crate, path.read_text("utf-8"))
-                self.rows[module.name] = module
+                self.rows[module.name] = without_proofs(module)
         cited = collections.defaultdict(set)
         for module in [*self.modules.values(), *self.rows.values()]:
             for use in module.uses if self.depends_on(measured or self.crates, module) else ():
@@ -386,12 +397,12 @@ class Changes:
         found = [(line, start, text, one) for line, start, text in texts for one in COMPARED.finditer(text)]
         listed = {one["right"] or one["second"] for *_, one in found}
         for line, start, text, one in found:
-            if one["second"] and not text[:one.start()].rstrip().endswith(BEFORE_COMPARED):
-                continue
-            for other, needed in self.outside(one["right"] or one["second"], listed):
-                new = f"{one['equals']} {one['left']} {other}" if one["equals"] else f"{one['first']} == {other}"
+            at = one.start() if one["equals"] else begun(text[:one.start()])
+            old, compared = text[at:one.end()], one["right"] or one["second"]
+            for other, needed in self.outside(compared, listed):
+                new = f"({old} || {old.removesuffix(compared)}{other})"
                 use = "\n".join(filter(None, map(self.prelude, ("◌||◌", *needed))))
-                yield Change(0, self.module.name, line, start + one.start(), one[0], f"({one[0]} || {new})", use, declared)
+                yield Change(0, self.module.name, line, start + at, old, new, use, declared)
 
     def outside(self, compared, listed):
         """What is like the literal and is compared with nowhere in the definition, with what it needs of the Prelude."""
@@ -485,6 +496,19 @@ def new_value(values, records, field):
             if other not in values:
                 return other
     return None
+
+
+def begun(text):
+    """Where a condition begins of which this is the front."""
+    begins = [0]
+    for found in BEFORE_COMPARED.finditer(text):
+        if found[0] in "([{":
+            begins.append(found.end())
+        elif found[0] in ")]}" and len(begins) > 1:
+            begins.pop()
+        else:
+            begins[-1] = found.end()
+    return begins[-1] + len(text[begins[-1]:]) - len(text[begins[-1]:].lstrip())
 
 
 def first_condition(text):
