@@ -180,8 +180,9 @@ def sids_beside_one_another():
         for subs in ((last,), (last, last), (32, 544 + last), (2, last), (84, 0, 0, 0, 0, last)):
             yield Sid(authority, subs)
     for authority, subs in known:
-        for others in (subs[:-1], (0, *subs), (*subs, 0), (*subs[:-1], subs[-1] | 1 << 31)):
+        for others in (subs[:-1], (0, *subs), (*subs[:-1], subs[-1] | 1 << 31)):
             yield Sid(authority, others)
+        yield from (Sid(authority, (*subs, *[0] * zeros)) for zeros in range(1, 16 - len(subs)))
         yield from (Sid(other, subs) for other in (authority ^ 1, authority | 1 << 32, authority | 1 << 47))
         yield from (Sid(authority, (*subs[:at], subs[at] + 1, *subs[at + 1:])) for at in range(len(subs)))
 
