@@ -9,7 +9,7 @@ module of its own. They are of two kinds:
 - The comment of a public item may have statements between ``` lines. They are the body of
   `fn example(rt: impl Abort + AllocGlobal + Drop)`, and say with `assert!` what holds. Above the function are their
   own `use` lines, those of every name that a door re-exports, and what the example of `Sink` declares, so that each
-  example can put a text into a `TextSink`.
+  example can put a text into a `TextSink`. An item that no door has is taken from its crate.
 
 Each function, each trait and each type with public methods that a door re-exports needs an example, at itself or at a
 method. A failed assertion ends the program: the test names the example, and those after it were not reached. The last
@@ -125,6 +125,10 @@ def needs_example(crate, name):
     return any(re.search(r"^    pub fn ", body, re.M) for body in bodies)
 
 
+def is_at_a_door(example):
+    return any(name == example.owner and home_of(crate, name) == example.crate for _, crate, name in reexports())
+
+
 def split_uses(code):
     """The `use` lines of an example, and the rest."""
     lines = code.splitlines(True)
@@ -139,20 +143,23 @@ def module_of(example, sink):
     for door, _, name in reexports():
         names.setdefault(door, []).append(name)
     uses += sink_uses + [f"use {door}::{{{', '.join(names[door])}}};\n" for door in names]
+    if not is_at_a_door(example):
+        uses.append(f"use {example.crate}::{example.owner};\n")
     inside = "".join(f"    {line}" if line.strip() else line for line in body.strip("\n").splitlines(True))
     return (f"//! The example at {example.place()}.\n\n{''.join(sorted(set(uses)))}\n"
             f"{items.strip()}\n\npub fn example(rt: impl Abort + AllocGlobal + Drop) {{\n{inside}\n}}\n")
 
 
-def build(folder, modules):
-    """A repository with the crates' sources and a program of all modules: what stands in each, and its function."""
+def build(folder, modules, others):
+    """A repository with the crates' sources and a program of all modules: what stands in each, and its function. OTHERS
+    are crates that examples use beside those of the doors."""
     for crate in (TOP / "crates").iterdir():
         for part in ("src", "specs", "proofs"):
             if (crate / part).is_dir():
                 shutil.copytree(crate / part, folder / "crates" / crate.name / part)
     crates = (TOP / "crates.txt").read_text(encoding="utf-8")
-    libraries = re.search(f"^{LIBRARIES}:(.*)$", crates, re.M)[1]
-    (folder / "crates.txt").write_text(f"{crates}doors:{libraries}\n", encoding="utf-8")
+    libraries = {*re.search(f"^{LIBRARIES}:(.*)$", crates, re.M)[1].split(), *others}
+    (folder / "crates.txt").write_text(f"{crates}doors: {' '.join(sorted(libraries))}\n", encoding="utf-8")
     sources = folder / "crates/doors/src"
     sources.mkdir(parents=True)
     for module, (text, _) in modules.items():
@@ -178,13 +185,14 @@ def main():
     for module, each in run.items():
         count.add(ASSERTION in each.code, f"the example at {each.place()} has no assert!")
         modules[module] = (module_of(each, sink), "example")
+    others = {each.crate for each in run.values() if not is_at_a_door(each)}
     having = {(each.crate, each.owner) for each in examples}
     for door, crate, name in reexports():
         home = home_of(crate, name)
         if needs_example(home, name):
             count.add((home, name) in having, f"no example at {name} of {home}, which {door} re-exports")
     with tempfile.TemporaryDirectory() as name:
-        ended = subprocess.run(["rt", "try"], cwd=build(pathlib.Path(name), modules), stdin=subprocess.DEVNULL,
+        ended = subprocess.run(["rt", "try"], cwd=build(pathlib.Path(name), modules, others), stdin=subprocess.DEVNULL,
                                stdout=subprocess.PIPE, stderr=subprocess.PIPE, text=True)
     count.add(ended.returncode == 0, f"rt try ended with status {ended.returncode}:\n{ended.stdout}{ended.stderr}")
     printed = dict(re.findall(r"^== (\w+)\n((?:(?!== ).*\n)*)", ended.stdout, re.M))
