@@ -7,6 +7,7 @@ const BUILT_IN_BELOW = 1000; // numbers from here on are those of accounts that 
 const EVERYBODY = ["anyone", "logged-on", "application"];
 const GENERIC_BITS = [0x80000000, 0x40000000, 0x20000000, 0x10000000]; // read, write, execute, all
 const GENERIC = 0xf0000000;
+const SYNCHRONIZE = 0x100000;
 
 
 // The domain and the last number of a SID, or null.
@@ -74,7 +75,7 @@ const maskOf = (rights) => rights.reduce((mask, [bit]) => (mask | bit) >>> 0, 0)
 
 // All rights of a kind: those of the library's mapping, or those that the table names where the library has none.
 export const rightsOfKind = (kind) => hasOwnMapping(kind) ?
-    (maskOf(tableOf(kind).rights.filter(([bit]) => bit < 0x10000)) | tableOf(kind).mapping[3]) >>> 0 :
+    (maskOf(tableOf(kind).rights.filter(([bit]) => bit < SYNCHRONIZE)) | tableOf(kind).mapping[3]) >>> 0 :
     tableOf(kind).mapping[3];
 
 // The rights that do something, and those whose having is a risk of one of some words.

@@ -6,7 +6,7 @@ const mapped = (table, valueOf) => Object.fromEntries(Object.entries(table).map(
 
 // Of each right that a kind has: the name behind "can", the name over a column, and the group that it belongs to.
 function rightsOfKind({rights, mapping}) {
-    const named = rights.filter(([bit]) => bit < 0x10000 || (mapping[3] & bit) !== 0);
+    const named = rights.filter(([bit]) => bit < 0x100000 || (mapping[3] & bit) !== 0);
     return Object.fromEntries(named.map(([bit, , short, says, column]) => [bit, [says, short, column]]));
 }
 
