@@ -271,10 +271,10 @@ function ofBelow(library, {below, kept, own, types, beyond, wanted, ofSid}, opti
         if (!isDirectory(kind)) {
             return ofMask("children-change", sid, numbers, only(without(got, here), wanted(sid).mask), {isBelow: true});
         }
-        const told = new Set(ofSid(sid, numbers, here).map(({rule}) => rule));
+        const told = new Set(ofSid(sid, numbers, here).map(({rule, mask}) => `${rule} ${mask}`));
         const classes = classesOf(aces.map((ace) => ace.inherited));
         return ofDirectory(sid, numbers, wanted(sid), got, new Map(), {...options, classes, hasAccounts: false},
             {isBelow: true})
-            .filter(({rule}) => !told.has(rule));
+            .filter(({rule, mask}) => !told.has(`${rule} ${mask}`));
     });
 }

@@ -126,9 +126,8 @@ class Abilities:
         for one in had:
             told[one.object_type] = told.get(one.object_type, 0) | one.mask
         plain &= ~told.get("", 0)
-        by_type = tuple((one, mask & ~told.get(one, 0)) for one, mask in got.by_type
-                        if mask & ~told.get(one, 0) & ~(_EXTENDED if one in _HARMLESS else 0))
-        return Got(plain, by_type)
+        left = ((one, mask & ~told.get(one, 0) & ~(_EXTENDED if one in _HARMLESS else 0)) for one, mask in got.by_type)
+        return Got(plain, tuple((one, mask) for one, mask in left if mask))
 
 
 def is_harmless(ace: Ace) -> bool:

@@ -9,8 +9,7 @@ from sdtool.audit.questions.answers import ALLOWS, Descriptor, Refusal, Token, e
 from sdtool.audit.questions.asking import (WHO_RULES, Answer, Asked, Because, Checks, Finding, Question, as_owner, ask_all,
                                            complete, got_of, mark_of, trustee_token, unknown, unknown_of, why_unanswerable,
                                            without_trusted)
-from sdtool.audit.questions.windows_defaults import Place, place_of
-from sdtool.audit.sources.items import WITHOUT_OWNER
+from sdtool.audit.questions.windows_defaults import Place, known_place
 
 
 class _Nobody(sids.Trust):
@@ -40,7 +39,7 @@ class Having:
         if kind not in rights.DIRECTORY:
             return [unknown_of(one) if isinstance(one, Refusal) else
                     unknown(f"this means nothing for a {kind}", "name the kind with --type ds") for one in descriptors]
-        where = place_of(place) if place and place != WITHOUT_OWNER else Place()
+        where = known_place(place, kind)
         checks = Checks(form, texts, kind, rights.EVERYTHING[kind], self._common.domain)
         answers: List[Optional[Answer]] = []
         types: Dict[int, List[str]] = {}

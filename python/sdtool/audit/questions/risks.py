@@ -9,11 +9,10 @@ from sdtool.audit.questions import rights
 from sdtool.audit.questions.abilities import Abilities, class_names, is_harmless
 from sdtool.audit.questions.answers import (ALLOWS, DENIES, INHERIT_ONLY, INHERITED, NO_DACL, PROTECTED, Ace, Descriptor, Refusal,
                                             ace_text, explained, mapped, mapped_below, spelled)
-from sdtool.audit.sources.items import WITHOUT_OWNER
 from sdtool.audit.questions.asking import (LESSER, NO_MARK, NOTHING, OWNER_KEY, SEVERITIES as ORDER, Answer, Because, Checks,
                                            Finding, Got, Mark, Question, Rule, answer_of, as_owner, ask_all, complete, got_of, mark_of, parts_of,
                                            trustee_token, unknown_of, why_unanswerable)
-from sdtool.audit.questions.windows_defaults import Default, Defaults, Place, place_of
+from sdtool.audit.questions.windows_defaults import Default, Defaults, Place, known_place
 
 _OF_ABILITIES = {one["name"]: (one["severity"], one["says"]) for one in reversed(ABILITIES)}
 RULES = (*(Rule(name, reason, severity) for name, severity, _, reason, _ in _RULES),
@@ -30,7 +29,6 @@ _RISKS_OF = {sids.ANYONE: ("takeover", "everybody", "anyone", "anonymous"), sids
 _QUIET = frozenset({sids.STAND_IN, sids.PACKAGE})
 # Kinds whose rights run code as another account: there the accounts that services share aren't trusted.
 _STRICT = frozenset({"service", "service-manager"})
-_NO_PLACE = Place()
 
 
 class Lists(NamedTuple):
@@ -135,7 +133,7 @@ class Risks:
         descriptors = explained(form, texts, self._common.domain)
         answers: List[Optional[Answer]] = [None] * len(texts)
         views = _Views(form, texts, kind, self._common.domain)
-        where = place_of(place) if place and place != WITHOUT_OWNER else _NO_PLACE
+        where = known_place(place, kind)
         cases: Dict[int, _Case] = {}
         for at, descriptor in enumerate(descriptors):
             if isinstance(descriptor, Refusal):
@@ -210,7 +208,7 @@ class Risks:
             if ace.kind in ALLOWS:
                 sid = as_owner(ace.sid, descriptor)
                 wanted = self._wanted(sid, kind) if sid else _NOTHING_WANTED
-                if self._concerns(ace, sid, wanted, kind):
+                if sid and self._concerns(ace, sid, wanted, kind):
                     if ace.flags & INHERITED and place.has_parent or self._defaults.excuse(ace, kind, place):
                         continue
                     if ace.decides:
@@ -299,11 +297,10 @@ class Risks:
         if kind not in rights.DIRECTORY:
             yield from self._of_mask(wanted.rule, sid, _only(got, wanted.mask), kind, "", why, got.mask, wanted.mask)
             return
-        classes = place.classes or (("pKICertificateTemplate",) if kind == "template" else ())
         whole = dict(case.whole.got(sid, self._abilities.whole_types, rights.EVERYTHING[kind]).by_type)
         plain = case.whole.got(sid, (), rights.EVERYTHING[kind]).mask
         whole = {one: whole.get(one, 0) | plain for one in self._abilities.whole_types}
-        yield from self._of_directory(sid, wanted, got, kind, classes, whole, place, "", why, why_whole)
+        yield from self._of_directory(sid, wanted, got, kind, place.classes, whole, place, "", why, why_whole)
 
     def _of_directory(self, sid: str, wanted: _Wanted, got: Got, kind: str, classes: Sequence[str], whole: Dict[str, int],
                       place: Place, where: str, why: _Why, why_whole: _Why) -> Iterator[Finding]:

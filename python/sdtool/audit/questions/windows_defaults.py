@@ -4,6 +4,7 @@ from typing import Dict, List, NamedTuple, Sequence, Tuple, Union
 from sdtool._windows import DEFAULTS
 from sdtool.audit.questions import names as sids
 from sdtool.audit.questions.answers import INHERIT_ONLY, INHERITED, Ace, mapped, mapped_below
+from sdtool.audit.sources.items import WITHOUT_OWNER
 
 _PART = "\1"  # between the parts of a place; no name of a class has it
 
@@ -27,6 +28,12 @@ def place_of(text: str) -> Place:
         return Place()
     classes, named, is_of_accounts, has_parent, heirs = text.split(_PART)
     return Place(tuple(classes.split(",")) if classes else (), named, bool(is_of_accounts), bool(has_parent), heirs)
+
+
+def known_place(text: str, kind: str) -> Place:
+    """The place of an object of a kind. A certificate template has its class by its kind."""
+    place = place_of("" if text == WITHOUT_OWNER else text)
+    return place._replace(classes=("pKICertificateTemplate",)) if kind == "template" and not place.classes else place
 
 
 class Default(NamedTuple):
