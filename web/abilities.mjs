@@ -28,34 +28,38 @@ const means = (ability, classes) => classes.length === 0 ?
 const isBy = (ability, object) =>
     ability.types.includes(object) || (ability.types.includes("*") && !HARMLESS.includes(object));
 
+// Whether an object type is that of an object as a whole: its own class, which is one of some, or isn't known.
+export const isOwn = (object, own) => guidNames(object, OF_CHILDREN).some(
+    ({name, type}) => type === "class" && (own.length === 0 || own.includes(name)));
+
 // Whether an ACE may give a trustee an ability.
 export const mayGive = (mask, object, sid, domain) => ABILITIES.some(
-    (one) => (mask & one.right) !== 0 && (object === "" || isBy(one, object)) && isFor(one, sid, domain));
+    (one) => (mask & one.right) !== 0 && (object === "" || isOwn(object, []) || isBy(one, object)) && isFor(one, sid, domain));
 
 // Whether an ACE gives a right alone that does nothing that counts.
 export const isHarmless = (mask, object) => HARMLESS.includes(object) && (mask & CHANGING) === 0;
 
 function hasAll(ability, got, whole) {
-    const isOwn = [got.mask, ...got.typed.filter(({object}) => ability.types.includes(object)).map(({mask}) => mask)].some(
+    const hasOne = [got.mask, ...got.typed.filter(({object}) => ability.types.includes(object)).map(({mask}) => mask)].some(
         (mask) => (mask & ability.right) !== 0);
-    return isOwn && ability.types.every((one) => ((whole.get(one) ?? 0) & ability.right) !== 0);
+    return hasOne && ability.types.every((one) => ((whole.get(one) ?? 0) & ability.right) !== 0);
 }
 
 // The rights that may give an ability, with their object types. No ability is that of all validated writes, and whoever may write
 // all properties needs none.
-function waysOf(ability, got, classes) {
-    const isTemplate = classes.at(-1) === TEMPLATE;
-    const typed = got.typed.filter(({object}) => isBy(ability, object));
+function waysOf(ability, got, classes, own) {
+    const isTemplate = classes.at(-1) === TEMPLATE && ability.right === EXTENDED;
+    const writing = ability.right === VALIDATED ? WRITE : 0;
     const isWhole = ability.types.includes("") ?
-        !(ability.right === EXTENDED && isTemplate) :
-        (isTemplate && ability.right === EXTENDED && ability.on.length === 1 && ability.on[0] === TEMPLATE) ||
-            (ability.right === VALIDATED && (got.mask & WRITE) === 0);
-    return isWhole ? [{object: "", mask: got.mask}, ...typed] : typed;
+        !isTemplate :
+        writing !== 0 || (isTemplate && ability.on.length === 1 && ability.on[0] === TEMPLATE);
+    return [{object: "", mask: got.mask}, ...got.typed].filter(({object, mask}) => (object !== "" && isBy(ability, object)) ||
+        (isWhole && ((got.mask | mask) & writing) === 0 && (object === "" || isOwn(object, own))));
 }
 
 // The abilities of a trustee, each once: {rule, mask, object, severity, says}. GOT has its rights, WHOLE those by the object
 // types of WHOLE_TYPES.
-export function abilitiesOf(sid, got, whole, classes, hasAccounts, domain) {
+export function abilitiesOf(sid, got, whole, classes, own, hasAccounts, domain) {
     const found = new Map();
     for (const ability of ABILITIES) {
         if (found.has(ability.name) || found.has(ability.unless) || !isFor(ability, sid, domain) || !means(ability, classes)) {
@@ -68,7 +72,7 @@ export function abilitiesOf(sid, got, whole, classes, hasAccounts, domain) {
             }
             continue;
         }
-        const way = waysOf(ability, got, classes).find(({mask}) => (mask & ability.right) !== 0);
+        const way = waysOf(ability, got, classes, own).find(({mask}) => (mask & ability.right) !== 0);
         if (way) {
             found.set(ability.name, {...told, object: way.object});
         }
@@ -91,6 +95,8 @@ export function restOf(got, had) {
     };
 }
 
-// The classes of inherited object types: none if one of them is any class.
-export const classesOf = (guids) =>
-    guids.some((guid) => guid === null) ? [] : guids.map((guid) => guidNames(guid, OF_CHILDREN)[0]?.name ?? guid);
+// The classes of inherited object types: none if one of them is any class, or one that isn't known.
+export function classesOf(guids) {
+    const names = guids.map((guid) => guidNames(guid, OF_CHILDREN)[0]?.name);
+    return names.includes(undefined) ? [] : names;
+}

@@ -1,6 +1,6 @@
 // What is risky about a descriptor: the rules of windows/, which sdtool-audit has too. Whether somebody gets a right is
 // always an answer of check, about the descriptor or about one without the ACEs that Windows itself gives.
-import {abilitiesOf, classesOf, isHarmless, mayGive, restOf, WHOLE_TYPES} from "./abilities.mjs";
+import {abilitiesOf, classesOf, isHarmless, isOwn, mayGive, restOf, WHOLE_TYPES} from "./abilities.mjs";
 import {grantedOf, tokenOf} from "./access.mjs";
 import {descriptorOfPieces, guidBytes} from "./library.mjs";
 import {atRisk, doing, everybodyClass, inheritedBy, isDirectory, isTrusted, mappingOf, maskBelow, meaningOfSid,
@@ -186,11 +186,15 @@ function ofMask(rule, sid, numbers, got, more = {}) {
 // What a trustee of a directory object can do, by name, and the rest for everybody.
 function ofDirectory(sid, numbers, wanted, got, whole, options, more) {
     const {kind, domain, classes, hasAccounts} = options;
-    if ((got.mask & wanted.mask & TAKE_OVER) !== 0) {
+    const own = more.isBelow ? classes : classes.slice(-1);
+    const over = [{object: "", mask: got.mask}, ...got.typed].find(({object, mask}) =>
+        (mask & wanted.mask & TAKE_OVER) !== 0 && (object === "" || isOwn(object, own)));
+    if (over) {
         // Who can change permissions or the owner has every other right too.
-        return ofMask(wanted.rule, sid, numbers, {mask: (got.mask & doing(kind, "change")) >>> 0, typed: []}, more);
+        const {object, mask} = {...over, mask: (over.mask & doing(kind, "change")) >>> 0};
+        return ofMask(wanted.rule, sid, numbers, object ? {mask: 0, typed: [{object, mask}]} : {mask, typed: []}, more);
     }
-    const had = abilitiesOf(sid, got, whole, classes, hasAccounts, domain);
+    const had = abilitiesOf(sid, got, whole, classes, own, hasAccounts, domain);
     const named = had.map(({rule, mask, object, severity, says}) =>
                               ({rule, severity, who: sid, numbers, mask, says, ...(object ? {object} : {}), ...more}));
     const rest = wanted.rule === "takeover" || !wanted.rule ? {mask: 0, typed: []} : only(restOf(got, had), wanted.mask);

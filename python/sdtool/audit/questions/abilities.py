@@ -1,7 +1,7 @@
 """What rights of a directory object let somebody do, by name: windows/directory.toml has the list."""
 from typing import Any, Dict, FrozenSet, Iterable, List, NamedTuple, Sequence, Tuple
 
-from sdtool._windows import ABILITIES, CLASSES, HARMLESS
+from sdtool._windows import ABILITIES, CLASSES, HARMLESS, OBJECT_TYPES
 from sdtool.audit.questions import names as sids
 from sdtool.audit.questions.answers import Ace, mapped
 from sdtool.audit.questions.asking import Got
@@ -70,10 +70,11 @@ class Abilities:
     def concern(self, ace: Ace, sid: str) -> bool:
         """Whether an ACE may give a trustee an ability."""
         mask = mapped(ace.mask, "ds")
-        return any(mask & one.right and (one.is_by(ace.object_type) or not ace.object_type) and one.is_for(sid, self._trust)
+        is_whole = not ace.object_type or ace.object_type in _CLASS_NAMES
+        return any(mask & one.right and (is_whole or one.is_by(ace.object_type)) and one.is_for(sid, self._trust)
                    for one in self._all)
 
-    def had(self, sid: str, got: Got, whole: Dict[str, int], classes: Sequence[str], has_accounts: bool) -> List[Had]:
+    def had(self, sid: str, got: Got, whole: Dict[str, int], classes: Sequence[str], own: Sequence[str], has_accounts: bool) -> List[Had]:
         """The abilities of a trustee, each once. whole has its rights by the object types of whole_types."""
         found: Dict[str, Had] = {}
         for ability in self._all:
@@ -83,7 +84,7 @@ class Abilities:
                 if has_accounts and self._has_all(ability, got, whole):
                     found[ability.name] = Had(ability.name, ability.right, "", ability.says, ability.types)
                 continue
-            for object_type, mask in self._by(ability, got, classes):
+            for object_type, mask in self._by(ability, got, classes, own):
                 if mask & ability.right:
                     found[ability.name] = Had(ability.name, ability.right, object_type, self._text(ability, object_type, classes),
                                               (object_type,))
@@ -96,19 +97,17 @@ class Abilities:
         return bool(is_own) and all(whole.get(one, 0) & ability.right for one in ability.types)
 
     @staticmethod
-    def _by(ability: Ability, got: Got, classes: Sequence[str]) -> Iterable[Tuple[str, int]]:
+    def _by(ability: Ability, got: Got, classes: Sequence[str], own: Sequence[str]) -> Iterable[Tuple[str, int]]:
         """The rights that may give an ability, with their object types."""
-        if "" in ability.types:
-            # On a template all extended rights are those to enroll.
-            if not (ability.right == _EXTENDED and classes and classes[-1] == _TEMPLATE):
-                yield "", got.mask
-        elif ability.right == _EXTENDED and ability.on == {_TEMPLATE} and classes and classes[-1] == _TEMPLATE:
-            yield "", got.mask
-        elif ability.right == _VALIDATED and not got.mask & _WRITE:
-            # No ability is that of all validated writes. Whoever may write all properties needs none.
+        # On a template all extended rights are those to enroll.
+        is_template = ability.right == _EXTENDED and bool(classes) and classes[-1] == _TEMPLATE
+        # No ability is that of all validated writes. Whoever may write all properties needs none.
+        writing = _WRITE if ability.right == _VALIDATED else 0
+        is_whole = not is_template if "" in ability.types else bool(writing) or is_template and ability.on == {_TEMPLATE}
+        if is_whole and not got.mask & writing:
             yield "", got.mask
         for one, mask in got.by_type:
-            if ability.is_by(one):
+            if ability.is_by(one) or is_whole and not (got.mask | mask) & writing and is_own(one, own):
                 yield one, mask
 
     def _text(self, ability: Ability, object_type: str, classes: Sequence[str]) -> str:
@@ -135,7 +134,13 @@ def is_harmless(ace: Ace) -> bool:
     return ace.object_type in _HARMLESS and not mapped(ace.mask, "ds") & (_CREATE | _DELETE | _VALIDATED | _WRITE)
 
 
+def is_own(object_type: str, own: Sequence[str]) -> bool:
+    """Whether an object type is that of an object as a whole: its own class, which is one of some, or isn't known."""
+    name = _CLASS_NAMES.get(object_type, "")
+    return bool(name) and (not own or name in own)
+
+
 def class_names(guids: Iterable[str]) -> Tuple[str, ...]:
-    """The classes of inherited object types: none if one of them is any class."""
-    listed = list(guids)
-    return () if "" in listed else tuple(_CLASS_NAMES.get(guid, guid) for guid in listed)
+    """The classes of inherited object types: none if one of them is any class, or one that isn't known."""
+    listed = tuple(_CLASS_NAMES.get(guid, OBJECT_TYPES.get(guid, "")) for guid in guids)
+    return () if "" in listed else listed

@@ -64,7 +64,7 @@ class Having:
             token = trustee_token(sid)
             got = got_of(checks, at, token, types, everything)
             whole = {one: checks.mask(at, token, one) for one in self._abilities.whole_types}
-            for had in self._abilities.had(sid, got, whole, place.classes, place.is_of_accounts):
+            for had in self._abilities.had(sid, got, whole, place.classes, place.classes[-1:], place.is_of_accounts):
                 bound = f", only for object type {sids.object_type(had.object_type)}" if had.object_type else ""
                 yield sid, Finding("who", self._common.names.named(sid), had.rule, had.says + bound, sid=sid, mask=had.mask,
                                    mark=mark_of(descriptor, (sid,), had.mask, kind, self._types_of(had.rule, had.object_type)),

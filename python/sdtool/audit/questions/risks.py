@@ -6,7 +6,7 @@ from sdtool._windows import ABILITIES, SIDS
 from sdtool._windows import RULES as _RULES
 from sdtool.audit.questions import names as sids
 from sdtool.audit.questions import rights
-from sdtool.audit.questions.abilities import Abilities, class_names, is_harmless
+from sdtool.audit.questions.abilities import Abilities, class_names, is_harmless, is_own
 from sdtool.audit.questions.answers import (ALLOWS, DENIES, INHERIT_ONLY, INHERITED, NO_DACL, PROTECTED, Ace, Descriptor, Refusal,
                                             ace_text, explained, mapped, mapped_below, spelled)
 from sdtool.audit.questions.asking import (LESSER, NO_MARK, NOTHING, OWNER_KEY, SEVERITIES as ORDER, Answer, Because, Checks,
@@ -304,12 +304,16 @@ class Risks:
 
     def _of_directory(self, sid: str, wanted: _Wanted, got: Got, kind: str, classes: Sequence[str], whole: Dict[str, int],
                       place: Place, where: str, why: _Why, why_whole: _Why) -> Iterator[Finding]:
-        if got.mask & wanted.mask & rights.TAKE_OVER:
+        own = classes if where else classes[-1:]
+        over = [(one, mask) for one, mask in (("", got.mask), *got.by_type)
+                if mask & wanted.mask & rights.TAKE_OVER and (not one or is_own(one, own))]
+        for one, mask in over[:1]:
             # Who can change permissions or the owner has every other right too.
-            said = _joined(where, self._heirs(place, sid, ""))
-            yield from self._of_mask(wanted.rule, sid, Got(got.mask & rights.WORDS["change"][kind], ()), kind, said, why)
+            said = _joined(where, self._heirs(place, sid, one))
+            changing = mask & rights.WORDS["change"][kind]
+            yield from self._of_mask(wanted.rule, sid, Got(0, ((one, changing),)) if one else Got(changing, ()), kind, said, why)
             return
-        had = self._abilities.had(sid, got, whole, classes, place.is_of_accounts)
+        had = self._abilities.had(sid, got, whole, classes, own, place.is_of_accounts)
         for rule, mask, object_type, says, types in had:
             bound = f", only for object type {sids.object_type(object_type)}" if object_type else ""
             said = _joined(says + bound, where, self._heirs(place, sid, object_type))
