@@ -1302,6 +1302,8 @@ DELEGATED = (
     ("CN=Computers,", "(OA;;CC;bf967a86-0de6-11d0-a285-00aa003049e2;;@)", "create-children"),
     ("CN={31B2F340-016D-11D2-945F-00C04FB984F9},CN=Policies,CN=System,", "(A;CI;WP;;;@)", "write-properties"),
     ("CN=System,", "(A;;CR;;;@)", "all-extended-rights"),
+    # Administrators have the DACL of AdminSDHolder.
+    ("CN=AdminSDHolder,CN=System,", f"(OA;;CR;{RESET};;@)", "reset-password"),
 )
 
 
@@ -1329,7 +1331,7 @@ def fresh_forest(place: Place):
 
 
 def test_fresh_forest(place: Place) -> None:
-    """A fresh forest has no findings, and each of ten delegations is found where it stands."""
+    """A fresh forest has no findings, and each delegation is found where it stands."""
     forest = fresh_forest(place)
     if forest is None:
         print("a fresh forest: skipped, without samba-tool, ldbsearch and the files of a domain controller")
@@ -1355,7 +1357,7 @@ def test_fresh_forest(place: Place) -> None:
         found = {(one["name"], finding["rule"], finding["trustee"]) for one in place.objects("risks", "planted.ldif", *words, *more)
                  for finding in one["findings"] if one["answer"] == "found"
                  if finding["rule"] not in ("inheritance-cut", "order")}
-        place.expect(found, {(f"{name}DC=example,DC=com", rule, ann) for name, _, rule in DELEGATED}, f"ten delegations {more}")
+        place.expect(found, {(f"{name}DC=example,DC=com", rule, ann) for name, _, rule in DELEGATED}, f"delegations {more}")
 
 
 def test_package(place: Place) -> None:

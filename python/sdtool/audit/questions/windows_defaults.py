@@ -7,6 +7,8 @@ from sdtool.audit.questions.answers import INHERIT_ONLY, INHERITED, Ace, mapped,
 from sdtool.audit.sources.items import WITHOUT_OWNER
 
 _PART = "\1"  # between the parts of a place; no name of a class has it
+# Windows gives the DACL of AdminSDHolder to accounts and groups that administer: MS-ADTS 3.1.1.6.1.2.
+_PROTECTING, _PROTECTED = "CN=AdminSDHolder", ("user", "computer", "group")
 
 
 class Place(NamedTuple):
@@ -31,8 +33,10 @@ def place_of(text: str) -> Place:
 
 
 def known_place(text: str, kind: str) -> Place:
-    """The place of an object of a kind. A certificate template has its class by its kind."""
+    """The place of an object of a kind, with all classes that its rights are of. A template has its class by its kind."""
     place = place_of("" if text == WITHOUT_OWNER else text)
+    if place.named == _PROTECTING and place.classes:
+        place = place._replace(classes=_PROTECTED + place.classes)
     return place._replace(classes=("pKICertificateTemplate",)) if kind == "template" and not place.classes else place
 
 
@@ -48,7 +52,7 @@ class Default(NamedTuple):
     known: bool = False   # it counts only where the class is known
 
 
-NAMED_PLACES = frozenset(name for row in DEFAULTS for name in row[2])
+NAMED_PLACES = frozenset({_PROTECTING, *(name for row in DEFAULTS for name in row[2])})
 ACCOUNTS = frozenset(row[3] for row in DEFAULTS if isinstance(row[3], str) and not row[3].startswith("S-1-"))
 
 
