@@ -27,9 +27,7 @@ OF_ACCESSES = {"256": "right", "8": "validated write", "48": "property set"}
 # MS-ADTS 5.1.3.2.2 names it. The schema's files only have it in ACEs.
 NAMED_ELSEWHERE = {("9b026da6-0d3c-465c-8bee-5199d7165cba", "DS-Validated-Write-Computer", "validated write"),
                    # The documentation of Windows LAPS has it.
-                   ("f3531ec6-6330-4f8e-8d39-7a671fbac605", "msLAPS-Encrypted-Password-Attributes", "property set"),
-                   # The schema of Windows Server 2025 has it.
-                   ("0feb936f-47b3-49f2-9386-1dedc2c23765", "msDS-DelegatedManagedServiceAccount", "class")}
+                   ("f3531ec6-6330-4f8e-8d39-7a671fbac605", "msLAPS-Encrypted-Password-Attributes", "property set")}
 GUID = "[0-9a-fA-F]{8}-[0-9a-fA-F]{4}-[0-9a-fA-F]{4}-[0-9a-fA-F]{4}-[0-9a-fA-F]{12}"
 # GUIDs that ACEs of the schema name although nothing there has them.
 NAMED_NOWHERE = {"736e4812-af31-11d2-b7df-00805f48caeb"}

@@ -28,20 +28,23 @@ const means = (ability, classes) => classes.length === 0 ?
 const isBy = (ability, object) =>
     ability.types.includes(object) || (ability.types.includes("*") && !HARMLESS.includes(object));
 
-// Whether an object type is that of an object as a whole: its own class, which is one of some, or isn't known.
-export const isOwn = (object, own) => guidNames(object, OF_CHILDREN).some(
+// Whether an object type is that of an object as a whole: none, or its own class, which is one of some, or isn't known.
+export const isOwn = (object, own) => object === "" || guidNames(object, OF_CHILDREN).some(
     ({name, type}) => type === "class" && (own.length === 0 || own.includes(name)));
 
 // Whether an ACE may give a trustee an ability.
 export const mayGive = (mask, object, sid, domain) => ABILITIES.some(
-    (one) => (mask & one.right) !== 0 && (object === "" || isOwn(object, []) || isBy(one, object)) && isFor(one, sid, domain));
+    (one) => (mask & one.right) !== 0 && (isOwn(object, []) || isBy(one, object)) && isFor(one, sid, domain));
 
 // Whether an ACE gives a right alone that does nothing that counts.
 export const isHarmless = (mask, object) => HARMLESS.includes(object) && (mask & CHANGING) === 0;
 
+// What a trustee gets, of the object as a whole first.
+export const partsOf = ({mask, typed}) => [{object: "", mask}, ...typed];
+
 function hasAll(ability, got, whole) {
-    const hasOne = [got.mask, ...got.typed.filter(({object}) => ability.types.includes(object)).map(({mask}) => mask)].some(
-        (mask) => (mask & ability.right) !== 0);
+    const hasOne = partsOf(got).some(({object, mask}) =>
+        (object === "" || ability.types.includes(object)) && (mask & ability.right) !== 0);
     return hasOne && ability.types.every((one) => ((whole.get(one) ?? 0) & ability.right) !== 0);
 }
 
@@ -52,9 +55,9 @@ function waysOf(ability, got, classes, own) {
     const writing = ability.right === VALIDATED ? WRITE : 0;
     const isWhole = ability.types.includes("") ?
         !isTemplate :
-        writing !== 0 || (isTemplate && ability.on.length === 1 && ability.on[0] === TEMPLATE);
-    return [{object: "", mask: got.mask}, ...got.typed].filter(({object, mask}) => (object !== "" && isBy(ability, object)) ||
-        (isWhole && ((got.mask | mask) & writing) === 0 && (object === "" || isOwn(object, own))));
+        writing !== 0 || (isTemplate && ability.on.includes(TEMPLATE));
+    return partsOf(got).filter(({object, mask}) => (object !== "" && isBy(ability, object)) ||
+        (isWhole && ((got.mask | mask) & writing) === 0 && isOwn(object, own)));
 }
 
 // The abilities of a trustee, each once: {rule, mask, object, severity, says}. GOT has its rights, WHOLE those by the object

@@ -1,6 +1,6 @@
 // What is risky about a descriptor: the rules of windows/, which sdtool-audit has too. Whether somebody gets a right is
 // always an answer of check, about the descriptor or about one without the ACEs that Windows itself gives.
-import {abilitiesOf, classesOf, isHarmless, isOwn, mayGive, restOf, WHOLE_TYPES} from "./abilities.mjs";
+import {abilitiesOf, classesOf, isHarmless, isOwn, mayGive, partsOf, restOf, WHOLE_TYPES} from "./abilities.mjs";
 import {grantedOf, tokenOf} from "./access.mjs";
 import {descriptorOfPieces, guidBytes} from "./library.mjs";
 import {atRisk, doing, everybodyClass, inheritedBy, isDirectory, isTrusted, mappingOf, maskBelow, meaningOfSid,
@@ -25,7 +25,6 @@ const QUIET = ["stand-in", "package"];
 const STRICT = ["service", "service-manager"];
 const ALLOWS = ["A", "OA"];
 const DENIES = ["D", "OD"];
-const DECIDES = [...ALLOWS, ...DENIES];
 const SEVERITIES = Object.fromEntries(RULES.map(([name, severity]) => [name, severity]));
 
 // Whether nobody in particular has a SID, or an account of the system that may have any right to this kind.
@@ -177,22 +176,18 @@ function askedOwner(model, kind, domain) {
 const finding = (rule, who, numbers, more) => ({rule, severity: valueIn(SEVERITIES, rule), who, numbers, ...more});
 
 function ofMask(rule, sid, numbers, got, more = {}) {
-    return [
-        ...(got.mask ? [finding(rule, sid, numbers, {mask: got.mask, ...more})] : []),
-        ...got.typed.map(({object, mask}) => finding(rule, sid, numbers, {mask, object, ...more})),
-    ];
+    return partsOf(got).filter(({mask}) => mask !== 0)
+        .map(({object, mask}) => finding(rule, sid, numbers, {mask, ...(object ? {object} : {}), ...more}));
 }
 
 // What a trustee of a directory object can do, by name, and the rest for everybody.
 function ofDirectory(sid, numbers, wanted, got, whole, options, more) {
     const {kind, domain, classes, hasAccounts} = options;
     const own = more.isBelow ? classes : classes.slice(-1);
-    const over = [{object: "", mask: got.mask}, ...got.typed].find(({object, mask}) =>
-        (mask & wanted.mask & TAKE_OVER) !== 0 && (object === "" || isOwn(object, own)));
+    const over = partsOf(got).find(({object, mask}) => (mask & wanted.mask & TAKE_OVER) !== 0 && isOwn(object, own));
     if (over) {
         // Who can change permissions or the owner has every other right too.
-        const {object, mask} = {...over, mask: (over.mask & doing(kind, "change")) >>> 0};
-        return ofMask(wanted.rule, sid, numbers, object ? {mask: 0, typed: [{object, mask}]} : {mask, typed: []}, more);
+        return ofMask(wanted.rule, sid, numbers, only({mask: 0, typed: [over]}, doing(kind, "change")), more);
     }
     const had = abilitiesOf(sid, got, whole, classes, own, hasAccounts, domain);
     const named = had.map(({rule, mask, object, severity, says}) =>
@@ -258,6 +253,8 @@ function ofList(library, model, options) {
     return [...found, ...ofBelow(library, {below, kept, own, types, beyond, wanted, ofSid}, options)];
 }
 
+const keyOf = ({rule, mask}) => `${rule} ${mask}`;
+
 // What is granted in what is made in an object, and not here.
 function ofBelow(library, {below, kept, own, types, beyond, wanted, ofSid}, options) {
     const {kind} = options;
@@ -265,20 +262,27 @@ function ofBelow(library, {below, kept, own, types, beyond, wanted, ofSid}, opti
         return [];
     }
     const inherited = inheritedBy(kind);
-    const child = viewOf(library, kind, null,
-        kept.filter(({ace}) => DECIDES.includes(ace.kind) && ace.flags.some((flag) => inherited.includes(flag)))
-            .map(({ace, ofChildren}) => aceText(ace, [], ofChildren)));
+    // An ACE that denies for one class of children, or one level, stops what is for others too only there.
+    const listed = [...below.values()].flat();
+    const isOfAll = ({flags, inherited: of}) => listed.every((one) =>
+        (!of || of === one.inherited) && (!flags.includes("NP") || one.flags.includes("NP")));
+    const children = inherited.map((flag) => viewOf(library, kind, null, kept.filter(({ace}) => ace.flags.includes(flag) &&
+        (ALLOWS.includes(ace.kind) || (DENIES.includes(ace.kind) && isOfAll(ace))))
+        .map(({ace, ofChildren}) => aceText(ace, [], ofChildren))));
     return [...below].flatMap(([sid, aces]) => {
         const numbers = aces.map(({number}) => number);
-        const got = beyond(child, sid, below);
-        const here = own.got(sid, types);
-        if (!isDirectory(kind)) {
-            return ofMask("children-change", sid, numbers, only(without(got, here), wanted(sid).mask), {isBelow: true});
-        }
-        const told = new Set(ofSid(sid, numbers, here).map(({rule, mask}) => `${rule} ${mask}`));
+        let had = own.got(sid, types);
+        const told = new Set(ofSid(sid, numbers, had).map(keyOf));
         const classes = classesOf(aces.map((ace) => ace.inherited));
-        return ofDirectory(sid, numbers, wanted(sid), got, new Map(), {...options, classes, hasAccounts: false},
-            {isBelow: true})
-            .filter(({rule, mask}) => !told.has(`${rule} ${mask}`));
+        return children.flatMap((child) => {
+            const got = beyond(child, sid, below);
+            if (!isDirectory(kind)) {
+                const more = only(without(got, had), wanted(sid).mask);
+                had = {...had, mask: had.mask | more.mask};
+                return ofMask("children-change", sid, numbers, more, {isBelow: true});
+            }
+            return ofDirectory(sid, numbers, wanted(sid), got, new Map(), {...options, classes, hasAccounts: false}, {isBelow: true})
+                .filter((one) => !told.has(keyOf(one)) && told.size < told.add(keyOf(one) + one.object).size);
+        });
     });
 }

@@ -13,7 +13,7 @@ from sdtool.audit.questions.rights import ALONE, BELOW, GENERIC, GENERIC_BITS, G
 # Kinds of ACEs whose meaning is known here; an object with another one is unknown.
 ALLOWS, DENIES, OTHERS = frozenset({"A", "OA"}), frozenset({"D", "OD"}), frozenset({"AU", "OU", "ML"})
 FLAGS = {"OI": 0x1, "CI": 0x2, "NP": 0x4, "IO": 0x8, "ID": 0x10, "SA": 0x40, "FA": 0x80}
-INHERIT_ONLY, INHERITED = 0x8, 0x10
+OBJECT_INHERIT, CONTAINER_INHERIT, NO_PROPAGATE, INHERIT_ONLY, INHERITED = 0x1, 0x2, 0x4, 0x8, 0x10
 PROTECTED = 0x1000  # control bit of a DACL that is cut off from inheritance
 _MOST_ACES = 50_000   # that are kept, so that an ACE of many descriptors is read once
 _BATCH = 4_000        # lines in one call

@@ -1,14 +1,14 @@
 """What is risky about an object: rules with a name, a severity and a reason. windows/ has the rules and what they go by."""
 import functools
-from typing import Callable, Dict, Iterable, Iterator, List, NamedTuple, Optional, Sequence, Tuple
+from typing import Callable, Dict, Iterable, Iterator, List, NamedTuple, Optional, Sequence, Set, Tuple
 
 from sdtool._windows import ABILITIES, SIDS
 from sdtool._windows import RULES as _RULES
 from sdtool.audit.questions import names as sids
 from sdtool.audit.questions import rights
 from sdtool.audit.questions.abilities import Abilities, class_names, is_harmless, is_own
-from sdtool.audit.questions.answers import (ALLOWS, DENIES, INHERIT_ONLY, INHERITED, NO_DACL, PROTECTED, Ace, Descriptor, Refusal,
-                                            ace_text, explained, mapped, mapped_below, spelled)
+from sdtool.audit.questions.answers import (ALLOWS, CONTAINER_INHERIT, DENIES, INHERIT_ONLY, INHERITED, NO_DACL, NO_PROPAGATE,
+                                            OBJECT_INHERIT, PROTECTED, Ace, Descriptor, Refusal, ace_text, explained, mapped, mapped_below, spelled)
 from sdtool.audit.questions.asking import (LESSER, NO_MARK, NOTHING, OWNER_KEY, SEVERITIES as ORDER, Answer, Because, Checks,
                                            Finding, Got, Mark, Question, Rule, answer_of, as_owner, ask_all, complete, got_of, mark_of, parts_of,
                                            trustee_token, unknown_of, why_unanswerable)
@@ -108,9 +108,9 @@ class _Case(NamedTuple):
 
     whole: _View
     own: _View  # without what is excused
-    child: Optional[_View]
+    children: Sequence[_View]  # each sort of what inherits
     here: Dict[str, _Wanted]
-    below: Dict[str, List[str]]
+    below: Dict[str, List[Ace]]
     owner: str
     types: Sequence[str]
 
@@ -197,9 +197,9 @@ class Risks:
     def _case(self, views: _Views, at: int, descriptor: Descriptor, kind: str, place: Place) -> _Case:
         whole = views.plain(at)
         here: Dict[str, _Wanted] = {}
-        below: Dict[str, List[str]] = {}
+        below: Dict[str, List[Ace]] = {}
         if descriptor.dacl != "list":
-            return _Case(whole, whole, None, here, below, "", ())
+            return _Case(whole, whole, (), here, below, "", ())
         is_directory, inheriting = kind in rights.DIRECTORY, rights.inherits(kind)
         # What an ACE that denies takes here, children may get all the same; and a generic right may mean more for them.
         is_denied = any(ace.kind in DENIES for ace in descriptor.aces)
@@ -215,14 +215,15 @@ class Risks:
                         here[sid] = wanted
                     has_more = is_denied or ace.flags & INHERIT_ONLY or mapped_below(ace, kind) & ~mapped(ace.mask, kind)
                     if ace.flags & inheriting and (is_directory or has_more and sids.everybody_class(ace.sid)):
-                        below.setdefault(sid, []).append(ace.inherited_type)
+                        below.setdefault(sid, []).append(ace)
             kept.append(number)
-        case = _Case(whole, whole, None, here, below, self._asked_owner(descriptor, kind), ())
+        case = _Case(whole, whole, (), here, below, self._asked_owner(descriptor, kind), ())
         return self._asked(views, descriptor, kind, case, kept) if here or below or case.owner else case
 
     def _asked(self, views: _Views, descriptor: Descriptor, kind: str, case: _Case, kept: Sequence[int]) -> _Case:
         """Asks the library what a case needs. Of the ACEs those count that are kept, by their numbers."""
-        own, child, types = case.whole, None, []
+        own, types = case.whole, []
+        children: List[_View] = []
         aces = [descriptor.aces[number - 1] for number in kept]
         if len(kept) < len(descriptor.aces) or kind in rights.WITHOUT_MAPPING:
             own = views.changed(spelled(descriptor, [ace_text(ace, ace.flags, mapped(ace.mask, kind)) for ace in aces]), kept)
@@ -238,11 +239,13 @@ class Risks:
             own.ask(case.owner)
         if case.below:
             handed_on = [number for number in kept if _is_handed_on(descriptor.aces[number - 1], kind)]
-            child = views.changed(_child_text(descriptor, [descriptor.aces[number - 1] for number in handed_on], kind), handed_on)
-            for sid in case.below:
-                for one in (sid, *_wider(sid, case.below)):
-                    child.ask(one, types)
-        return case._replace(own=own, child=child, types=types)
+            for numbers in _sorts(descriptor, handed_on, kind, [ace for aces in case.below.values() for ace in aces]):
+                child = views.changed(_child_text(descriptor, [descriptor.aces[number - 1] for number in numbers], kind), numbers)
+                for sid in case.below:
+                    for one in (sid, *_wider(sid, case.below)):
+                        child.ask(one, types)
+                children.append(child)
+        return case._replace(own=own, children=children, types=types)
 
     def _asked_owner(self, descriptor: Descriptor, kind: str) -> str:
         """The owner, if it isn't trusted."""
@@ -331,22 +334,29 @@ class Risks:
 
     def _of_below(self, case: _Case, aces: Sequence[Ace], kind: str, place: Place) -> Iterator[Finding]:
         """What is granted in what is made in an object, and not here."""
-        if case.child is None:
+        if not case.children:
             return
         where = f"in {rights.child_of(kind)}"
-        for sid, guids in case.below.items():
+        for sid, listed in case.below.items():
+            classes = class_names(ace.inherited_type for ace in listed)
             wanted = self._wanted(sid, kind)
-            got = self._got(case.child, sid, case.below, case, kind)
-            why = functools.partial(case.child.because, sid, aces)
-            here = case.own.got(sid, case.types, rights.EVERYTHING[kind])
-            if kind not in rights.DIRECTORY:
-                more = _without(got, here)
-                yield from self._of_mask("children-change", sid, _only(more, wanted.mask), kind, where, why, more.mask, wanted.mask)
-                continue
-            told = {(one.rule, one.rights) for one in self._of_got(sid, wanted, here, kind, place, case)}
-            found = self._of_directory(sid, wanted, got, kind, class_names(guids), {}, place._replace(is_of_accounts=False), where,
-                                       why, why)
-            yield from (one for one in found if (one.rule, one.rights) not in told)
+            had = case.own.got(sid, case.types, rights.EVERYTHING[kind])
+            told = {(one.rule, one.rights) for one in self._of_got(sid, wanted, had, kind, place, case)} if kind in rights.DIRECTORY \
+                else set()
+            known: Set[Tuple[str, str, str]] = set()
+            for child in case.children:
+                got = self._got(child, sid, case.below, case, kind)
+                why = functools.partial(child.because, sid, aces)
+                if kind not in rights.DIRECTORY:
+                    more = _without(got, had)
+                    had = Got(had.mask | more.mask, ())
+                    yield from self._of_mask("children-change", sid, _only(more, wanted.mask), kind, where, why, more.mask, wanted.mask)
+                    continue
+                for one in self._of_directory(sid, wanted, got, kind, classes, {}, place._replace(is_of_accounts=False),
+                                              where, why, why):
+                    if (one.rule, one.rights) not in told and (one.rule, one.rights, one.text) not in known:
+                        known.add((one.rule, one.rights, one.text))
+                        yield one
 
     def _of_list(self, descriptor: Descriptor) -> Iterable[Finding]:
         reason = _disorder(descriptor)
@@ -411,6 +421,20 @@ def _wider(sid: str, among: Iterable[str]) -> List[str]:
 def _is_handed_on(ace: Ace, kind: str) -> bool:
     """Whether a child inherits an ACE that decides about it."""
     return bool(ace.flags & rights.inherits(kind)) and ace.kind in ALLOWS | DENIES
+
+
+def _sorts(descriptor: Descriptor, numbers: Sequence[int], kind: str, listed: Sequence[Ace]) -> Iterable[Sequence[int]]:
+    """The ACEs that files inherit, and those that containers do. An ACE that denies for one class of children, or one level, stops
+    what is for others too only there, so it is left out."""
+    aces = [descriptor.aces[number - 1] for number in numbers]
+    classes, levels = {ace.inherited_type for ace in listed}, {ace.flags & NO_PROPAGATE for ace in listed}
+
+    def counts(ace: Ace) -> bool:
+        return ace.kind in ALLOWS or (not ace.inherited_type or classes <= {ace.inherited_type}) and \
+            (not ace.flags & NO_PROPAGATE or levels <= {NO_PROPAGATE})
+
+    return dict.fromkeys(tuple(number for number, ace in zip(numbers, aces) if ace.flags & flag and counts(ace))
+                         for flag in (OBJECT_INHERIT, CONTAINER_INHERIT) if flag & rights.inherits(kind))
 
 
 def _child_text(descriptor: Descriptor, aces: Iterable[Ace], kind: str) -> str:
