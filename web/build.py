@@ -4,9 +4,10 @@
 Puts the page together: one file, PAGE, of web/page.html, web/page.css, the ES modules of web/ from main.mjs on, the
 file LIBRARY (sdtool.mjs) and the file MODULE (sdtool.wasm), compressed and in base64. It leaves out comments, indentation,
 most line ends and the blanks of the style, and changes nothing else but how a module gets what another exports: each becomes
-a function that is called once, in the order in which a browser would. The script is no module, since browsers refuse modules in workers of a page
-from a disk; so it has no import.meta. What the page never calls is left out: of the module by binaryen's wasm-metadce,
-of the library by name. The page's policy allows this script and this style alone, by their hashes.
+a function that is called once, in the order in which a browser would. The script is no module, since browsers refuse modules
+in workers of a page from a disk; so it has no import.meta. What the page never calls is left out: of the module by binaryen's
+wasm-metadce, of the library by name. Then binaryen's wasm-opt lets the module's functions share locals. The page's policy
+allows this script and this style alone, by their hashes.
 """
 import argparse
 import base64
@@ -156,7 +157,7 @@ def policy(script, style):
 
 
 def reduced(module):
-    """The module with what the page calls, and no more."""
+    """The module with what the page calls, and no more, in functions that share locals."""
     names = [name for name in CALLED if name.encode() in module]
     graph = [{"name": "page", "root": True, "reaches": names}, *({"name": name, "export": name} for name in names)]
     with tempfile.TemporaryDirectory() as name:
@@ -165,7 +166,9 @@ def reduced(module):
         (folder / "module.wasm").write_bytes(module)
         words = ["wasm-metadce", *FEATURES, "module.wasm", "--graph-file=graph.json", "-o", "reduced.wasm"]
         subprocess.run(words, cwd=folder, check=True, stdout=subprocess.DEVNULL)
-        return (folder / "reduced.wasm").read_bytes()
+        words = ["wasm-opt", *FEATURES, "--coalesce-locals", "--reorder-locals", "reduced.wasm", "-o", "packed.wasm"]
+        subprocess.run(words, cwd=folder, check=True)
+        return (folder / "packed.wasm").read_bytes()
 
 
 def page(module, library):
