@@ -44,8 +44,8 @@ help:
 	@echo 'make edits             tries every edit that the check must refuse, also those that the gate leaves out (an hour or two);'
 	@echo '                       CRATE=NAME tries those of a crate, EDIT=WORD those with WORD in their names (10 to 30 seconds each)'
 	@echo 'make figures           rewrites what is written by scripts: the figures in docs/GATE.md and docs/DEFINITIONS.md, the places'
-	@echo '                       of aliases in sd_alias, the cells of names in sd_kinds and sd_rights, the completions of three'
-	@echo '                       shells, and what is written from windows/ (seconds)'
+	@echo '                       of aliases in sd_alias, the cells of names and the usual texts in sd_kinds and sd_rights, the'
+	@echo '                       completions of three shells, and what is written from windows/ (seconds)'
 	@echo 'make bench             measures the program against a plain one in Rust, and cat (8 minutes)'
 	@echo 'make bench-library     measures calls of the library beside those of Samba, from C and Python (a minute)'
 	@echo 'make install           installs the program, its man page, documents and completions below PREFIX ($(PREFIX)),'
@@ -105,6 +105,7 @@ figures:
 	windows/write.py
 	tests/alias_places.py
 	tests/name_cells.py
+	tests/usual_texts.py
 	packaging/completions.py
 	tests/figures.py
 

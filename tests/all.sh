@@ -157,6 +157,7 @@ count tests/layers.py
 count tests/c_interface.py
 count tests/alias_places.py --check
 count tests/name_cells.py --check
+count tests/usual_texts.py --check
 count packaging/completions.py --check
 count tests/figures.py --check
 count windows/write.py --check

@@ -1,16 +1,18 @@
 //! The flags of an ACE (MS-DTYP 2.4.4.1), and their names.
 
-ghost use Rattle.std.specs.Prelude.{◌≡◌, ◌≤◌, ◌/◌, ◌%◌, length, IfSome, IsTrue, Some};
+ghost use Rattle.std.specs.Prelude.{◌≡◌, ◌≤◌, ◌<◌, ◌/◌, ◌%◌, get_or, length, take, true, IfSome, IsTrue, Some};
 ghost use Rattle.sd_text.specs.Bits.{has_bit};
 ghost use Rattle.sd_kinds.specs.FlagValues.{FlagNames, FlagValues};
 ghost use Rattle.sd_kinds.specs.Flags.{flags_reads, flags_text, is_flag};
 ghost use Rattle.sd_text.specs.LimitValues.{LimitValues};
+ghost use Rattle.sd_text.specs.Usual.{have_values, usual_text};
 ghost use Rattle.sd_sink.specs.Print.{Prints};
 ghost use Rattle.sd_sink.specs.Sink.{Puts};
 
 use crate::flag_cells::FLAG_CELLS;
+use crate::flag_texts::{USUAL_FLAG_KEYS, USUAL_FLAG_SIZES, USUAL_FLAG_VALUES};
 use sd_sink::{Print, Printer, Sink, SinkFault};
-use sd_text::{MOST_FIELD_SIZE, NamedBits, named, print_names, read_names};
+use sd_text::{MOST_FIELD_SIZE, NamedBits, USUAL_ROWS, named, print_names, read_names, usual_row};
 
 /// OBJECT_INHERIT_ACE: files inherit the ACE.
 pub const OBJECT_INHERIT: u8 = 0x1;
@@ -113,4 +115,38 @@ pub fn flags_from_text(text: &[u8]) -> Option<u8>
     }
     let flags = read_names(&FLAG_CELLS, text)?;
     Some(flags as u8)
+}
+
+/// The flags of an ACE before the first semicolon of a text, and the size of their own text, if they are usual ones.
+/// `None` means only that the general reader must decide.
+///
+/// ```
+/// assert!(rt; usual_flags(b"OICI;FA;;;WD)") == Some((OBJECT_INHERIT | CONTAINER_INHERIT, 4)));
+/// assert!(rt; usual_flags(b";FA;;;WD)") == Some((0, 0)));
+/// assert!(rt; usual_flags(b"CIOI;FA;;;WD)") == None);
+/// ```
+#[inline(always)]
+pub fn usual_flags(text: &[u8]) -> Option<(u8, usize)>
+    ensures within { IfSome result (λ r. r.1 ≤ length text.now) }
+    ensures flags { IfSome result (λ r. flags_reads (take r.1 text.now) ≡ Some r.0) }
+    ensures clear { IfSome result (λ r. r.0 / 0x20 % 2 ≡ 0) }
+{
+    let row = usual_row(&USUAL_FLAG_KEYS, &USUAL_FLAG_SIZES, text)?;
+    let flags = flags_in(&USUAL_FLAG_KEYS, &USUAL_FLAG_SIZES, &USUAL_FLAG_VALUES, row);
+    Some((flags, usize::from(USUAL_FLAG_SIZES[row])))
+}
+
+// The flags of a row.
+#[inline(always)]
+fn flags_in(
+    keys: &[u64; USUAL_ROWS],
+    sizes: &[u8; USUAL_ROWS],
+    values: &[u8; USUAL_ROWS],
+    row: usize,
+) -> u8
+    requires values { have_values flags_reads keys.now sizes.now values.now ≡ true }
+    requires row { row < 64 }
+    ensures { flags_reads (usual_text (get_or keys.now row 0) (get_or sizes.now row 0)) ≡ Some result }
+{
+    values[row]
 }

@@ -82,15 +82,27 @@ impl<T: Copy> Parts<T> {
         }
     }
 
-    /// Replaces the value for a part.
+    /// Replaces the value for a part. Each field is set by itself, since which of four places a jump goes to is hard to
+    /// guess.
+    #[inline(always)]
     pub fn set(&mut self, part: Part, value: T)
         ensures { self.new ≡ set_part part value self.old }
     {
-        match part {
-            Part::Owner => self.owner = value,
-            Part::Group => self.group = value,
-            Part::Sacl => self.sacl = value,
-            Part::Dacl => self.dacl = value,
-        }
+        self.owner = match part {
+            Part::Owner => value,
+            _ => self.owner,
+        };
+        self.group = match part {
+            Part::Group => value,
+            _ => self.group,
+        };
+        self.sacl = match part {
+            Part::Sacl => value,
+            _ => self.sacl,
+        };
+        self.dacl = match part {
+            Part::Dacl => value,
+            _ => self.dacl,
+        };
     }
 }

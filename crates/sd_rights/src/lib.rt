@@ -4,6 +4,7 @@
 mod access_rights;
 mod mapping;
 mod mask_fronts;
+mod mask_texts;
 mod right_cells;
 mod rights;
 mod rights_reading;

@@ -1,12 +1,14 @@
 //! Access masks at the front of a longer text, in the forms that most of them have: names, or hex digits.
 
-ghost use Rattle.std.specs.Prelude.{◌≡◌, ◌≤◌, length, take, true, IfSome, Some};
+ghost use Rattle.std.specs.Prelude.{◌≡◌, ◌≤◌, ◌<◌, get_or, length, take, true, IfSome, Some};
 ghost use Rattle.sd_text.specs.Numbers.{number_after};
+ghost use Rattle.sd_text.specs.Usual.{have_values, usual_text};
 ghost use Rattle.sd_rights.specs.HexValues.{has_values, value_of};
 ghost use Rattle.sd_rights.specs.Rights.{rights_reads};
 
+use crate::mask_texts::{USUAL_MASK_KEYS, USUAL_MASK_SIZES, USUAL_MASK_VALUES};
 use crate::right_cells::RIGHT_CELLS;
-use sd_text::{MOST_FIELD_SIZE, front_names};
+use sd_text::{MOST_FIELD_SIZE, USUAL_ROWS, front_names, usual_row};
 
 /// The digits of the largest mask.
 const MOST_DIGITS: usize = 8;
@@ -42,6 +44,9 @@ pub fn front_mask(text: &[u8]) -> Option<(u32, usize)>
     ensures within { IfSome result (λ r. r.1 ≤ length text.now) }
     ensures mask { IfSome result (λ r. rights_reads (take r.1 text.now) ≡ Some r.0) }
 {
+    if let Some(usual) = usual_mask(text) {
+        return Some(usual);
+    }
     let (mask, size) = front_names(&RIGHT_CELLS, text);
     if size == 0 {
         return hex_mask(text);
@@ -50,6 +55,32 @@ pub fn front_mask(text: &[u8]) -> Option<(u32, usize)>
         return None;
     }
     Some((mask, size))
+}
+
+// The same for the masks that most ACEs have.
+#[inline(always)]
+fn usual_mask(text: &[u8]) -> Option<(u32, usize)>
+    ensures within { IfSome result (λ r. r.1 ≤ length text.now) }
+    ensures mask { IfSome result (λ r. rights_reads (take r.1 text.now) ≡ Some r.0) }
+{
+    let row = usual_row(&USUAL_MASK_KEYS, &USUAL_MASK_SIZES, text)?;
+    let mask = mask_in(&USUAL_MASK_KEYS, &USUAL_MASK_SIZES, &USUAL_MASK_VALUES, row);
+    Some((mask, usize::from(USUAL_MASK_SIZES[row])))
+}
+
+// The mask of a row.
+#[inline(always)]
+fn mask_in(
+    keys: &[u64; USUAL_ROWS],
+    sizes: &[u8; USUAL_ROWS],
+    values: &[u32; USUAL_ROWS],
+    row: usize,
+) -> u32
+    requires values { have_values rights_reads keys.now sizes.now values.now ≡ true }
+    requires row { row < 64 }
+    ensures { rights_reads (usual_text (get_or keys.now row 0) (get_or sizes.now row 0)) ≡ Some result }
+{
+    values[row]
 }
 
 // The same for hex digits.

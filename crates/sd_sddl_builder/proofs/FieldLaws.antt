@@ -10,7 +10,7 @@ use Rattle.sd_builder.specs.Draft.{DraftParts, built, closed}
 use Rattle.sd_builder.specs.declared.builder.Builder.{Builder}
 use Rattle.sd_sddl_builder.specs.FoldedReading.{FieldsRead, begun_or_null, described, finished, no_fields, take_front}
 use Rattle.sd_sddl_builder.specs.FoldedReading.{with_flags}
-use Rattle.sd_sid.specs.KeptDomain.{DomainOf}
+use Rattle.sd_sddl_builder.specs.declared.kept.KeptDomains.{KeptDomains}
 use Rattle.sd_sddl_fields.specs.FieldTexts.{object_reads}
 use Rattle.sd_sddl_builder.specs.Meaning.{control_flags, unless_large}
 use Rattle.sd_sddl_builder.specs.FieldReading.{AreAceFields, BuildsParts, HasReadFields}
@@ -18,7 +18,6 @@ use Rattle.sd_parts.specs.declared.control.AclFlags.{AclFlags}
 use Rattle.sd_sddl_builder.specs.declared.reading.AceFields.{AceFields}
 use Rattle.sd_sddl_fields.specs.declared.field_texts.AclFront.{AclFront}
 use Rattle.sd_parts.specs.declared.part.Which.{Which}
-use Rattle.sd_parts.specs.declared.part.Which.TheVariants as which
 use Rattle.sd_sddl_builder.specs.declared.reading.FieldReader.{FieldReader}
 
 module _ (r : FieldReader) (buf : List ℕ) (t : FieldsRead) (h : HasReadFields r buf t) where
@@ -55,8 +54,8 @@ module _ (r : FieldReader) (buf : List ℕ) (t : FieldsRead) (h : HasReadFields 
     open_acl = h.open_acl;
   }
 
-  -- the domain that is kept is no part of what was read
-  pub holds-kept : (d : DomainOf) → HasReadFields (record r { kept = d }) buf t
+  -- the domains that are kept are no part of what was read
+  pub holds-kept : (d : KeptDomains) → HasReadFields (record r { kept = d }) buf t
   holds-kept d = record {
     sacl = h.sacl;
     dacl = h.dacl;
@@ -153,25 +152,9 @@ sound-inherited f text object s e = record { clear = s.clear; fit = by_object ob
     by_object (Some g) e = any (is_object f.kind) f.object (Some g) (guid_stands f.kind text g e)
 
 -- an ACL begins
-front-taken : (w : Which) (has_aces : Bool) (t : FieldsRead) (f : AclFront) (found : Option AclFront) → found ≡ Some f
+pub front-taken : (w : Which) (has_aces : Bool) (t : FieldsRead) (f : AclFront) (found : Option AclFront) → found ≡ Some f
     → (f.null && has_aces) ≡ false
     → take_front w has_aces t found ≡ Ok
     (with_flags w f.flags (record t { parts = begun_or_null w f.null (closed t.parts) }))
 unfolding take_front
 front-taken w has_aces t f found is e = rw (is, e) refl
-
-module _ (w : Which) (has_aces : Bool) (t : FieldsRead) (f : AclFront) (found : Option AclFront) (is : found ≡ Some f)
-    (e : (f.null && has_aces) ≡ false) where
-  pub sacl-taken : w ≡ which.Sacl
-      → take_front w has_aces t found ≡ Ok
-      (record t { parts = begun_or_null w f.null (closed t.parts); sacl = f.flags })
-  sacl-taken same = front-taken w has_aces t f found is e
-      ∙ ap (λ (v : Which). Ok
-      (with_flags v f.flags (record t { parts = begun_or_null w f.null (closed t.parts) }))) same
-
-  pub dacl-taken : w ≡ which.Dacl
-      → take_front w has_aces t found ≡ Ok
-      (record t { parts = begun_or_null w f.null (closed t.parts); dacl = f.flags })
-  dacl-taken same = front-taken w has_aces t f found is e
-      ∙ ap (λ (v : Which). Ok
-      (with_flags v f.flags (record t { parts = begun_or_null w f.null (closed t.parts) }))) same

@@ -2,10 +2,12 @@
 #![tactic(auto)]
 
 mod fault;
+mod kept;
 mod name;
 mod reading;
 mod slot;
 
 pub use fault::SddlFault;
+pub use kept::KeptDomains;
 pub use reading::{FieldReader, fault_of};
 pub use slot::{AceField, Head, Slot};

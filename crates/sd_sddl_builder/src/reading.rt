@@ -12,6 +12,7 @@ ghost use Rattle.sd_sddl_builder.specs.Inner.AceEnds.{EndsAce, EndsWithObjects};
 ghost use Rattle.sd_sddl_builder.specs.WholeAce.{TakesAce};
 
 use crate::fault::SddlFault;
+use crate::kept::KeptDomains;
 use crate::name::front_name;
 use crate::slot::{AceField, Slot};
 use sd_ace::AceParts;
@@ -22,10 +23,10 @@ use sd_kinds::{AceKind, flags_from_text};
 use sd_parts::{AclFlags, SidPart, Which};
 use sd_rights::rights_from_text;
 use sd_sddl_fields::{
-    NO_FLAGS, after, behind, front_flags, front_from_text, front_kind, front_objects, front_rights,
-    object_from_text,
+    AclFront, NO_FLAGS, after, behind, front_flags, front_from_text, front_kind, front_objects,
+    front_rights, object_from_text,
 };
-use sd_sid::{Account, KeptDomain, Sid, SidFault, front_account};
+use sd_sid::{Account, Sid, SidFault};
 use uuid::Uuid;
 
 /// The fields of an ACE before its SID.
@@ -49,8 +50,8 @@ pub struct FieldReader {
     dacl: AclFlags,
     ace: AceFields,
     large: Option<Which>,
-    /// The domain of accounts that were read, in this line and those before it.
-    pub kept: KeptDomain,
+    /// The domains of accounts that were read, in this line and those before it.
+    pub kept: KeptDomains,
 }
 
 impl FieldReader {
@@ -58,7 +59,7 @@ impl FieldReader {
     ghost use Rattle.sd_builder.specs.Draft.{IsOpen, closed};
     ghost use Rattle.sd_sddl_builder.specs.declared.slot.Head.TheVariants as head;
     ghost use Rattle.sd_sddl_builder.specs.FoldedReading.{FieldsRead, begun_or_null, finished, nothing_read};
-    ghost use Rattle.sd_sddl_builder.specs.FoldedReading.{with_owner_or_group};
+    ghost use Rattle.sd_sddl_builder.specs.FoldedReading.{with_flags, with_owner_or_group};
     ghost use Rattle.sd_sddl_builder.specs.FieldReading.{AreAceFields, CanTake, Ends, HasReadFields, Lacks, Takes};
 
     /// A reader that has read nothing.
@@ -74,7 +75,7 @@ impl FieldReader {
             dacl: NO_FLAGS,
             ace: no_fields(AceKind::Allow),
             large: None,
-            kept: KeptDomain::none(),
+            kept: KeptDomains::none(),
         }
     }
 
@@ -180,12 +181,22 @@ impl FieldReader {
         if front.null && has_aces {
             return Err(SddlFault::Flags);
         }
+        self.put_front(buf, which, front);
+        Ok(())
+    }
+
+    /// Begins an ACL with these flags, or takes one that is null.
+    pub fn put_front(&mut self, buf: &mut SdBuf, which: Which, front: AclFront)
+        requires { (t : FieldsRead) × HasReadFields self.old buf.old t × Lacks (head.Acl which) t }
+        ensures held { (t : FieldsRead) → HasReadFields self.old buf.old t → HasReadFields self.new buf.new
+            (with_flags which front.flags (record t { parts = begun_or_null which front.null (closed t.parts) })) }
+        ensures domain { self.new.domain ≡ self.old.domain }
+    {
         self.begin_acl(buf, which, front.null);
         match which {
             Which::Sacl => self.sacl = front.flags,
             Which::Dacl => self.dacl = front.flags,
         }
-        Ok(())
     }
 
     fn begin_acl(&mut self, buf: &mut SdBuf, which: Which, null: bool)
@@ -375,7 +386,7 @@ impl FieldReader {
             self.new buf.new rest.now) }
         ensures domain { self.new.domain ≡ self.old.domain }
     {
-        let (account, domain, behind) = front_account(text, &self.kept)?;
+        let (account, domain, behind) = self.kept.front_account(text)?;
         let rest = after(behind, b")")?;
         self.kept.note(&text[..domain], account);
         self.ace = AceFields {

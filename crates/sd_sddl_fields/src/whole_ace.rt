@@ -10,7 +10,7 @@ ghost use Rattle.sd_sddl_fields.specs.FieldFronts.{FieldAt, ObjectsAt};
 
 use crate::field_texts::object_from_text;
 use sd_ace::GUID_TEXT_SIZE;
-use sd_kinds::{AceKind, INHERIT_ONLY, INHERITED, ONWARD, flags_from_text};
+use sd_kinds::{AceKind, flags_from_text};
 use sd_rights::{front_mask, rights_from_text};
 use sd_text::MOST_FIELD_SIZE;
 use uuid::Uuid;
@@ -60,31 +60,15 @@ pub fn front_flags(text: &[u8]) -> Option<(u8, &[u8])>
     Some((flags, rest))
 }
 
-// The same, for the flags that most ACEs have: none, ID, or OICI with IO, ID or both behind it.
+// The same, for the flags that most ACEs have.
 #[inline(always)]
 fn usual_flags(text: &[u8]) -> Option<(u8, &[u8])>
     ensures found { IfSome result (λ r. FieldAt (λ t. flags_reads t ≡ Some r.0) (char ";") text.now r.1.now) }
     ensures clear { IfSome result (λ r. r.0 / 0x20 % 2 ≡ 0) }
 {
-    if let Some(rest) = after(text, b";") {
-        return Some((0, rest));
-    }
-    if let Some(rest) = after(text, b"ID;") {
-        return Some((INHERITED, rest));
-    }
-    let containers = after(text, b"OICI")?;
-    if let Some(rest) = after(containers, b";") {
-        return Some((ONWARD, rest));
-    }
-    if let Some(rest) = after(containers, b"ID;") {
-        return Some((ONWARD + INHERITED, rest));
-    }
-    let children = after(containers, b"IO")?;
-    if let Some(rest) = after(children, b";") {
-        return Some((ONWARD + INHERIT_ONLY, rest));
-    }
-    let rest = after(children, b"ID;")?;
-    Some((ONWARD + INHERIT_ONLY + INHERITED, rest))
+    let (flags, count) = sd_kinds::usual_flags(text)?;
+    let rest = behind_byte(text, count, b';')?;
+    Some((flags, rest))
 }
 
 /// The access mask, and what follows its semicolon.

@@ -12,7 +12,7 @@ use Rattle.sd_sddl_builder.specs.declared.slot.Slot.TheVariants as slot
 use Rattle.sd_sddl_builder.specs.FoldedReading.{FieldsRead, take_field}
 use Rattle.sd_sddl_fields.specs.Held.{IsHeld, is_plain_inside, no_text}
 use Rattle.sd_sddl_reader.specs.Inner.Progress.{Seen, rest_answer, end_of, state_after}
-use Rattle.sd_sddl_reader.specs.Inner.Reads.{FedTo, Fits, IsReader, LineHasRead, Steps}
+use Rattle.sd_sddl_reader.specs.Inner.Reads.{FedTo, Feeds, Fits, IsReader, LineHasRead, Steps}
 use Rattle.sd_sddl_reader.specs.declared.reader.SddlReader.{SddlReader}
 use Rattle.sd_sddl_builder.specs.WholeAce.{AceTexts, AreWhole, TakesAce, ace_before, with_field, with_texts}
 use Rattle.sd_text.specs.Chains.{and_then, unless}
@@ -169,3 +169,15 @@ fed-on s s' buf buf' dm bytes after rest line none none' steps is h =
       (e.0, e.1, λ more. rw none' (e.2 more ∙ (rw none at h.1.2 (bytes ++ more)) ∙ rw append_assoc refl)),
       append_assoc h.0 bytes after ∙ ap (λ (t : List ℕ). h.0 ++ t) (sym is) ∙ h.2,
     )
+
+-- one call after another
+pub feeds-on : (r s t : SddlReader) (before between after text rest last : List ℕ) → Feeds r before text s between rest
+    → Feeds s between rest t after last → Feeds r before text t after last
+feeds-on r s t before between after text rest last first second = record {
+  shorter = omega (arith, first.shorter, second.shorter);
+  reader = second.reader;
+  read = λ domain fed h.
+      let f = first.read domain fed h in
+      let g = second.read domain f.0 f.1 in
+      (g.0, g.1, g.2 ∙ f.2);
+}

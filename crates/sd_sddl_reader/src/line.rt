@@ -5,16 +5,17 @@ ghost use Rattle.std.specs.Str.{byte as char};
 ghost use Rattle.std.specs.List.{list_all};
 ghost use Rattle.sd_sddl_fields.specs.Held.{is_plain_text};
 ghost use Rattle.sd_sddl_reader.specs.Inner.Progress.{is_plain_outside};
-ghost use Rattle.sd_sddl_reader.specs.Inner.WholePart.{AccountBefore, HeadAfter, IsPlainText};
+ghost use Rattle.sd_sddl_reader.specs.Inner.WholePart.{AccountBefore, FrontBefore, HeadAfter, IsPlainText};
 ghost use Rattle.sd_sddl_builder.specs.Line.{head_of};
 ghost use Rattle.sd_sddl_builder.specs.FoldedReading.{next_field};
+ghost use Rattle.sd_sddl_reader.specs.Inner.Heads.{have_heads};
 ghost use Rattle.sd_sddl_reader.specs.Inner.Progress.{state_of};
 ghost use Rattle.sd_text.specs.Limits.{most_field};
 
-use sd_parts::{SidPart, Which};
-use sd_sddl_builder::{AceField, Head};
-use sd_sddl_fields::{is_plain_text, plain_text};
-use sd_sid::{Account, KeptDomain, front_account};
+use sd_parts::{AclFlags, SidPart, Which};
+use sd_sddl_builder::{AceField, Head, KeptDomains};
+use sd_sddl_fields::{AclFront, NO_FLAGS, after, is_plain_text, plain_text};
+use sd_sid::Account;
 use sd_text::MOST_FIELD_SIZE;
 
 /// Where in a line the next byte is.
@@ -32,18 +33,52 @@ pub enum State {
     Ace(AceField),
 }
 
-/// What a letter announces, in either case.
+/// What a letter announces, in either case. It is read from a table: which of five places a jump goes to is hard to guess.
+#[inline(always)]
 pub fn head_of(byte: u8) -> Option<Head>
     ensures { result ≡ head_of byte }
 {
-    match byte {
-        b'O' | b'o' => Some(Head::Sid(SidPart::Owner)),
-        b'G' | b'g' => Some(Head::Sid(SidPart::Group)),
-        b'D' | b'd' => Some(Head::Acl(Which::Dacl)),
-        b'S' | b's' => Some(Head::Acl(Which::Sacl)),
-        _ => None,
-    }
+    head_in(&HEADS, byte)
 }
+
+#[inline(always)]
+fn head_in(heads: &[Option<Head>; 256], byte: u8) -> Option<Head>
+    requires { have_heads heads.now ≡ true }
+    ensures { result ≡ head_of byte }
+{
+    heads[usize::from(byte)]
+}
+
+const NONE: Option<Head> = None;
+
+const OWNER: Option<Head> = Some(Head::Sid(SidPart::Owner));
+
+const GROUP: Option<Head> = Some(Head::Sid(SidPart::Group));
+
+const SACL: Option<Head> = Some(Head::Acl(Which::Sacl));
+
+const DACL: Option<Head> = Some(Head::Acl(Which::Dacl));
+
+/// The head of each byte.
+static HEADS: [Option<Head>; 256] = [
+    NONE, NONE, NONE, NONE, NONE, NONE, NONE, NONE, NONE, NONE, NONE, NONE, NONE, NONE, NONE, NONE,
+    NONE, NONE, NONE, NONE, NONE, NONE, NONE, NONE, NONE, NONE, NONE, NONE, NONE, NONE, NONE, NONE,
+    NONE, NONE, NONE, NONE, NONE, NONE, NONE, NONE, NONE, NONE, NONE, NONE, NONE, NONE, NONE, NONE,
+    NONE, NONE, NONE, NONE, NONE, NONE, NONE, NONE, NONE, NONE, NONE, NONE, NONE, NONE, NONE, NONE,
+    NONE, NONE, NONE, NONE, DACL, NONE, NONE, GROUP, NONE, NONE, NONE, NONE, NONE, NONE, NONE,
+    OWNER, NONE, NONE, NONE, SACL, NONE, NONE, NONE, NONE, NONE, NONE, NONE, NONE, NONE, NONE,
+    NONE, NONE, NONE, NONE, NONE, NONE, DACL, NONE, NONE, GROUP, NONE, NONE, NONE, NONE, NONE,
+    NONE, NONE, OWNER, NONE, NONE, NONE, SACL, NONE, NONE, NONE, NONE, NONE, NONE, NONE, NONE,
+    NONE, NONE, NONE, NONE, NONE, NONE, NONE, NONE, NONE, NONE, NONE, NONE, NONE, NONE, NONE, NONE,
+    NONE, NONE, NONE, NONE, NONE, NONE, NONE, NONE, NONE, NONE, NONE, NONE, NONE, NONE, NONE, NONE,
+    NONE, NONE, NONE, NONE, NONE, NONE, NONE, NONE, NONE, NONE, NONE, NONE, NONE, NONE, NONE, NONE,
+    NONE, NONE, NONE, NONE, NONE, NONE, NONE, NONE, NONE, NONE, NONE, NONE, NONE, NONE, NONE, NONE,
+    NONE, NONE, NONE, NONE, NONE, NONE, NONE, NONE, NONE, NONE, NONE, NONE, NONE, NONE, NONE, NONE,
+    NONE, NONE, NONE, NONE, NONE, NONE, NONE, NONE, NONE, NONE, NONE, NONE, NONE, NONE, NONE, NONE,
+    NONE, NONE, NONE, NONE, NONE, NONE, NONE, NONE, NONE, NONE, NONE, NONE, NONE, NONE, NONE, NONE,
+    NONE, NONE, NONE, NONE, NONE, NONE, NONE, NONE, NONE, NONE, NONE, NONE, NONE, NONE, NONE, NONE,
+    NONE, NONE, NONE, NONE,
+];
 
 /// Where the part of a head begins.
 pub fn state_of(head: Head) -> State
@@ -132,14 +167,55 @@ pub fn next_head(text: &[u8]) -> Option<(&[u8], Head, &[u8])>
 }
 
 /// The account of an owner or a group at the front of a text, the head that ends it, and what follows its colon. Where
-/// it is `None`, `next_head` decides. The numbers of the domain that is kept are not read again.
+/// it is `None`, `next_head` decides. The numbers of a domain that is kept are not read again.
 #[inline(always)]
-pub fn next_account<'a>(text: &'a [u8], kept: &KeptDomain) -> Option<(Account, Head, &'a [u8])>
+pub fn next_account<'a>(text: &'a [u8], kept: &KeptDomains) -> Option<(Account, Head, &'a [u8])>
     ensures { IfSome result (λ r. AccountBefore r.0 r.1 r.2.now text.now) }
 {
-    let (account, _, behind) = front_account(text, kept)?;
+    let (account, _, behind) = kept.front_account(text)?;
     let (_, head, rest) = front_head(behind)?;
     Some((account, head, rest))
+}
+
+/// The flags of an ACL at the front of a text, if they are those that most ACLs have, and what follows the parenthesis
+/// that ends them. Where it is `None`, `first_parenthesis` decides.
+#[inline(always)]
+pub fn usual_front(text: &[u8]) -> Option<(AclFront, &[u8])>
+    ensures { IfSome result (λ r. FrontBefore r.0 r.1.now text.now) }
+{
+    if let Some(rest) = after(text, b"AI(") {
+        return Some((list(INHERITED), rest));
+    }
+    if let Some(rest) = after(text, b"PAI(") {
+        return Some((list(PROTECTED_AND_INHERITED), rest));
+    }
+    if let Some(rest) = after(text, b"P(") {
+        return Some((list(PROTECTED), rest));
+    }
+    let rest = after(text, b"(")?;
+    Some((list(NO_FLAGS), rest))
+}
+
+const INHERITED: AclFlags = AclFlags {
+    auto_inherited: true,
+    ..NO_FLAGS
+};
+
+const PROTECTED: AclFlags = AclFlags {
+    protected: true,
+    ..NO_FLAGS
+};
+
+const PROTECTED_AND_INHERITED: AclFlags = AclFlags {
+    protected: true,
+    ..INHERITED
+};
+
+// The flags of an ACL that is not null.
+fn list(flags: AclFlags) -> AclFront
+    ensures { result ≡ record { flags = flags; null = false } }
+{
+    AclFront { flags, null: false }
 }
 
 /// The flags of an ACL at the front of a text, and what follows the parenthesis that ends them. `None` if no such

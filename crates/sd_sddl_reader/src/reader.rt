@@ -18,7 +18,7 @@ ghost use Rattle.sd_sddl_reader.specs.Inner.Progress.{ended_with, is_inside, is_
 
 use crate::line::{
     State, first_parenthesis, front_head, head_of, next_account, next_field, next_head,
-    plain_outside, state_of,
+    plain_outside, state_of, usual_front,
 };
 use sd_buffer::SdBuf;
 use sd_parts::{Parts, SidPart, Which};
@@ -382,9 +382,22 @@ impl SddlReader {
         self.pending.is_none() && self.fault.is_none() && self.field.is_empty()
     }
 
-    // Takes what is whole at the front of the text: a head, an owner or a group with the next head, the flags of an ACL
-    // with its first parenthesis, or ACEs. Answers what follows it.
+    // Takes what is whole at the front of the text, and answers what follows it. Most lines have an owner and a group, then
+    // an ACL, so each is tried in turn: a `match` over the states became a jump through a table, which is hard to guess.
+    // Where a field is not whole, its first byte is taken, so that it isn't tried again.
     fn feed_whole<'a>(&mut self, buf: &mut SdBuf, text: &'a [u8]) -> &'a [u8]
+        requires { IsReader self.old buf.old }
+        ensures { Feeds self.old buf.old text.now self.new buf.new result.now }
+    {
+        let rest = self.whole_head(buf, text);
+        let rest = self.whole_sids(buf, rest);
+        let rest = self.whole_flags(buf, rest);
+        self.whole_aces(buf, rest)
+    }
+
+    // Takes a head, outside of a part.
+    #[inline(always)]
+    fn whole_head<'a>(&mut self, buf: &mut SdBuf, text: &'a [u8]) -> &'a [u8]
         requires { IsReader self.old buf.old }
         ensures { Feeds self.old buf.old text.now self.new buf.new result.now }
     {
@@ -393,10 +406,83 @@ impl SddlReader {
         }
         match self.state {
             State::Before | State::AfterAce => self.feed_head(buf, text),
-            State::Sid(part) => self.feed_sid(buf, part, text),
-            State::AclFlags(which) => self.feed_flags(buf, which, text),
-            State::Ace(AceField::Kind) => self.feed_aces(buf, text),
-            State::Ace(_) => text,
+            _ => text,
+        }
+    }
+
+    // Takes an owner and a group with the head after each.
+    #[inline(always)]
+    fn whole_sids<'a>(&mut self, buf: &mut SdBuf, text: &'a [u8]) -> &'a [u8]
+        requires { IsReader self.old buf.old }
+        ensures { Feeds self.old buf.old text.now self.new buf.new result.now }
+    {
+        let rest = self.whole_sid(buf, text);
+        self.whole_sid(buf, rest)
+    }
+
+    // Takes an owner or a group with the next head, after its own.
+    #[inline(always)]
+    fn whole_sid<'a>(&mut self, buf: &mut SdBuf, text: &'a [u8]) -> &'a [u8]
+        requires { IsReader self.old buf.old }
+        ensures { Feeds self.old buf.old text.now self.new buf.new result.now }
+    {
+        if !self.is_fresh() {
+            return text;
+        }
+        match self.state {
+            State::Sid(part) => {
+                let rest = self.feed_sid(buf, part, text);
+                self.feed_unless_fed(buf, text, rest)
+            }
+            _ => text,
+        }
+    }
+
+    // Takes the first byte of what is left of a text, if nothing was taken of it.
+    #[inline(always)]
+    fn feed_unless_fed<'a>(&mut self, buf: &mut SdBuf, text: &[u8], rest: &'a [u8]) -> &'a [u8]
+        requires { IsReader self.old buf.old }
+        ensures { Feeds self.old buf.old rest.now self.new buf.new result.now }
+    {
+        if rest.len() < text.len() {
+            return rest;
+        }
+        self.feed_front(buf, rest)
+    }
+
+    // Takes the flags of an ACL with its first parenthesis, after its head.
+    #[inline(always)]
+    fn whole_flags<'a>(&mut self, buf: &mut SdBuf, text: &'a [u8]) -> &'a [u8]
+        requires { IsReader self.old buf.old }
+        ensures { Feeds self.old buf.old text.now self.new buf.new result.now }
+    {
+        if !self.is_fresh() {
+            return text;
+        }
+        match self.state {
+            State::AclFlags(which) => {
+                let rest = self.feed_flags(buf, which, text);
+                self.feed_unless_fed(buf, text, rest)
+            }
+            _ => text,
+        }
+    }
+
+    // Takes ACEs, behind a parenthesis.
+    #[inline(always)]
+    fn whole_aces<'a>(&mut self, buf: &mut SdBuf, text: &'a [u8]) -> &'a [u8]
+        requires { IsReader self.old buf.old }
+        ensures { Feeds self.old buf.old text.now self.new buf.new result.now }
+    {
+        if !self.is_fresh() {
+            return text;
+        }
+        match self.state {
+            State::Ace(AceField::Kind) => {
+                let rest = self.feed_aces(buf, text);
+                self.feed_unless_fed(buf, text, rest)
+            }
+            _ => text,
         }
     }
 
@@ -495,6 +581,11 @@ impl SddlReader {
         requires reader { IsReader self.old buf.old }
         ensures { Feeds self.old buf.old text.now self.new buf.new result.now }
     {
+        if let Some((front, rest)) = usual_front(text) {
+            self.fields.put_front(buf, which, front);
+            self.state = State::Ace(AceField::Kind);
+            return rest;
+        }
         match first_parenthesis(text) {
             Some((field, rest)) => {
                 self.take_whole(buf, Slot::AclFlags(which, true), field);

@@ -1,6 +1,6 @@
 //! The SIDs of accounts of a domain, `S-1-5-21` and four numbers: most SIDs of a line are such.
 
-ghost use Rattle.std.specs.Prelude.{◌≡◌, ◌≤◌, ◌<◌, ◌∷◌, ◌++◌, length, take, true, IfSome};
+ghost use Rattle.std.specs.Prelude.{◌≡◌, ◌≤◌, ◌<◌, ◌∷◌, ◌++◌, codes, length, take, true, IfSome};
 ghost use Rattle.std.specs.Str.{byte as char};
 ghost use Rattle.sd_sid.specs.Account.{AccountAt, account_sid};
 ghost use Rattle.sd_sid.specs.Inner.Read.{NumberAt};
@@ -12,8 +12,10 @@ use crate::usual_sid::{DOMAIN, NT};
 use sd_text::front_decimal;
 use std::marker::Model;
 
-/// The text before the numbers of an account.
-const DOMAIN_TEXT: &str = "S-1-5-21-";
+/// The text before the numbers of an account, and its size.
+const DOMAIN_TEXT: &[u8; DOMAIN_TEXT_SIZE] = b"S-1-5-21-";
+
+const DOMAIN_TEXT_SIZE: usize = 9;
 
 /// The bytes of the text before the last number of an account, at most: that and three numbers with a dash each.
 const MOST_DOMAIN_TEXT: usize = 42;
@@ -185,7 +187,7 @@ fn read_account(text: &[u8]) -> Option<(Account, usize, &[u8])>
     ensures within { IfSome result (λ r. r.1 ≤ length text.now) }
     ensures domain { IfSome result (λ r. IsKept (take r.1 text.now) r.0) }
 {
-    let rest = behind(text, DOMAIN_TEXT.as_bytes())?;
+    let rest = behind_domain(text)?;
     let (first, rest) = number_and_dash(rest)?;
     let (second, rest) = number_and_dash(rest)?;
     let (third, own) = number_and_dash(rest)?;
@@ -223,11 +225,13 @@ fn number(text: &[u8]) -> Option<(u32, &[u8])>
     Some((number as u32, &text[count..]))
 }
 
-// What follows this text at the front.
+// What follows `S-1-5-21-` at the front.
 #[inline(always)]
-fn behind<'a>(text: &'a [u8], front: &[u8]) -> Option<&'a [u8]>
-    ensures { IfSome result (λ r. text.now ≡ front.now ++ r.now) }
+fn behind_domain(text: &[u8]) -> Option<&[u8]>
+    ensures { IfSome result (λ r. text.now ≡ codes "S-1-5-21-" ++ r.now) }
 {
-    let rest = text.strip_prefix(front)?;
-    Some(rest)
+    if !has_front::<DOMAIN_TEXT_SIZE>(text, DOMAIN_TEXT) {
+        return None;
+    }
+    Some(&text[DOMAIN_TEXT_SIZE..])
 }

@@ -7,3 +7,4 @@ pub mod NameCells
 pub mod NameLaws
 pub mod Options
 pub mod Tables
+pub mod UsualTexts

@@ -7,3 +7,4 @@ pub mod LimitValues
 pub mod Limits
 pub mod Names
 pub mod Numbers
+pub mod Usual

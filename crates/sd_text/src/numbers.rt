@@ -7,6 +7,8 @@ ghost use Rattle.std.specs.List.{list_all};
 ghost use Rattle.sd_text.specs.LimitValues.{LimitValues};
 ghost use Rattle.sd_text.specs.Numbers.{number, number_after};
 
+use crate::usual::shift_of;
+
 /// The digits that a decimal number has at most.
 const MOST_DIGITS: usize = 10;
 
@@ -64,7 +66,7 @@ pub fn front_decimal(text: &[u8]) -> (u64, usize)
     // Most sub-authorities of a domain have eight digits or more.
     let block = &text[..BLOCK];
     if !are_digits(block) {
-        return few_digits(0, block);
+        return short_decimal(block);
     }
     let (number, count) = few_digits(block_number(block), &text[BLOCK..MOST_DIGITS]);
     (number, BLOCK + count)
@@ -97,6 +99,36 @@ fn block_number(block: &[u8]) -> u64
     let first = outer_bytes(pairs).wrapping_mul(100 + (1_000_000 << 32));
     let second = outer_bytes(pairs / 65_536).wrapping_mul(1 + (10_000 << 32));
     first.wrapping_add(second) / (1 << 32)
+}
+
+// The same where a block has another byte among its digits. The digits before that are moved to its end, with zeros before
+// them, and read as a block.
+#[inline(always)]
+fn short_decimal(block: &[u8]) -> (u64, usize)
+    requires { length block.now ≡ 8 }
+    ensures within { result.1 ≤ length block.now }
+    ensures number { number_after 10 0 (take result.1 block.now) ≡ Some result.0 }
+    ensures ends { result.1 < length block.now → is_digit (get_or block.now result.1 0) 10 ≡ false }
+{
+    let word = block_word(block);
+    let count = digits_in(word);
+    let moved = word.wrapping_sub(ZEROS).wrapping_mul(shift_of(count));
+    let filled = moved.wrapping_add(ZEROS).to_le_bytes();
+    let next = u64::from(block[count]);
+    if !are_digits(&filled) || (ZERO <= next && next <= NINE) {
+        return few_digits(0, block);
+    }
+    (block_number(&filled), count)
+}
+
+// How many bytes of a word are digits, from the lowest on, if one of them is none. What is read of the block is looked at
+// again, so it need not be right.
+#[inline(always)]
+fn digits_in(word: u64) -> usize
+    ensures { result < 8 }
+{
+    let others = (word.wrapping_add(TO_HIGHEST) | word.wrapping_sub(ZEROS)) & HIGHEST_BITS;
+    (others.trailing_zeros() / 8 % 8) as usize
 }
 
 // The bytes of a block as a word, the first byte lowest. It has no `inline(always)`: compiled by itself it becomes one

@@ -1,7 +1,7 @@
 -- A flag among those of an ACE, and that these read back from their names.
 use Rattle.std.proofs.Common.{◌≡◌, ◌≤◌, ℕ, ◌*◌, ◌/◌, ◌%◌, ◌^◌, ◌<◌, zero, suc, Bool, true, false, List, [], ◌∷◌, length}
 use Rattle.std.proofs.Common.{Some, bit_and, arith, refl, sym, ap, ◌∙◌, subst, eqb-true, zero-mul}
-use Rattle.std.specs.Prelude.{Option, IfSome, not, ◌==◌, ◌&&◌, ◌||◌, nat_lt}
+use Rattle.std.specs.Prelude.{Option, IfSome, None, not, ◌==◌, ◌&&◌, ◌||◌, nat_lt, if◌then◌else◌}
 use Rattle.std.specs.Int.{IsPowerOfTwo, bit_at}
 use Rattle.std.specs.List.{list_all, list_any}
 use Rattle.std.proofs.lemmas.Bool.Decides.{nat_tests}
@@ -108,3 +108,11 @@ flags-clear text f e =
     (run-among 0xdf FLAGS text all_among) in
     let small : f < 256 = omega (arith, le_or_l f 0xdf, eqb-true _ 0xdf h) in
     (small, clear f h (at_below 256 clear_among f small every_clear))
+
+pub reads-clear : (text : List ℕ) (f : ℕ) → flags_reads text ≡ Some f → f / 0x20 % 2 ≡ 0
+unfolding flags_reads
+reads-clear text f e = by_size (nat_lt 183 (length text)) e
+  where
+    by_size : (b : Bool) → (if b then None else run_of FLAGS text) ≡ Some f → f / 0x20 % 2 ≡ 0
+    by_size true e = absurd cc
+    by_size false e = (flags-clear text f (sym e)).1

@@ -1,5 +1,5 @@
 -- An owner, a group or the flags of an ACL that stand whole in what comes of a line.
-use Rattle.std.specs.Prelude.{◌≡◌, ℕ, ◌≤◌, true, List, ◌∷◌, ◌++◌, length, Option, Some, Ok}
+use Rattle.std.specs.Prelude.{◌≡◌, ℕ, ◌≤◌, true, List, ◌∷◌, ◌++◌, length, Option, Some, Ok, false}
 use Rattle.std.specs.List.{list_all}
 use Rattle.std.specs.Str.{byte as char}
 use Rattle.sd_sid.specs.Account.{account_sid}
@@ -8,7 +8,9 @@ use Rattle.sd_sid.specs.SidText.{sid_reads}
 use Rattle.sd_sid.specs.declared.account.Account.{Account}
 use Rattle.sd_text.specs.Limits.{most_field}
 use Rattle.sd_sddl_builder.specs.Line.{head_of}
+use Rattle.sd_sddl_fields.specs.FieldTexts.{front_reads}
 use Rattle.sd_sddl_fields.specs.Held.{is_plain_text}
+use Rattle.sd_sddl_fields.specs.declared.field_texts.AclFront.{AclFront}
 use Rattle.sd_sddl_builder.specs.declared.slot.Head.{Head}
 
 -- the text of a field outside parentheses: no blank and no colon in it, and not too long
@@ -28,3 +30,11 @@ pub record AccountBefore (account : Account) (head : Head) (rest text : List ℕ
   pub field : List ℕ
   pub before : HeadAfter field head rest text
   pub reads : (domain : Option SecurityId) → sid_reads field domain ≡ Ok (account_sid account)
+
+-- a text that reads as the flags of an ACL that is not null, the parenthesis that ends it, and a rest
+pub record FrontBefore (front : AclFront) (rest text : List ℕ) : Type 0 where
+  pub field : List ℕ
+  pub whole : IsPlainText field
+  pub stands : text ≡ field ++ char "(" ∷ rest
+  pub reads : front_reads field ≡ Some front
+  pub list : front.null ≡ false

@@ -5,7 +5,7 @@ use Rattle.sd_text.proofs.numbers.front_decimal.Goals as goal
 
 pub returns-then-not-are_digits-clause-number : goal.returns-then-not-are_digits-clause-number
 returns-then-not-are_digits-clause-number c =
-    let read = c.few_digits-then-not-are_digits in
+    let read = c.short_decimal in
     ap (number_after 10 0) (sym (taken-again read.result.1 8 c.args.text.now read.ensures.within)) ∙ read.ensures.number
 
 pub returns-clause-number : goal.returns-clause-number
@@ -16,7 +16,7 @@ returns-clause-number c =
 
 pub returns-then-not-are_digits-clause-ends : goal.returns-then-not-are_digits-clause-ends
 returns-then-not-are_digits-clause-ends c =
-    let read = c.few_digits-then-not-are_digits in
+    let read = c.short_decimal in
     λ few within.
     ends-in-block c.args.text.now read.result.1 read.result.0 (omega arith) read.ensures.within
     (sym c.are_digits.ensures ∙ c.if-not-are_digits.true) read.ensures.number read.ensures.ends

@@ -3,7 +3,11 @@ use Rattle.sd_sddl_builder.specs.declared.slot.AceField.TheVariants as field
 use Rattle.sd_sddl_reader.specs.declared.line.State.TheVariants as state
 use Rattle.sd_sddl_reader.proofs.FitLaws.{can-take-front}
 use Rattle.sd_sddl_reader.proofs.WholeFields.{fed-on, reader-at}
-use Rattle.sd_sddl_reader.proofs.WholeParts.{steps-flags}
+use Rattle.sd_sddl_reader.proofs.WholeParts.{steps-flags, text-inside}
+use Rattle.sd_sddl_reader.specs.declared.reader.SddlReader.{SddlReader}
+use Rattle.sd_builder.specs.Draft.{closed}
+use Rattle.sd_sddl_builder.specs.FoldedReading.{begun_or_null, take_field, take_front, with_flags}
+use Rattle.sd_sddl_builder.proofs.laws.WholeTexts.{whole-readable}
 use Rattle.sd_sddl_reader.proofs.reader.SddlReader.feed_flags.Goals as goal
 
 pub take_whole-requires-clause-held : goal.take_whole-requires-clause-held
@@ -13,19 +17,55 @@ take_whole-requires-clause-held c =
     let front = may.1 c.requires.fresh.clear in
     (may.0, front.0, front.1)
 
+pub put_front-requires : goal.put_front-requires
+put_front-requires c =
+    let reader = c.requires.reader in
+    let may = can-take-front c.args.self.now c.args.buf.now c.args.which true c.requires.here (reader.read, reader.held) in
+    let front = may.1 c.requires.fresh.clear in
+    (may.0, front.0, front.1)
+
 pub returns-in-Some : goal.returns-in-Some
+unfolding take_field take_front
 returns-in-Some c =
-    let taken = c.take_whole.ensures in
-    let over = steps-flags c.args.self.now c.take_whole.new.self c.args.buf.now c.take_whole.new.buf c.in-Some.field.now
-    c.in-Some.rest.now c.args.text.now c.args.which c.requires.here c.requires.fresh c.in-Some.ensures.found.0
-    c.in-Some.ensures.found.1 (record { read = taken.read; domain = taken.domain; same = taken.same }) in
-    let n = record c.take_whole.new.self { state = state.Ace field.Kind } in
+    let s = c.args.self.now in
+    let at = c.in-Some.ensures in
+    let front = c.in-Some.front in
+    let taken : SddlReader = record s { fields = c.put_front.new.self } in
+    let readable = whole-readable at.field (text-inside at.field at.whole.plain) at.whole.fits in
+    let over = steps-flags s taken c.args.buf.now c.put_front.new.buf at.field c.in-Some.rest.now c.args.text.now
+    c.args.which c.requires.here c.requires.fresh at.whole at.stands
+    (record {
+      read = λ t k. (
+        with_flags c.args.which front.flags (record t { parts = begun_or_null c.args.which front.null (closed t.parts) }),
+        λ none. c.put_front.ensures.held t k,
+        rw (c.requires.fresh.clear, readable, at.reads, at.list) refl,
+      );
+      domain = c.put_front.ensures.domain;
+      same = refl;
+    }) in
+    let n = record taken { state = state.Ace field.Kind } in
     let e = over.steps c.requires.reader.read c.requires.reader.held in
     record {
       shorter = omega (arith, ap length over.stands, length-append over.bytes c.in-Some.rest.now);
+      reader = reader-at n c.put_front.new.buf over.field over.pending e.0 e.1;
+      read = λ domain before h.
+          fed-on s n c.args.buf.now c.put_front.new.buf domain over.bytes c.in-Some.rest.now c.args.text.now
+          (before ++ c.args.text.now) c.requires.fresh.none over.pending over.steps over.stands (before, h, refl);
+    }
+
+pub returns-in-Some-first_parenthesis : goal.returns-in-Some-first_parenthesis
+returns-in-Some-first_parenthesis c =
+    let taken = c.take_whole.ensures in
+    let over = steps-flags c.args.self.now c.take_whole.new.self c.args.buf.now c.take_whole.new.buf c.in-Some-first_parenthesis.field.now
+    c.in-Some-first_parenthesis.rest.now c.args.text.now c.args.which c.requires.here c.requires.fresh c.in-Some-first_parenthesis.ensures.found.0
+    c.in-Some-first_parenthesis.ensures.found.1 (record { read = taken.read; domain = taken.domain; same = taken.same }) in
+    let n = record c.take_whole.new.self { state = state.Ace field.Kind } in
+    let e = over.steps c.requires.reader.read c.requires.reader.held in
+    record {
+      shorter = omega (arith, ap length over.stands, length-append over.bytes c.in-Some-first_parenthesis.rest.now);
       reader = reader-at n c.take_whole.new.buf over.field over.pending e.0 e.1;
       read = λ domain before h.
-          fed-on c.args.self.now n c.args.buf.now c.take_whole.new.buf domain over.bytes c.in-Some.rest.now
+          fed-on c.args.self.now n c.args.buf.now c.take_whole.new.buf domain over.bytes c.in-Some-first_parenthesis.rest.now
           c.args.text.now (before ++ c.args.text.now) c.requires.fresh.none over.pending over.steps over.stands
           (before, h, refl);
     }
