@@ -42,6 +42,8 @@ impl LineReader {
         match (&mut *self, job.line_form) {
             (LineReader::Hex(reader), Form::Hex) => *reader = HexReader::new(read),
             (LineReader::Sddl(reader), Form::Sddl) => reader.restart(job.domain, read),
+            // Nothing is moved: a reader of any form has the size of the largest.
+            (LineReader::Base64, Form::Base64) => {}
             _ => *self = LineReader::new(job, read),
         }
     }
