@@ -52,6 +52,7 @@ ROW = re.compile(r"([\d,]+)  (.+)")
 
 
 ACCOUNT = f"{make_inputs.DOMAIN_TEXT}-1105"
+OTHER_ACCOUNT = f"S-1-{'-'.join(map(str, make_inputs.OTHER_DOMAIN))}-1106"
 TO_HEX = ["convert", "--from", "sddl", "--to", "hex"]
 # A descriptor whose DACL has eight ACEs for the group Users, each as a layout has it.
 HEADS = "0100048000000000000000000000000014000000" + "0200c80008000000"
@@ -70,11 +71,14 @@ PATHS = {
     "owner, group and flags of both ACLs": (TO_HEX, "O:BAG:SYD:PARAIS:PARAI"),
     "an ACE for an account": aces(f"(A;OICIID;0x1301bf;;;{ACCOUNT})"),
     "ACEs for accounts of many domains": aces("(A;;FA;;;S-1-5-21-11-22-33-1001)(A;;FA;;;S-1-5-21-44-55-66-1002)"),
+    "ACEs for accounts of two domains in turn": aces(f"(A;;FA;;;{ACCOUNT})(A;;FA;;;{OTHER_ACCOUNT})"),
     "an ACE with names": aces("(D;OICINPIO;CCDCLCSWRPWPDTLOCRSDRCWDWO;;;BU)"),
     **{f"an ACE of kind {kind}": aces(f"({kind};;FA;;;BU)") for kind in ("A", "D", "AU", "OA", "OD", "OU", "ML")},
     **{f"an ACE with flags {flags}": aces(f"(A;{flags};FA;;;BU)")
-       for flags in ("ID", "OICI", "CIID", "OICIID", "OICIIO", "OICIIOID", "SAFA")},
-    **{f"an ACE with rights {rights}": aces(f"(A;;{rights};;;BU)") for rights in ("FA", "GRGX", "0x1301bf", "0x3", "")},
+       for flags in ("ID", "OICI", "CIID", "OICIID", "OICIIO", "OICIIOID", "SAFA", "OICIIDSA")},
+    **{f"an ACE with rights {rights}": aces(f"(A;;{rights};;;BU)")
+       for rights in ("FA", "GRGX", "0x1301bf", "0x1200a8", "0x3", "")},
+    "an ACL with flags PAI": (TO_HEX, "D:PAI(A;;FA;;;BU)"),
     "an ACE with one GUID": aces(f"(OA;CI;RPWP;{GUID};;AU)"),
     "an ACE with an inherited GUID": aces(f"(OA;CIIO;RPWP;;{GUID};AU)"),
     "an ACE with two GUIDs": aces(f"(OA;CI;RPWP;{GUID};{GUID};AU)"),
