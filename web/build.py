@@ -157,7 +157,7 @@ def policy(script, style):
 
 
 def reduced(module):
-    """The module with what the page calls, and no more, in functions that share locals."""
+    """The module with what the page calls, and no more, in functions that share locals and set none in vain."""
     names = [name for name in CALLED if name.encode() in module]
     graph = [{"name": "page", "root": True, "reaches": names}, *({"name": name, "export": name} for name in names)]
     with tempfile.TemporaryDirectory() as name:
@@ -166,7 +166,8 @@ def reduced(module):
         (folder / "module.wasm").write_bytes(module)
         words = ["wasm-metadce", *FEATURES, "module.wasm", "--graph-file=graph.json", "-o", "reduced.wasm"]
         subprocess.run(words, cwd=folder, check=True, stdout=subprocess.DEVNULL)
-        words = ["wasm-opt", *FEATURES, "--coalesce-locals", "--reorder-locals", "reduced.wasm", "-o", "packed.wasm"]
+        passes = ["--rse", "--vacuum", "--coalesce-locals", "--reorder-locals"]
+        words = ["wasm-opt", *FEATURES, *passes, "reduced.wasm", "-o", "packed.wasm"]
         subprocess.run(words, cwd=folder, check=True)
         return (folder / "packed.wasm").read_bytes()
 
