@@ -63,8 +63,8 @@ def aces(text):
     return TO_HEX, "D:" + text * 8
 
 
-# Lines for the fast paths: what is asked, and a line. Where a path is never taken, its row takes more. So each kind, text of
-# flags and form of a mask that is read in place has a row of its own.
+# Lines for the fast paths: what is asked, and a line. Where a path is never taken, its row takes more. So each kind and each
+# form of a mask that is read in place has a row of its own, and so have some texts of flags and some that no table has.
 PATHS = {
     "an owner and a group": (TO_HEX, f"O:{ACCOUNT}G:{ACCOUNT}"),
     "an owner and a group of other domains": (TO_HEX, "O:S-1-5-21-11-22-33-1001G:S-1-5-21-44-55-66-1002"),

@@ -1,11 +1,11 @@
 #!/usr/bin/env python3
 """usual_texts.py [--check | --find]
 
-Writes the tables of usual texts: crates/sd_kinds/src/flag_texts.rt and crates/sd_rights/src/mask_texts.rt, by the
-constant SPREAD of crates/sd_text/src/usual.rt, which says which row a text has. A row that no text has repeats one.
+Writes the tables of usual texts: crates/sd_kinds/src/flag_texts.rt and crates/sd_rights/src/mask_texts.rt. The constant
+SPREAD of crates/sd_text/src/usual.rt gives each text its row. A row without a text of its own repeats the first text.
 With --check it writes nothing, and fails if one of the files is stale; the last line is then 'N passed, M failed'.
-With --find it looks for a SPREAD that gives no two texts of a table one row, which is needed where a text is added.
-What the files say is proved all the same: a wrong row fails the check of its crate.
+With --find it prints a SPREAD that gives no two texts of a table one row. A text that is added may need another one.
+The check of a crate refuses a row whose value is not that of its text. A text in a wrong row is only never found.
 """
 import argparse
 import functools
@@ -25,11 +25,11 @@ SPREAD = re.compile(r"^const SPREAD: u64 = (0x[0-9a-f_]+);$", re.M)
 ROWS = 64
 WORD = 1 << 64
 LONG = 11  # of a cell with its comma
-# Whose children inherit, whether the object itself doesn't have it, and whether it was inherited; what is audited.
+# At most eight bytes each: which children inherit, with inherit-only, inherited or no-propagate, and what is audited.
 FLAGS = ["", "ID",
          *(onward + rest for onward in ("OI", "CI", "OICI") for rest in ("", "IO", "ID", "IOID", "NP")),
          *(onward + audited for onward in ("", "CI", "OICI") for audited in ("SA", "FA", "SAFA"))]
-# As Windows prints them for files, keys, services and objects of a directory.
+# At most eight bytes each, as Windows prints them for files, keys, services and objects of a directory.
 MASKS = ["FA", "FR", "FW", "FX", "GA", "GR", "GW", "GX", "GXGR", "GRGX", "KA", "KR", "RP", "WP", "RPWP", "CR", "SW", "CC",
          "DC", "CCDC", "LC", "RC", "SD", "WD", "LCRPLORC", "RPLCLORC", "NW",
          "0x1f01ff", "0x1301bf", "0x1200a9", "0x1200a0", "0x100116", "0x120116"]
