@@ -3,7 +3,11 @@ use Rattle.std.proofs.Common.{◌≡◌, ℕ, List, [], ◌∷◌, ◌++◌, Boo
 use Rattle.std.proofs.Common.{rules, append-nil, append_assoc, suc, length, get_or, take, drop, ◌<◌, ◌≤◌, ◌+◌, ◌-◌, inl}
 use Rattle.std.proofs.Common.{inr, arith}
 use Rattle.std.proofs.lemmas.List.{map_push, get_or-take, get_or-drop, length-take-le, length-drop}
+use Rattle.std.specs.Prelude.{not}
+use Rattle.std.specs.List.{prefix_len}
 use Rattle.std.proofs.lemmas.Bool.{cases_lt}
+use Rattle.std.proofs.lemmas.Bool.Decides.{nat_tests}
+use Rattle.std.proofs.lemmas.List.Sums.{prefix_len_passes, prefix_len_stops}
 use Rattle.std.proofs.lemmas.List.Elements.{All-from_get_or}
 use Rattle.std.proofs.lemmas.List.Folds.{list_any_at, list_any_none}
 use Rattle.sd_run.specs.Lines.{IsCut, LinesAreCut, LineCut, cut_at_line_feeds, onto_first_line, ended, has_lf}
@@ -165,3 +169,25 @@ NoLfBelow-more bytes start m n le before after k low e = elim (cases_lt k start)
       (get_or-take m (drop start bytes) (k - start) 0 shorter ∙ get_or-drop start bytes (k - start) 0
       ∙ ap (λ (i : ℕ). get_or bytes i 0) place ∙ e)
 ]
+
+-- how many bytes stand before the first LF
+abbrev pub before_lf : List ℕ → ℕ
+before_lf bytes = prefix_len (λ (b : ℕ). not (b == 10)) bytes
+
+pub none-before : (bytes : List ℕ) → NoLfBelow bytes (before_lf bytes)
+none-before bytes k low e =
+    let p : not (get_or bytes k 0 == 10) ≡ true = prefix_len_passes (λ (b : ℕ). not (b == 10)) bytes k 0 low in
+    let no : false ≡ true = rw e at p in
+    absurd cc
+
+is-lf : (b : ℕ) → not (b == 10) ≡ false → b ≡ 10
+is-lf b e = grind (arith, nat_tests)
+
+pub lf-there : (bytes : List ℕ) (k : ℕ) → k < length bytes → get_or bytes k 0 ≡ 10
+    → (before_lf bytes < length bytes) × (get_or bytes (before_lf bytes) 0 ≡ 10)
+lf-there bytes k within e =
+    let low : before_lf bytes < length bytes = elim (cases_lt k (before_lf bytes)) [
+      | inl h ↦ absurd (none-before bytes k h e)
+      | inr h ↦ omega (arith, h, within)
+    ] in
+    (low, is-lf (get_or bytes (before_lf bytes) 0) (prefix_len_stops (λ (b : ℕ). not (b == 10)) bytes 0 low))

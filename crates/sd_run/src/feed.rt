@@ -1,7 +1,8 @@
 //! Splits the input at LFs and answers each line.
 
 ghost use Rattle.std.specs.Prelude.{◌≡◌, ◌+◌, ◌<◌, ◌≤◌, ℕ, List, ◌++◌, [], ◌∷◌, length, ◌≢◌, slice_index, MatchResult, IfOk};
-ghost use Rattle.std.specs.Prelude.{IsOk, Ok, false, true, drop, take, unwrap_or, IfSome, SomeIndex};
+ghost use Rattle.std.specs.Prelude.{IsOk, Ok, false, true, not, ◌==◌, drop, take, unwrap_or, IfSome, SomeIndex};
+ghost use Rattle.std.specs.List.{prefix_len};
 ghost use Rattle.sd_sink.specs.Sink.{SinkTold};
 ghost use Rattle.sd_token.specs.Token.{Compares, TokenShown};
 ghost use Rattle.sd_answer.specs.Answer.{answer, bound, is_error};
@@ -17,11 +18,10 @@ use crate::sink::DrainSink;
 use sd_answer::{Line, Stores, Task, put_answer};
 use sd_sink::SinkFault;
 use sd_token::Token;
+use std::simd::prelude::*;
 
-/// The bytes that are searched for an LF at once: many, and few where the line may end.
-const MANY: usize = 128;
-
-const FEW: usize = 16;
+/// The bytes that are searched for an LF at once.
+const BLOCK: usize = 64;
 
 // Answers the line in hand, counts it, and begins the next.
 fn answer_line<W: Drain>(
@@ -103,36 +103,45 @@ pub fn feed_all<W: Drain>(
     Ok(start > 0)
 }
 
-/// The place of the first LF. Whole blocks without one are passed over, each in a few instructions.
+/// The place of the first LF. Whole blocks without one are passed over, each in a few instructions, and the one that has
+/// it is searched without a branch.
 pub fn line_end(bytes: &[u8]) -> Option<usize>
     ensures found { IfSome result (λ n. (n < length bytes.now) × (slice_index bytes.now n ≡ line_feed)) }
     ensures before { (k : ℕ) → k < unwrap_or result (length bytes.now) → slice_index bytes.now k ≢ line_feed }
 {
-    let passed = pass_blocks(bytes, 0, MANY);
-    let start = pass_blocks(bytes, passed, FEW);
+    let start = pass_blocks(bytes);
+    if bytes.len() - start >= BLOCK {
+        return Some(start + before_lf(&bytes[start..start + BLOCK]));
+    }
     match first_lf(&bytes[start..]) {
         Some(n) => Some(start + n),
         None => None,
     }
 }
 
-// Passes over whole blocks of a size that have no LF, from a place on before which there is none, up to one that has
-// one.
+// How many bytes at the front stand in whole blocks that have no LF, up to a block that has one.
 #[inline(always)]
-fn pass_blocks(bytes: &[u8], from: usize, size: usize) -> usize
-    requires size { 0 < size }
-    requires from { from ≤ length bytes.now }
-    requires none { (k : ℕ) → k < from → slice_index bytes.now k ≢ line_feed }
+fn pass_blocks(bytes: &[u8]) -> usize
     ensures within { result ≤ length bytes.now }
     ensures before { (k : ℕ) → k < result → slice_index bytes.now k ≢ line_feed }
-    ensures ended { result + size ≤ length bytes.now
-        → SomeIndex (take size (drop result bytes.now)) (λ k. slice_index (take size (drop result bytes.now)) k ≡ line_feed) }
+    ensures ended { result + 64 ≤ length bytes.now
+        → SomeIndex (take 64 (drop result bytes.now)) (λ k. slice_index (take 64 (drop result bytes.now)) k ≡ line_feed) }
 {
-    let mut start = from;
-    while bytes.len() - start >= size && !has_lf(&bytes[start..start + size]) {
-        start += size;
+    let mut start = 0;
+    while bytes.len() - start >= BLOCK && !has_lf(&bytes[start..start + BLOCK]) {
+        start += BLOCK;
     }
     start
+}
+
+// How many bytes of a block stand before its first LF, or all where it has none.
+#[inline(always)]
+fn before_lf(block: &[u8]) -> usize
+    requires { length block.now ≡ 64 }
+    ensures { result ≡ prefix_len (λ b. not (b == line_feed)) block.now }
+{
+    let lfs = u8x64::from_slice(block).simd_eq(u8x64::splat(b'\n'));
+    lfs.to_bitmask().trailing_zeros() as usize
 }
 
 fn first_lf(bytes: &[u8]) -> Option<usize>
