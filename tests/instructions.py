@@ -53,6 +53,9 @@ ROW = re.compile(r"([\d,]+)  (.+)")
 
 ACCOUNT = f"{make_inputs.DOMAIN_TEXT}-1105"
 OTHER_ACCOUNT = f"S-1-{'-'.join(map(str, make_inputs.OTHER_DOMAIN))}-1106"
+# Of another domain whose first number is the same, so that both domains have one place among those that are kept.
+NEXT_ACCOUNT = f"{make_inputs.DOMAIN_TEXT[:-1]}{(int(make_inputs.DOMAIN_TEXT[-1]) + 1) % 10}-1106"
+DOMAINS = [f"S-1-5-21-{1_000_000_007 + 271_828_183 * i}-2695158682-2101375467" for i in range(12)]
 TO_HEX = ["convert", "--from", "sddl", "--to", "hex"]
 # A descriptor whose DACL has eight ACEs for the group Users, each as a layout has it.
 HEADS = "0100048000000000000000000000000014000000" + "0200c80008000000"
@@ -72,6 +75,8 @@ PATHS = {
     "an ACE for an account": aces(f"(A;OICIID;0x1301bf;;;{ACCOUNT})"),
     "ACEs for accounts of many domains": aces("(A;;FA;;;S-1-5-21-11-22-33-1001)(A;;FA;;;S-1-5-21-44-55-66-1002)"),
     "ACEs for accounts of two domains in turn": aces(f"(A;;FA;;;{ACCOUNT})(A;;FA;;;{OTHER_ACCOUNT})"),
+    "ACEs for accounts of two domains of one place": aces(f"(A;;FA;;;{ACCOUNT})(A;;FA;;;{NEXT_ACCOUNT})"),
+    "ACEs for accounts of twelve domains": (TO_HEX, "D:" + "".join(f"(A;;FA;;;{domain}-1105)" for domain in DOMAINS)),
     "an ACE with names": aces("(D;OICINPIO;CCDCLCSWRPWPDTLOCRSDRCWDWO;;;BU)"),
     **{f"an ACE of kind {kind}": aces(f"({kind};;FA;;;BU)") for kind in ("A", "D", "AU", "OA", "OD", "OU", "ML")},
     **{f"an ACE with flags {flags}": aces(f"(A;{flags};FA;;;BU)")

@@ -43,7 +43,7 @@ pub static {name}_KEYS: [u64; USUAL_ROWS] = [
 {keys}
 ];
 
-/// The bytes of each text.
+/// The size of each text in bytes.
 pub static {name}_SIZES: [u8; USUAL_ROWS] = [
 {sizes}
 ];

@@ -6,7 +6,8 @@ file LIBRARY (sdtool.mjs) and the file MODULE (sdtool.wasm), compressed and in b
 most line ends and the blanks of the style, and changes nothing else but how a module gets what another exports: each becomes
 a function that is called once, in the order in which a browser would. The script is no module, since browsers refuse modules
 in workers of a page from a disk; so it has no import.meta. What the page never calls is left out: of the module by binaryen's
-wasm-metadce, of the library by name. Then binaryen's wasm-opt lets the module's functions share locals. The page's policy
+wasm-metadce, of the library by name. Then binaryen's wasm-opt lets the module's functions share locals, and takes out what sets a local in
+vain. The page's policy
 allows this script and this style alone, by their hashes.
 """
 import argparse

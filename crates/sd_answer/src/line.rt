@@ -42,10 +42,21 @@ impl LineReader {
         match (&mut *self, job.line_form) {
             (LineReader::Hex(reader), Form::Hex) => *reader = HexReader::new(read),
             (LineReader::Sddl(reader), Form::Sddl) => reader.restart(job.domain, read),
-            // Nothing is moved: a reader of any form has the size of the largest.
+            // To assign a reader would copy as many bytes as the largest form has.
             (LineReader::Base64, Form::Base64) => {}
-            _ => *self = LineReader::new(job, read),
+            _ => self.replace(job, read),
         }
+    }
+
+    // The same where the line before was of another form. Apart, so that the way of most lines is short.
+    #[cold]
+    #[inline(never)]
+    fn replace(&mut self, job: &Job, read: &mut SdBuf)
+        ensures form { form_of self.new ≡ job.now.line_form }
+        ensures ready { CanRead self.new read.new }
+        ensures read { HasRead self.new read.new [] job.now.domain [] }
+    {
+        *self = LineReader::new(job, read);
     }
 
     // The bytes that a line may have.

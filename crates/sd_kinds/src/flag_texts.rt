@@ -70,7 +70,7 @@ pub static USUAL_FLAG_KEYS: [u64; USUAL_ROWS] = [
     0x0,
 ];
 
-/// The bytes of each text.
+/// The size of each text in bytes.
 pub static USUAL_FLAG_SIZES: [u8; USUAL_ROWS] = [
     0, 2, 0, 0, 0, 0, 0, 6, 0, 2, 0, 0, 2, 0, 0, 6, 6, 0, 0, 0, 0, 0, 6, 0, 0, 0, 4, 0, 0, 2, 0, 0,
     0, 6, 4, 8, 0, 6, 6, 8, 0, 6, 4, 4, 0, 0, 0, 0, 0, 4, 2, 0, 0, 0, 0, 4, 0, 4, 0, 0, 4, 4, 4, 0,

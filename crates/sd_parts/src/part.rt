@@ -83,7 +83,7 @@ impl<T: Copy> Parts<T> {
     }
 
     /// Replaces the value for a part. Each field is set by itself, since which of four places a jump goes to is hard to
-    /// guess.
+    /// predict.
     #[inline(always)]
     pub fn set(&mut self, part: Part, value: T)
         ensures { self.new ≡ set_part part value self.old }

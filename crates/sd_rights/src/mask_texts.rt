@@ -70,7 +70,7 @@ pub static USUAL_MASK_KEYS: [u64; USUAL_ROWS] = [
     0x4146000000000000,
 ];
 
-/// The bytes of each text.
+/// The size of each text in bytes.
 pub static USUAL_MASK_SIZES: [u8; USUAL_ROWS] = [
     2, 2, 2, 2, 2, 2, 2, 2, 2, 2, 2, 2, 2, 2, 2, 2, 2, 2, 8, 8, 2, 2, 2, 2, 2, 2, 2, 2, 2, 2, 8, 8,
     2, 2, 8, 2, 2, 2, 2, 2, 2, 4, 2, 2, 2, 8, 2, 2, 8, 4, 2, 2, 2, 2, 2, 8, 4, 4, 2, 2, 2, 2, 2, 2,

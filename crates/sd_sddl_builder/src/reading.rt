@@ -368,8 +368,7 @@ impl FieldReader {
     }
 
     // The same for a kind that has no object types. The numbers of the account are not kept in a SID on their way.
-    // Apart, so that ACEs with other SIDs keep their registers.
-    #[inline(never)]
+    #[inline(always)]
     fn append_account<'a>(
         &mut self,
         buf: &mut SdBuf,

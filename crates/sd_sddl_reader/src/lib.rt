@@ -3,6 +3,7 @@
 
 mod line;
 mod reader;
+mod whole;
 
 pub use reader::{SddlReader, read_sddl};
 pub use sd_sddl_builder::SddlFault;

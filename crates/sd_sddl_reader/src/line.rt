@@ -33,7 +33,8 @@ pub enum State {
     Ace(AceField),
 }
 
-/// What a letter announces, in either case. It is read from a table: which of five places a jump goes to is hard to guess.
+/// What a letter announces, in either case. It is read from a table: which of five places a jump goes to is hard to
+/// predict.
 #[inline(always)]
 pub fn head_of(byte: u8) -> Option<Head>
     ensures { result ≡ head_of byte }

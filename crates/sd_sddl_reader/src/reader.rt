@@ -16,12 +16,9 @@ ghost use Rattle.sd_sddl_builder.specs.FieldReading.{CanTake, HasReadFields};
 ghost use Rattle.sd_sddl_reader.specs.Inner.WholePart.{IsPlainText};
 ghost use Rattle.sd_sddl_reader.specs.Inner.Progress.{ended_with, is_inside, is_seen, state_of, with_head};
 
-use crate::line::{
-    State, first_parenthesis, front_head, head_of, next_account, next_field, next_head,
-    plain_outside, state_of, usual_front,
-};
+use crate::line::{State, head_of, next_field, plain_outside, state_of};
 use sd_buffer::SdBuf;
-use sd_parts::{Parts, SidPart, Which};
+use sd_parts::Parts;
 use sd_sddl_builder::{AceField, FieldReader, Head, SddlFault, Slot, fault_of};
 use sd_sddl_fields::{FieldText, is_blank, plain_inside};
 use sd_sid::Sid;
@@ -38,18 +35,18 @@ use sd_sid::Sid;
 /// ```
 #[derive(Drop)]
 pub struct SddlReader {
-    state: State,
+    pub(crate) state: State,
     // A letter that is a head if a colon comes next.
-    pending: Option<u8>,
+    pub(crate) pending: Option<u8>,
     sound: bool,
     twice: bool,
     // The heads that stood in the line so far.
     seen: Parts<bool>,
     // The text of the field at hand.
-    field: FieldText,
+    pub(crate) field: FieldText,
     // The first field that did not read.
-    fault: Option<SddlFault>,
-    fields: FieldReader,
+    pub(crate) fault: Option<SddlFault>,
+    pub(crate) fields: FieldReader,
 }
 
 impl SddlReader {
@@ -187,8 +184,8 @@ impl SddlReader {
         }
     }
 
-    // A head, of a letter that waited and its colon.
-    fn begin_part(&mut self, buf: &mut SdBuf, letter: u8, head: Head)
+    /// A head, of a letter that waited and its colon.
+    pub(crate) fn begin_part(&mut self, buf: &mut SdBuf, letter: u8, head: Head)
         requires here { is_inside self.old.state ≡ false }
         requires ready { CanStep self.old buf.old }
         requires letter { head_named letter ≡ Some head }
@@ -198,8 +195,9 @@ impl SddlReader {
         self.note_head(head);
     }
 
-    // Notes a head. After a second head with the same letter, the reader only checks the shape and builds nothing more.
-    fn note_head(&mut self, head: Head)
+    /// Notes a head. After a second head with the same letter, the reader only checks the shape and builds nothing
+    /// more.
+    pub(crate) fn note_head(&mut self, head: Head)
         ensures state { self.new.state ≡ state_of head }
         ensures twice { self.new.twice ≡ (self.old.twice || is_seen self.old.seen head) }
         ensures seen { self.new.seen ≡ with_head self.old.seen head }
@@ -361,8 +359,9 @@ impl SddlReader {
         self.feed_front(buf, left)
     }
 
-    // Takes the first byte of the text, and after it those that belong to the current field. Answers what follows them.
-    fn feed_front<'a>(&mut self, buf: &mut SdBuf, text: &'a [u8]) -> &'a [u8]
+    /// Takes the first byte of the text, and after it those that belong to the current field. Answers what follows
+    /// them.
+    pub(crate) fn feed_front<'a>(&mut self, buf: &mut SdBuf, text: &'a [u8]) -> &'a [u8]
         requires { IsReader self.old buf.old }
         ensures shorter { length result.now ≤ length text.now - 1 }
         ensures fed { Feeds self.old buf.old text.now self.new buf.new result.now }
@@ -373,264 +372,6 @@ impl SddlReader {
         self.feed(buf, *byte);
         let run = self.feed_run(after);
         &after[run..]
-    }
-
-    // Whether the field at hand has no byte yet, no byte waits, and all fields so far read.
-    fn is_fresh(&self) -> bool
-        ensures { result ≡ true → IsFresh self.now }
-    {
-        self.pending.is_none() && self.fault.is_none() && self.field.is_empty()
-    }
-
-    // Takes what is whole at the front of the text, and answers what follows it. Most lines have an owner and a group, then
-    // an ACL, so each is tried in turn: a `match` over the states became a jump through a table, which is hard to guess.
-    // Where a field is not whole, its first byte is taken, so that it isn't tried again.
-    fn feed_whole<'a>(&mut self, buf: &mut SdBuf, text: &'a [u8]) -> &'a [u8]
-        requires { IsReader self.old buf.old }
-        ensures { Feeds self.old buf.old text.now self.new buf.new result.now }
-    {
-        let rest = self.whole_head(buf, text);
-        let rest = self.whole_sids(buf, rest);
-        let rest = self.whole_flags(buf, rest);
-        self.whole_aces(buf, rest)
-    }
-
-    // Takes a head, outside of a part.
-    #[inline(always)]
-    fn whole_head<'a>(&mut self, buf: &mut SdBuf, text: &'a [u8]) -> &'a [u8]
-        requires { IsReader self.old buf.old }
-        ensures { Feeds self.old buf.old text.now self.new buf.new result.now }
-    {
-        if !self.is_fresh() {
-            return text;
-        }
-        match self.state {
-            State::Before | State::AfterAce => self.feed_head(buf, text),
-            _ => text,
-        }
-    }
-
-    // Takes an owner and a group with the head after each.
-    #[inline(always)]
-    fn whole_sids<'a>(&mut self, buf: &mut SdBuf, text: &'a [u8]) -> &'a [u8]
-        requires { IsReader self.old buf.old }
-        ensures { Feeds self.old buf.old text.now self.new buf.new result.now }
-    {
-        let rest = self.whole_sid(buf, text);
-        self.whole_sid(buf, rest)
-    }
-
-    // Takes an owner or a group with the next head, after its own.
-    #[inline(always)]
-    fn whole_sid<'a>(&mut self, buf: &mut SdBuf, text: &'a [u8]) -> &'a [u8]
-        requires { IsReader self.old buf.old }
-        ensures { Feeds self.old buf.old text.now self.new buf.new result.now }
-    {
-        if !self.is_fresh() {
-            return text;
-        }
-        match self.state {
-            State::Sid(part) => {
-                let rest = self.feed_sid(buf, part, text);
-                self.feed_unless_fed(buf, text, rest)
-            }
-            _ => text,
-        }
-    }
-
-    // Takes the first byte of what is left of a text, if nothing was taken of it.
-    #[inline(always)]
-    fn feed_unless_fed<'a>(&mut self, buf: &mut SdBuf, text: &[u8], rest: &'a [u8]) -> &'a [u8]
-        requires { IsReader self.old buf.old }
-        ensures { Feeds self.old buf.old rest.now self.new buf.new result.now }
-    {
-        if rest.len() < text.len() {
-            return rest;
-        }
-        self.feed_front(buf, rest)
-    }
-
-    // Takes the flags of an ACL with its first parenthesis, after its head.
-    #[inline(always)]
-    fn whole_flags<'a>(&mut self, buf: &mut SdBuf, text: &'a [u8]) -> &'a [u8]
-        requires { IsReader self.old buf.old }
-        ensures { Feeds self.old buf.old text.now self.new buf.new result.now }
-    {
-        if !self.is_fresh() {
-            return text;
-        }
-        match self.state {
-            State::AclFlags(which) => {
-                let rest = self.feed_flags(buf, which, text);
-                self.feed_unless_fed(buf, text, rest)
-            }
-            _ => text,
-        }
-    }
-
-    // Takes ACEs, behind a parenthesis.
-    #[inline(always)]
-    fn whole_aces<'a>(&mut self, buf: &mut SdBuf, text: &'a [u8]) -> &'a [u8]
-        requires { IsReader self.old buf.old }
-        ensures { Feeds self.old buf.old text.now self.new buf.new result.now }
-    {
-        if !self.is_fresh() {
-            return text;
-        }
-        match self.state {
-            State::Ace(AceField::Kind) => {
-                let rest = self.feed_aces(buf, text);
-                self.feed_unless_fed(buf, text, rest)
-            }
-            _ => text,
-        }
-    }
-
-    // Takes a head.
-    fn feed_head<'a>(&mut self, buf: &mut SdBuf, text: &'a [u8]) -> &'a [u8]
-        requires here { is_inside self.old.state ≡ false }
-        requires fresh { IsFresh self.old }
-        requires reader { IsReader self.old buf.old }
-        ensures { Feeds self.old buf.old text.now self.new buf.new result.now }
-    {
-        match front_head(text) {
-            Some((letter, head, rest)) => {
-                self.begin_part(buf, letter, head);
-                rest
-            }
-            None => text,
-        }
-    }
-
-    // Takes an owner or a group that is whole in the text, and the head that ends it.
-    fn feed_sid<'a>(&mut self, buf: &mut SdBuf, part: SidPart, text: &'a [u8]) -> &'a [u8]
-        requires here { self.old.state ≡ State.Sid part }
-        requires fresh { IsFresh self.old }
-        requires reader { IsReader self.old buf.old }
-        ensures { Feeds self.old buf.old text.now self.new buf.new result.now }
-    {
-        if let Some(rest) = self.feed_account(buf, part, text) {
-            return rest;
-        }
-        self.feed_other_sid(buf, part, text)
-    }
-
-    // The same for an account of a domain. If no such SID is whole in the text, nothing changes.
-    #[inline(always)]
-    fn feed_account<'a>(
-        &mut self,
-        buf: &mut SdBuf,
-        part: SidPart,
-        text: &'a [u8],
-    ) -> Option<&'a [u8]>
-        requires here { self.old.state ≡ State.Sid part }
-        requires fresh { IsFresh self.old }
-        requires reader { IsReader self.old buf.old }
-        ensures { MatchOption result ((self.new ≡ self.old) × (buf.new ≡ buf.old))
-            (λ rest. Feeds self.old buf.old text.now self.new buf.new rest.now) }
-    {
-        // A name such as BA has a letter where the text of an account has its first dash.
-        if text.len() < 2 || text[1] != b'-' {
-            return None;
-        }
-        let rest = self.put_account(buf, part, text)?;
-        Some(rest)
-    }
-
-    // The same. Apart, so that other SIDs keep their registers.
-    #[inline(never)]
-    fn put_account<'a>(
-        &mut self,
-        buf: &mut SdBuf,
-        part: SidPart,
-        text: &'a [u8],
-    ) -> Option<&'a [u8]>
-        requires here { self.old.state ≡ State.Sid part }
-        requires fresh { IsFresh self.old }
-        requires reader { IsReader self.old buf.old }
-        ensures { MatchOption result ((self.new ≡ self.old) × (buf.new ≡ buf.old))
-            (λ rest. Feeds self.old buf.old text.now self.new buf.new rest.now) }
-    {
-        let (account, head, rest) = next_account(text, &self.fields.kept)?;
-        self.fields.put_sid(buf, part, &account.sid());
-        self.note_head(head);
-        Some(rest)
-    }
-
-    // The same for any SID.
-    fn feed_other_sid<'a>(&mut self, buf: &mut SdBuf, part: SidPart, text: &'a [u8]) -> &'a [u8]
-        requires here { self.old.state ≡ State.Sid part }
-        requires fresh { IsFresh self.old }
-        requires reader { IsReader self.old buf.old }
-        ensures { Feeds self.old buf.old text.now self.new buf.new result.now }
-    {
-        match next_head(text) {
-            Some((field, head, rest)) => {
-                self.take_whole(buf, Slot::Sid(part), field);
-                self.note_head(head);
-                rest
-            }
-            None => text,
-        }
-    }
-
-    // Takes the flags of an ACL that are whole in the text, and the parenthesis of its first ACE.
-    fn feed_flags<'a>(&mut self, buf: &mut SdBuf, which: Which, text: &'a [u8]) -> &'a [u8]
-        requires here { self.old.state ≡ State.AclFlags which }
-        requires fresh { IsFresh self.old }
-        requires reader { IsReader self.old buf.old }
-        ensures { Feeds self.old buf.old text.now self.new buf.new result.now }
-    {
-        if let Some((front, rest)) = usual_front(text) {
-            self.fields.put_front(buf, which, front);
-            self.state = State::Ace(AceField::Kind);
-            return rest;
-        }
-        match first_parenthesis(text) {
-            Some((field, rest)) => {
-                self.take_whole(buf, Slot::AclFlags(which, true), field);
-                self.state = State::Ace(AceField::Kind);
-                rest
-            }
-            None => text,
-        }
-    }
-
-    // Reads a field that is whole in a text.
-    #[inline(always)]
-    fn take_whole(&mut self, buf: &mut SdBuf, slot: Slot, text: &[u8])
-        requires whole { IsPlainText text.now }
-        requires held { (t : FieldsRead) × HasReadFields self.old.fields buf.old t × CanTake slot t }
-        requires clear { self.old.fault ≡ None }
-        ensures read { (t : FieldsRead) → HasReadFields self.old.fields buf.old t → (u : FieldsRead)
-            × (self.new.fault ≡ None → HasReadFields self.new.fields buf.new u)
-            × (unless self.new.fault u ≡ take_field self.old.fields.domain t slot text.now) }
-        ensures domain { self.new.fields.domain ≡ self.old.fields.domain }
-        ensures same { self.new ≡ record self.old { fault = self.new.fault; fields = self.new.fields } }
-    {
-        if let Err(found) = self.fields.take_readable(buf, slot, text) {
-            self.fault = Some(found);
-        }
-    }
-
-    // Takes the ACEs that are whole at the front of the text, from behind the first parenthesis of the first one, and
-    // answers what follows them.
-    fn feed_aces<'a>(&mut self, buf: &mut SdBuf, text: &'a [u8]) -> &'a [u8]
-        requires here { self.old.state ≡ State.Ace AceField.Kind }
-        requires fresh { IsFresh self.old }
-        requires reader { IsReader self.old buf.old }
-        ensures { Feeds self.old buf.old text.now self.new buf.new result.now }
-    {
-        let mut rest = text;
-        while let Some(after) = self.fields.take_ace(buf, rest) {
-            self.state = State::AfterAce;
-            match after.split_first() {
-                Some((b'(', next)) => rest = next,
-                _ => return after,
-            }
-            self.state = State::Ace(AceField::Kind);
-        }
-        rest
     }
 
     // Appends the bytes at the front that belong to the current field, in one call, and returns their number. A field

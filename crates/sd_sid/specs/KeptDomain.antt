@@ -1,5 +1,5 @@
 -- The domain of an account that was read, kept for those that follow.
-use Rattle.std.specs.Prelude.{ℕ, ◌≤◌, ◌<◌, Bool, ◌==◌, ◌&&◌, if◌then◌else◌, List, [], ◌++◌, length}
+use Rattle.std.specs.Prelude.{ℕ, ◌≤◌, ◌<◌, Bool, ◌==◌, ◌&&◌, nat_lt, if◌then◌else◌, List, [], ◌++◌, length}
 use Rattle.sd_sid.specs.Account.{AccountAt}
 use Rattle.sd_sid.specs.Inner.Read.{NumberAt}
 use Rattle.sd_sid.specs.declared.account.Account.{Account}
@@ -20,11 +20,11 @@ no_domain = record { text = []; account = no_account; latest = no_account }
 abbrev pub same_domain : Account → Account → Bool
 same_domain a b = a.first == b.first && a.second == b.second && a.third == b.third
 
--- after an account whose domain has this text, or none where it is kept: a domain is kept where the account before was
--- of it too
+-- after an account whose domain has this text, or none where it is kept: a domain of a text of 32 bytes or more is kept
+-- where the account before was of it too
 abbrev pub noted : DomainOf → List ℕ → Account → DomainOf
 noted d text a =
-    if length text == 0 then d
+    if nat_lt (length text) 32 then d
     else (if same_domain a d.latest then record { text = text; account = a; latest = a } else record d { latest = a })
 
 -- with any number behind it, the text reads as the account with that number in the place of its last one

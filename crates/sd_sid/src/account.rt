@@ -17,7 +17,7 @@ const DOMAIN_TEXT: &[u8; DOMAIN_TEXT_SIZE] = b"S-1-5-21-";
 
 const DOMAIN_TEXT_SIZE: usize = 9;
 
-/// The bytes of the text before the last number of an account, at most: that and three numbers with a dash each.
+/// The bytes of the text before the last number of an account, at most: `S-1-5-21-`, three numbers and their dashes.
 const MOST_DOMAIN_TEXT: usize = 42;
 
 /// The bytes at both ends of such a text that are compared at once.
@@ -61,8 +61,8 @@ impl Account {
     }
 }
 
-/// The domain of accounts that were read, and the text of their SIDs up to the dash before the last number. Most accounts
-/// of a line, and of a file, are of one domain, so its numbers need not be read again.
+/// The domain of accounts that were read, and the text of their SIDs up to the dash before the last number. Files have
+/// accounts of few domains, so the numbers of a domain need not be read again.
 #[derive(Drop)]
 pub struct KeptDomain {
     cells: [u8; MOST_DOMAIN_TEXT],
@@ -96,14 +96,14 @@ impl KeptDomain {
         }
     }
 
-    /// Notes an account that was read, with the text of its domain, or no text where its domain is kept. A domain is kept
-    /// once two accounts of it follow each other: to copy the text for one account costs more than it saves.
+    /// Notes an account that was read, with the text of its domain, or no text where its domain is kept. A domain with a
+    /// text of 32 bytes, as nearly all have, is kept once two accounts of it follow each other, since copying costs time.
     #[inline(always)]
     pub fn note(&mut self, text: &[u8], account: Account)
         requires { IsKept text.now account }
         ensures { self.new ≡ noted self.old text.now account }
     {
-        if text.is_empty() {
+        if text.len() < FRONT {
             return;
         }
         if same_domain(account, self.latest) {
@@ -128,8 +128,8 @@ impl KeptDomain {
         Some((account, rest))
     }
 
-    // What follows the domain's text at the front. Both of its ends are compared, which overlap: to compare as many bytes
-    // as are known when the program is built takes a few steps. Nearly all domains have texts so long.
+    // What follows the domain's text at the front. Both of its ends are compared, which overlap: to compare as many
+    // bytes as are known when the program is built takes a few steps.
     #[inline(always)]
     fn behind_text<'a>(&self, text: &'a [u8]) -> Option<&'a [u8]>
         ensures { IfSome result (λ r. (0 < length self.now.text) × (text.now ≡ self.now.text ++ r.now)) }
@@ -180,8 +180,8 @@ pub fn front_account<'a>(text: &'a [u8], kept: &KeptDomain) -> Option<(Account, 
     }
 }
 
-// The same where no domain is kept.
-#[inline(always)]
+// The same where the account is not of the domain that is kept. Apart, so that the way of most accounts is short.
+#[inline(never)]
 fn read_account(text: &[u8]) -> Option<(Account, usize, &[u8])>
     ensures found { IfSome result (λ r. AccountAt text.now r.0 r.2.now) }
     ensures within { IfSome result (λ r. r.1 ≤ length text.now) }

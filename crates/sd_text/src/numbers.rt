@@ -101,8 +101,8 @@ fn block_number(block: &[u8]) -> u64
     first.wrapping_add(second) / (1 << 32)
 }
 
-// The same where a block has another byte among its digits. The digits before that are moved to its end, with zeros before
-// them, and read as a block.
+// The number at the front of a block that has another byte among its digits. The digits before that byte are moved to
+// the end of the block, with zeros before them, and read as a block.
 #[inline(always)]
 fn short_decimal(block: &[u8]) -> (u64, usize)
     requires { length block.now ≡ 8 }
@@ -121,8 +121,8 @@ fn short_decimal(block: &[u8]) -> (u64, usize)
     (block_number(&filled), count)
 }
 
-// How many bytes of a word are digits, from the lowest on, if one of them is none. What is read of the block is looked at
-// again, so it need not be right.
+// How many bytes of a word are digits, from the lowest on, if one of them is none. Its contract does not say that this
+// is right: `short_decimal` tests the digits that it moves.
 #[inline(always)]
 fn digits_in(word: u64) -> usize
     ensures { result < 8 }

@@ -34,8 +34,8 @@ const HIGHEST_BITS: u64 = 0x8080_8080_8080_8080;
 /// What spreads keys over the rows: a table has each key in the row that this gives.
 const SPREAD: u64 = 0xf7a6_bf13_af30_b95b;
 
-/// The row of the text before the semicolon at the front, in a table of keys and sizes. A key is the word of a text, with
-/// the first byte lowest and the last one at the high end. `None` means only that the table does not have it.
+/// The row of the text before the semicolon at the front, in a table of keys and sizes. A key is the word of a text,
+/// with the first byte lowest and the last one at the high end. `None` means only that the general reader must decide.
 #[inline(always)]
 pub fn usual_row(keys: &[u64; USUAL_ROWS], sizes: &[u8; USUAL_ROWS], text: &[u8]) -> Option<usize>
     ensures { IfSome result (λ row. IsRowOf keys.now sizes.now text.now row) }
@@ -51,8 +51,8 @@ pub fn usual_row(keys: &[u64; USUAL_ROWS], sizes: &[u8; USUAL_ROWS], text: &[u8]
     Some(row)
 }
 
-// Where the first semicolon of a word is, from its lowest byte on, or 8. A table needs no more of it than that it is no
-// larger, since the key and the size of a row are compared.
+// Where the first semicolon of a word is, from its lowest byte on, or 8. Its contract says only that it is at most 8:
+// `usual_row` compares the key and the size.
 #[inline(always)]
 fn semicolon_in(word: u64) -> usize
     ensures { result ≤ 8 }

@@ -1,4 +1,4 @@
--- An owner, a group or the flags of an ACL that stand whole in what comes of a line.
+-- An owner, a group or the flags of an ACL that are whole in the piece at hand.
 use Rattle.std.specs.Prelude.{◌≡◌, ℕ, ◌≤◌, true, List, ◌∷◌, ◌++◌, length, Option, Some, Ok, false}
 use Rattle.std.specs.List.{list_all}
 use Rattle.std.specs.Str.{byte as char}
