@@ -1,10 +1,11 @@
 -- What a line means, case by case, and what is answered to it.
-use Rattle.std.proofs.Common.{◌≡◌, ◌≢◌, ◌≤◌, ◌<◌, ℕ, List, [], ◌∷◌, Bool, length, Option}
+use Rattle.std.proofs.Common.{◌≡◌, ◌≢◌, ◌≤◌, ◌<◌, ℕ, List, [], ◌∷◌, Bool, false, length, Option}
 use Rattle.std.proofs.Common.{Some, Result, Ok, Err, refl, sym, ◌∙◌, ap, subst, arith}
 use Rattle.std.proofs.lemmas.Bool.Decides.{nat_tests}
 use Rattle.sd_sink.proofs.laws.PrintLemmas.{printed}
 use Rattle.sd_sink.specs.Print.{Begins, Finishes, PrintTold}
-use Rattle.sd_sink.specs.Sink.{SinkTold, PutSome}
+use Rattle.sd_sink.specs.Sink.{SinkTold, PutSome, Puts}
+use Rattle.std.specs.Prelude.{MatchResult}
 use Rattle.sd_sink.specs.declared.sink.SinkFault.{SinkFault}
 use Rattle.sd_sid.specs.Sid.{SecurityId}
 use Rattle.sd_view.specs.Descriptor.{Descriptor}
@@ -28,6 +29,23 @@ unfolding answer is_error
 answered task holder line old new m faulty e h =
     subst (λ (x : Meaning). PrintsAnswer old new (outcome_of_meaning task holder x).text
     (outcome_of_meaning task holder x).is_error faulty) (sym e) h
+
+-- the same for what is put
+pub put-answered : (task : Task) (holder : Holder) (line : List ℕ) (old new : SinkTold) (m : Meaning)
+    (result : Result Bool SinkFault) → meaning task.job line ≡ m
+    → PutsAnswer old new (outcome_of_meaning task holder m).text (outcome_of_meaning task holder m).is_error result
+    → PutsAnswer old new (answer task holder line) (is_error task holder line) result
+unfolding answer is_error
+put-answered task holder line old new m result e h =
+    subst (λ (x : Meaning). PutsAnswer old new (outcome_of_meaning task holder x).text
+    (outcome_of_meaning task holder x).is_error result) (sym e) h
+
+-- an answer that is no `error` line and was put
+pub puts-answer : (old new : SinkTold) (text : List ℕ) (put : Result (Unit {0}) SinkFault) (result : Result Bool SinkFault)
+    → MatchResult put (λ _. result ≡ Ok false) (λ fault. result ≡ Err fault) → Puts old new text put
+    → PutsAnswer old new text false result
+puts-answer old new text (Ok done) result is p = rw is (p, refl)
+puts-answer old new text (Err fault) result is p = rw is p
 
 -- what is compared for what a line means is what the line may compare
 pub compared : (task : Task) (holder : Holder) (line : List ℕ) (token token' : TokenShown) (m : Meaning)

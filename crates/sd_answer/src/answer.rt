@@ -1,11 +1,11 @@
 //! The answer to a line.
 
-ghost use Rattle.std.specs.Prelude.{◌≡◌, ℕ, List, [], ◌∷◌, true, Ok, Err};
+ghost use Rattle.std.specs.Prelude.{◌≡◌, ℕ, List, [], ◌∷◌, true, false, Ok, Err, MatchResult};
 ghost use Rattle.sd_sink.specs.Print.{Prints};
 ghost use Rattle.sd_view.specs.Descriptor.{Descriptor, Shows};
 ghost use Rattle.sd_view.specs.Layout.{layout};
 ghost use Rattle.sd_view.specs.WrittenForm.{IsWrittenForm};
-ghost use Rattle.sd_token.specs.Token.{Compares};
+ghost use Rattle.sd_token.specs.Token.{Compares, Holder};
 ghost use Rattle.sd_inherit.specs.Derived.{derive_fault, derived};
 ghost use Rattle.sd_explain.specs.Explain.{explain};
 ghost use Rattle.sd_sddl_printer.specs.Printed.{sddl};
@@ -17,7 +17,7 @@ ghost use Rattle.sd_answer.specs.LineInHand.{HoldsText, IsReady, PutsAnswer};
 
 use crate::base64_text::print_as_base64;
 use crate::fault::{LineFault, print_fault};
-use crate::hex_text::{SPELLED, print_as_hex};
+use crate::hex_text::{SPELLED, print_as_hex, put_as_hex};
 use crate::job::{Act, Job, OutputForm, Task};
 use crate::line::Line;
 use sd_buffer::SdBuf;
@@ -64,10 +64,64 @@ pub fn put_answer<S: Sink>(
     ensures compared { (text : List ℕ) → HoldsText task.now.job line.old text
         → Compares token.old token.new (bound task.now token.old.holder text) }
 {
+    if let Act::Convert(OutputForm::Hex) = task.job.act {
+        return put_hex_answer(task, line, stores, sink);
+    }
     let mut out = Gather::new(sink);
     let faulty = print_answer(task, line, stores, token, &mut out);
     out.finish()?;
     Ok(faulty)
+}
+
+// The same where the answer is hex, whose pieces are large enough to be put one by one.
+fn put_hex_answer<S: Sink>(
+    task: &Task<'_>,
+    line: &mut Line,
+    stores: &mut Stores,
+    sink: &mut S,
+) -> Result<bool, SinkFault>
+    requires ready { IsReady line.old }
+    requires hex { task.now.job.act ≡ Act.Convert OutputForm.Hex }
+    ensures { (holder : Holder) (text : List ℕ) → HoldsText task.now.job line.old text
+        → PutsAnswer (S.told sink.old) (S.told sink.new)
+        (answer task.now holder text) (is_error task.now holder text) result }
+{
+    let _ = task;
+    if line.is_too_long() {
+        return put_error(&LineFault::TooLong, sink);
+    }
+    if line.is_empty() {
+        return unless_failed(sink.put(b"\n"));
+    }
+    match line.end() {
+        Ok(view) => {
+            write_layout(&view, &mut stores.written);
+            unless_failed(put_as_hex(stores.written.bytes(), &mut stores.spelled, sink))
+        }
+        Err(fault) => put_error(&fault, sink),
+    }
+}
+
+// What is returned where this came of the calls of a sink for an answer that is no `error` line.
+fn unless_failed(put: Result<(), SinkFault>) -> Result<bool, SinkFault>
+    ensures { MatchResult put (λ _. result ≡ Ok false) (λ fault. result ≡ Err fault) }
+{
+    match put {
+        Ok(()) => Ok(false),
+        Err(fault) => Err(fault),
+    }
+}
+
+// Puts an `error` line.
+#[cold]
+#[inline(never)]
+fn put_error<S: Sink>(fault: &LineFault, sink: &mut S) -> Result<bool, SinkFault>
+    ensures { PutsAnswer (S.told sink.old) (S.told sink.new) (refused fault.now).text true result }
+{
+    let mut out = Gather::new(sink);
+    let error = print_error(fault, &mut out);
+    out.finish()?;
+    Ok(error)
 }
 
 // A line over its limit was not read, so that is its only error.

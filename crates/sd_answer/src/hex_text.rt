@@ -1,15 +1,20 @@
 //! Bytes printed as hex.
 
-ghost use Rattle.std.specs.Prelude.{◌≡◌, ◌≤◌, ◌<◌, ◌*◌, ℕ, length, map, slice_index, take};
+ghost use Rattle.std.specs.Prelude.{◌≡◌, ◌≤◌, ◌<◌, ◌*◌, ◌++◌, ◌∷◌, [], ℕ, length, map, slice_index, take};
 ghost use Rattle.std.specs.Simd.Lanes.{Each1};
 ghost use Rattle.hex.specs.Hex.{encode_lower, lower_digits};
 ghost use Rattle.sd_sink.specs.Print.{Prints};
+ghost use Rattle.sd_sink.specs.Sink.{Puts};
+ghost use Rattle.sd_answer.specs.LineEnd.{line_feed};
 
-use sd_sink::Print;
+use sd_sink::{Print, Sink, SinkFault};
 use std::simd::prelude::*;
 
 /// The characters that are gathered before they are printed: of hex 512 bytes, of base64 768.
 pub const SPELLED: usize = 1024;
+
+/// The bytes whose digits fill the cells.
+const PIECE: usize = SPELLED / 2;
 
 /// The bytes that are encoded at once: they fill a vector.
 const BLOCK: usize = 16;
@@ -29,11 +34,32 @@ pub fn print_as_hex<P: Print>(bytes: &[u8], cells: &mut [u8; SPELLED], out: &mut
 {
     let mut at = 0;
     while at < bytes.len() {
-        let n = (bytes.len() - at).min(SPELLED / 2);
+        let n = (bytes.len() - at).min(PIECE);
         let digits = encode_hex(&bytes[at..at + n], cells);
         out.put(&cells[..digits]);
         at += n;
     }
+}
+
+/// Puts the bytes as lower-case hex, with an LF behind them, by way of the cells. The last piece leaves room for the LF.
+pub fn put_as_hex<S: Sink>(
+    bytes: &[u8],
+    cells: &mut [u8; SPELLED],
+    sink: &mut S,
+) -> Result<(), SinkFault>
+    ensures { Puts (S.told sink.old) (S.told sink.new) (encode_lower bytes.now ++ line_feed ∷ []) result }
+{
+    let mut at = 0;
+    while bytes.len() - at >= PIECE {
+        let digits = encode_hex(&bytes[at..at + PIECE], cells);
+        if let Err(fault) = sink.put(&cells[..digits]) {
+            return Err(fault);
+        }
+        at += PIECE;
+    }
+    let count = encode_hex(&bytes[at..], cells);
+    cells[count] = b'\n';
+    sink.put(&cells[..count + 1])
 }
 
 // Encodes to the front of the cells, and says how many digits there are. The last block ends with the bytes, so it may
