@@ -150,7 +150,8 @@ pub fn prepare(alloc: Global, words: &[String]) -> Result<Prepared, Stop>
     settle_with(&matches, Memory::new(alloc))
 }
 
-// What the matches settle, if there is memory.
+// What the matches settle, if there is memory. Apart, so that what is moved on the way takes no stack while words are read.
+#[inline(never)]
 fn settle_with(matches: &ArgMatches<'_>, memory: Result<Memory, NoMemory>) -> Result<Prepared, Stop>
     requires { IfOk memory (λ memory. (memory.token.holder ≡ nobody) × (memory.token.compared ≡ 0)) }
     ensures { MatchResult memory
