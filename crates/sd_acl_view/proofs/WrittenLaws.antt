@@ -7,36 +7,35 @@ use Rattle.std.proofs.lemmas.Bool.Decides.{nat_tests}
 use Rattle.std.proofs.Math.Seq.{take-add}
 use Rattle.std.proofs.lemmas.List.{append-nil, length-take-le, take_all, take-append-drop}
 use Rattle.std.proofs.lemmas.Bool.{and_parts, or_parts}
-use Rattle.byteorder.specs.Endian.{little_bytes, little_number}
-use Rattle.byteorder.specs.Numbers.{little_number-reads_back}
+use Rattle.byteorder.specs.Endian.{little_bytes}
 use Rattle.sd_ace.specs.Ace.{ace_size, guid_size}
 use Rattle.sd_kinds.specs.Kinds.{is_object, kind_code}
-use Rattle.sd_sid.proofs.laws.Numbers.{AreBytes, AreBytes-drop, AreBytes-take, bytes_low_first-little_from}
+use Rattle.sd_sid.proofs.laws.Numbers.{AreBytes, AreBytes-drop, AreBytes-take}
 use Rattle.sd_acl_view.specs.Bytes.{u16_at, u32_at}
 use Rattle.sd_acl_view.specs.Ace.{ShowsAce, announces_inherited, announces_object}
 use Rattle.sd_acl_view.specs.Acl.{acl_size, aces_size, has_object}
 use Rattle.sd_ace.specs.AceLayout.{ace_body, ace_bytes, ace_front, flag_if, front_size}
-use Rattle.sd_acl_view.specs.AclLayout.{acl_bytes, acl_header}
+use Rattle.sd_acl_view.specs.AclLayout.{acl_bytes, acl_header, revision_if}
 use Rattle.sd_ace.specs.AceLayout.{object_flags}
 use Rattle.sd_acl_view.specs.AclReading.{ace_of, aces_fault, aces_of, acl_of, guid_if, inherited_in, kind_in, object_in}
 use Rattle.sd_acl_view.specs.Inner.ReadableAce.{IsReadableAce}
 use Rattle.sd_acl_view.specs.AclChecks.{IsReadableAcl}
 use Rattle.sd_acl_view.specs.Inner.Written.{all_named_flags, named_flags}
-use Rattle.sd_acl_view.proofs.laws.AclLaws.{ace-fits, ace-shows, aces-fit, aces-shows, u16_at-front}
+use Rattle.sd_acl_view.proofs.laws.AclLaws.{ace-fits, ace-shows, aces-fit, aces-shows, length-aces_of}
 use Rattle.sd_acl_view.proofs.ReadableAces.{ace-readable}
 use Rattle.sd_acl_view.proofs.BodyLaws.{body_at, length_body}
 use Rattle.sd_acl_view.proofs.laws.FirstFault.{first_none}
+use Rattle.sd_acl_view.proofs.laws.NumberLaws.{number, number-first}
 
--- a number of bytes, written again
+-- a number in an extent, written again
 word : (i : ℕ) (xs : List ℕ) → AreBytes xs → i + 2 ≤ length xs → little_bytes 2 (u16_at i xs) ≡ take 2 (drop i xs)
 unfolding u16_at
-word i xs b room = bytes_low_first-little_from 2 (drop i xs) (omega (arith, length-drop i xs)) (AreBytes-drop i xs b)
+word i xs b room = number 2 i xs b room
 
 long_word : (i : ℕ) (xs : List ℕ) → AreBytes xs → i + 4 ≤ length xs
     → little_bytes 4 (u32_at i xs) ≡ take 4 (drop i xs)
 unfolding u32_at
-long_word i xs b room = bytes_low_first-little_from 4 (drop i xs) (omega (arith, length-drop i xs))
-    (AreBytes-drop i xs b)
+long_word i xs b room = number 4 i xs b room
 
 -- object flags that are named are those of the GUIDs
 two_bits : (n : ℕ) → n ≤ 3 → cond (eqb (n % 2) 1) 1 0 + cond (eqb (n / 2 % 2) 1) 2 0 ≡ n
@@ -145,33 +144,44 @@ aces-written (suc n) left b e whole named =
     ap (λ (xs : List ℕ). xs ++ flat_map ace_bytes (aces_of n rest)) first ∙ ap (λ (xs : List ℕ). extent ++ xs) others
     ∙ take-append-drop size left
 
--- an extent that begins with the header of the written form has no more bytes than that
-header-size : (extent : List ℕ) → IsReadableAcl extent → take 8 extent ≡ acl_header (acl_of extent)
-    → length extent ≡ acl_size (acl_of extent)
+-- the front of an extent is four numbers
+four-words : (extent : List ℕ) → AreBytes extent → 8 ≤ length extent
+    → take 8 extent
+    ≡ little_bytes 2 (u16_at 0 extent) ++ (little_bytes 2 (u16_at 2 extent)
+    ++ (little_bytes 2 (u16_at 4 extent) ++ little_bytes 2 (u16_at 6 extent)))
 unfolding u16_at
-header-size extent h front =
-    let aces = acl_of extent in
-    let room : 8 ≤ length (take 8 extent) = omega (arith, length-take-le 8 extent h.room) in
-    sym h.size
-    ∙ ap (u16_at 2) (sym (take-append-drop 8 extent))
-    ∙ u16_at-front 2 (take 8 extent) (drop 8 extent) (omega arith)
-    ∙ ap (u16_at 2) front
-    ∙ little_number-reads_back 2 (acl_size aces) (little_bytes 2 (length aces) ++ (0 ∷ 0 ∷ [])) h.limits.fits
+four-words extent b room =
+    number-first 2 6 0 extent b (omega arith)
+    ∙ ap (λ (xs : List ℕ). little_bytes 2 (u16_at 0 extent) ++ xs) (number-first 2 4 2 extent b (omega arith)
+    ∙ ap (λ (xs : List ℕ). little_bytes 2 (u16_at 2 extent) ++ xs) (number-first 2 2 4 extent b (omega arith)
+    ∙ ap (λ (xs : List ℕ). little_bytes 2 (u16_at 4 extent) ++ xs) (sym (number 2 6 extent b (omega arith)))))
 
--- an ACL that has the header of its written form
-pub acl-written : (extent header : List ℕ) → AreBytes extent → AreBytes header → IsReadableAcl extent
-    → header ≡ acl_header (acl_of extent)
-    → little_number 8 extent ≡ little_number 8 header
+header-by : (object : Bool) (r s n z size count : ℕ) → r ≡ revision_if object → s ≡ size → n ≡ count → z ≡ 0
+    → little_bytes 2 r ++ (little_bytes 2 s ++ (little_bytes 2 n ++ little_bytes 2 z))
+    ≡ revision_if object ∷ 0 ∷ little_bytes 2 size ++ (little_bytes 2 count ++ (0 ∷ 0 ∷ []))
+header-by true r s n z size count e f g h = rw (e, f, g, h) refl
+header-by false r s n z size count e f g h = rw (e, f, g, h) refl
+
+-- an extent without spare bytes, with the revision and the zeros of the written form, begins with its header
+header-written : (extent : List ℕ) → AreBytes extent → IsReadableAcl extent
+    → length extent ≡ acl_size (acl_of extent)
+    → u16_at 0 extent ≡ revision_if (has_object (acl_of extent))
+    → u16_at 6 extent ≡ 0
+    → take 8 extent ≡ acl_header (acl_of extent)
+header-written extent b h size revision zeros =
+    four-words extent b h.room
+    ∙ header-by (has_object (acl_of extent)) _ _ _ _ (acl_size (acl_of extent)) (length (acl_of extent)) revision
+    (h.size ∙ size) (sym (length-aces_of (u16_at 4 extent) (drop 8 extent))) zeros
+
+-- then it is the written form, if all object flags are named
+pub acl-written : (extent : List ℕ) → AreBytes extent → IsReadableAcl extent
+    → length extent ≡ acl_size (acl_of extent)
+    → u16_at 0 extent ≡ revision_if (has_object (acl_of extent))
+    → u16_at 6 extent ≡ 0
     → all_named_flags (u16_at 4 extent) (drop 8 extent) ≡ true
     → acl_bytes (acl_of extent) ≡ extent
-acl-written extent header b k h written same named =
-    let long : length header ≡ 8 = ap (length {A = ℕ}) written in
-    let front : take 8 extent ≡ acl_header (acl_of extent) =
-    sym (bytes_low_first-little_from 8 extent (omega (arith, h.room)) b) ∙ ap (little_bytes 8) same
-    ∙ bytes_low_first-little_from 8 header (omega (arith, long)) k
-    ∙ take_all 8 header (omega (arith, long))
-    ∙ written in
-    let size = header-size extent h front in
+acl-written extent b h size revision zeros named =
+    let front = header-written extent b h size revision zeros in
     let entries = aces-written (u16_at 4 extent) (drop 8 extent) (AreBytes-drop 8 extent b) h.sound
     (omega (arith, size, length-drop 8 extent, h.room)) named in
     ap (λ (xs : List ℕ). xs ++ flat_map ace_bytes (acl_of extent)) (sym front)

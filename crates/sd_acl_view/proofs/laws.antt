@@ -3,3 +3,4 @@ pub mod AceLists
 pub mod AclLaws
 pub mod AclLayoutSizes
 pub mod FirstFault
+pub mod NumberLaws

@@ -3,7 +3,7 @@
 ghost use Rattle.std.specs.Prelude.{◌≡◌, ◌≤◌, ◌<◌, ◌+◌, ◌^◌, length, take, drop, None, IfOk, IfSome};
 ghost use Rattle.std.specs.Iterator.{YieldsFirst, item_count};
 ghost use Rattle.sd_acl_view.specs.Acl.{IsAcl, acl_size, has_object};
-ghost use Rattle.sd_acl_view.specs.AclLayout.{acl_bytes, acl_header};
+ghost use Rattle.sd_acl_view.specs.AclLayout.{acl_bytes};
 ghost use Rattle.sd_acl_view.specs.AclReading.{ace_fault, ace_of, acl_fault, acl_of, acl_at_front, aces_fault};
 ghost use Rattle.sd_acl_view.specs.AclReading.{aces_of};
 ghost use Rattle.sd_acl_view.specs.AclChecks.{FailsBy, IsReadableAcl};
@@ -121,12 +121,12 @@ impl<'a> AclView<'a> {
         }
     }
 
-    /// Its bytes, if they are its written form (MS-DTYP 2.4.5), which begins with this header.
-    pub fn written_bytes(&self, header: &[u8]) -> Option<&'a [u8]>
-        requires { header.now ≡ acl_header self.now }
+    /// Its bytes, if they are its written form (MS-DTYP 2.4.5). `None` means only that the ACL must be written out.
+    #[inline(always)]
+    pub fn written_bytes(&self) -> Option<&'a [u8]>
         ensures { IfSome result (λ bytes. bytes.now ≡ acl_bytes self.now) }
     {
-        if is_written(self.extent, self.written.object, header) {
+        if is_written(self.extent, self.written) {
             Some(self.extent)
         } else {
             None

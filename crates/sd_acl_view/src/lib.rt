@@ -11,3 +11,4 @@ pub use ace::AceView;
 pub use acl::{Aces, AclView, Written, acl_view, check_acl, front_ace};
 pub use bytes::{u16_at, u32_at};
 pub use fault::AclFault;
+pub use written_acl::is_written;

@@ -1,7 +1,11 @@
 //! The answer to a line.
 
-ghost use Rattle.std.specs.Prelude.{◌≡◌, ℕ, List, [], ◌∷◌, true, false, Ok, Err, MatchResult};
+ghost use Rattle.std.specs.Prelude.{◌≡◌, ℕ, List, [], ◌∷◌, ◌++◌, true, false, Ok, Err, MatchResult};
+ghost use Rattle.base64.specs.Engines.{standard};
+ghost use Rattle.base64.specs.GeneralPurpose.{encode_of};
+ghost use Rattle.hex.specs.Hex.{encode_lower};
 ghost use Rattle.sd_sink.specs.Print.{Prints};
+ghost use Rattle.sd_sink.specs.Sink.{Puts};
 ghost use Rattle.sd_view.specs.Descriptor.{Descriptor, Shows};
 ghost use Rattle.sd_view.specs.Layout.{layout};
 ghost use Rattle.sd_view.specs.WrittenForm.{IsWrittenForm};
@@ -94,11 +98,25 @@ fn put_hex_answer<S: Sink>(
         return unless_failed(sink.put(b"\n"));
     }
     match line.end() {
-        Ok(view) => {
-            write_layout(&view, &mut stores.written);
-            unless_failed(put_as_hex(stores.written.bytes(), &mut stores.spelled, sink))
-        }
+        Ok(view) => unless_failed(put_layout_as_hex(&view, stores, sink)),
         Err(fault) => put_error(&fault, sink),
+    }
+}
+
+// Puts the layout of a descriptor as hex, with an LF behind it.
+fn put_layout_as_hex<S: Sink>(
+    view: &SdView<'_>,
+    stores: &mut Stores,
+    sink: &mut S,
+) -> Result<(), SinkFault>
+    ensures { Puts (S.told sink.old) (S.told sink.new) (encode_lower (layout view.now) ++ line_feed ∷ []) result }
+{
+    match view.laid_out() {
+        Some(bytes) => put_as_hex(bytes, &mut stores.spelled, sink),
+        None => {
+            write_layout(view, &mut stores.written);
+            put_as_hex(stores.written.bytes(), &mut stores.spelled, sink)
+        }
     }
 }
 
@@ -209,11 +227,21 @@ fn print_form<P: Print>(
             write_layout(view, &mut stores.written);
             print_as_hex(stores.written.bytes(), &mut stores.spelled, out);
         }
-        OutputForm::Base64 => {
+        OutputForm::Base64 => print_layout_as_base64(view, stores, out),
+        OutputForm::Sddl => print_as_sddl(job, view, out),
+    }
+}
+
+// Prints the layout of a descriptor as base64.
+fn print_layout_as_base64<P: Print>(view: &SdView<'_>, stores: &mut Stores, out: &mut P)
+    ensures { Prints (P.told out.old) (P.told out.new) (encode_of standard (layout view.now)) }
+{
+    match view.laid_out() {
+        Some(bytes) => print_as_base64(bytes, &mut stores.spelled, out),
+        None => {
             write_layout(view, &mut stores.written);
             print_as_base64(stores.written.bytes(), &mut stores.spelled, out);
         }
-        OutputForm::Sddl => print_as_sddl(job, view, out),
     }
 }
 

@@ -17,11 +17,10 @@ use sd_sink::Print;
 pub(crate) fn print_acl<P: Print>(acl: &AclView<'_>, out: &mut P)
     ensures { Prints (P.told out.old) (P.told out.new) (acl_bytes acl.now) }
 {
-    let header = header_of(acl);
-    match acl.written_bytes(&header) {
+    match acl.written_bytes() {
         Some(bytes) => out.put(bytes),
         None => {
-            out.put(&header);
+            out.put(&header_of(acl));
             print_aces(acl, out);
         }
     }

@@ -40,10 +40,20 @@ pub fn put_layout<S: Sink>(view: &SdView<'_>, sink: &mut S) -> Result<(), SinkFa
     out.finish()
 }
 
-/// Prints the layout of a descriptor, as `put_layout` puts it.
+/// Prints the layout of a descriptor, as `put_layout` puts it; at once if it was read in this layout.
 pub fn print_layout<P: Print>(view: &SdView<'_>, out: &mut P)
     ensures printed { Prints (P.told out.old) (P.told out.new) (layout view.now) }
     ensures limits { IsDescriptor view.now }
+{
+    match view.laid_out() {
+        Some(bytes) => out.put(bytes),
+        None => print_parts(view, out),
+    }
+}
+
+// Prints the header and the parts one by one.
+fn print_parts<P: Print>(view: &SdView<'_>, out: &mut P)
+    ensures { Prints (P.told out.old) (P.told out.new) (layout view.now) }
 {
     let sacl = view.sacl();
     let dacl = view.dacl();

@@ -1,15 +1,16 @@
 -- The bytes of a part and their number, and where they stand.
-use Rattle.std.proofs.Common.{◌≡◌, ◌+◌, ◌*◌, ℕ, true, false, eqb, List, [], take, drop, slice_index, Some, refl, sym}
+use Rattle.std.proofs.Common.{◌≡◌, ◌+◌, ◌*◌, ℕ, Bool, true, false, eqb, List, [], take, drop, slice_index, Some, refl, sym}
 use Rattle.std.proofs.Common.{ap, ◌∙◌, arith}
 use Rattle.std.proofs.lemmas.Bool.Decides.{nat_tests}
 use Rattle.std.proofs.lemmas.List.{take_at}
 use Rattle.sd_sid.specs.Sid.{sid_bytes, sid_of, sid_stands}
 use Rattle.sd_sid.proofs.laws.Numbers.{AreBytes, AreBytes-drop}
+use Rattle.sd_acl_view.specs.AclReading.{acl_at_front, acl_of}
 use Rattle.sd_view.specs.declared.acl_part.AclPart.{AclPart}
 use Rattle.sd_view.specs.declared.acl_part.AclPart.TheVariants as acl
 use Rattle.sd_view.specs.Inner.Found.{written_of}
 use Rattle.sd_view.specs.Layout.{acl_part_size, sid_part}
-use Rattle.sd_view.specs.Reading.{sid_shown}
+use Rattle.sd_view.specs.Reading.{acl_shown, sid_shown}
 use Rattle.sd_view.specs.Inner.Readable.{IsSidAt}
 use Rattle.sd_sid.proofs.laws.SidLaws.{length-sid_bytes}
 use Rattle.sd_view.proofs.ReadLaws.{stands-at, stands-sid}
@@ -27,6 +28,14 @@ sid_shown-stands bytes offset other e =
     let zero_test : eqb offset 0 ≡ false = grind (arith, nat_tests) in
     let found = stands-at (drop offset bytes) e in
     rw (zero_test, found) refl
+
+-- the ACL that is shown is the one at the front of its bytes
+pub acl_shown-stands : (bytes : List ℕ) (present : Bool) (offset : ℕ) → present ≡ true → (offset ≡ 0 → ⊥)
+    → acl_shown bytes present offset ≡ acl.List (acl_of (acl_at_front (drop offset bytes)))
+unfolding acl_shown
+acl_shown-stands bytes present offset e other =
+    let zero_test : eqb offset 0 ≡ false = grind (arith, nat_tests) in
+    rw (e, zero_test) refl
 
 -- the bytes of the SID that is shown stand at its offset, as many as its count says
 pub sid-bytes : (bytes : List ℕ) (offset : ℕ) → AreBytes bytes → (offset ≡ 0 → ⊥) → IsSidAt bytes offset

@@ -3,6 +3,7 @@
 
 mod acl_part;
 mod fault;
+mod laid_out;
 mod view;
 
 pub use acl_part::AclPart;

@@ -1,6 +1,6 @@
 //! Descriptors read in place.
 
-ghost use Rattle.std.specs.Prelude.{◌≡◌, ◌≤◌, ◌<◌, ◌+◌, ◌*◌, ℕ, List, length, Ok, Err, IfOk, OnOk, MatchResult};
+ghost use Rattle.std.specs.Prelude.{◌≡◌, ◌≤◌, ◌<◌, ◌+◌, ◌*◌, ℕ, List, length, Ok, Err, IfOk, IfSome, OnOk, MatchResult};
 ghost use Rattle.sd_parts.specs.Control.{AreControlBits};
 ghost use Rattle.sd_view.specs.Descriptor.{Descriptor, Shows, IsAclPart, IsDescriptor, acl_extent, extents_of};
 ghost use Rattle.sd_view.specs.Descriptor.{sid_extent};
@@ -16,6 +16,7 @@ ghost use Rattle.sd_parts.specs.declared.limits.TheConstants.{HEADER_SIZE, MOST_
 
 use crate::acl_part::AclPart;
 use crate::fault::{SdFault, fault_in};
+use crate::laid_out::is_laid_out;
 use sd_acl_view::{Written, acl_view, check_acl, u16_at, u32_at};
 use sd_parts::{
     ACL_REVISION_DS, DACL_PRESENT, HEADER_SIZE, Part, Parts, SACL_PRESENT, SELF_RELATIVE, has_bit,
@@ -403,6 +404,28 @@ impl<'a> SdView<'a> {
     {
         sid_bytes_at(self.bytes, u32_at(self.bytes, 8))
     }
+
+    /// The bytes that are read, if they are the written layout (MS-DTYP 2.4.6). `None` means only that the layout must
+    /// be written out.
+    ///
+    /// ```
+    /// let bytes = *b"\x01\0\0\x80\0\0\0\0\0\0\0\0\0\0\0\0\0\0\0\0 and more";
+    /// let header = read(&bytes[..20]).expect(&rt, "a descriptor");
+    /// assert!(rt; header.laid_out().is_some());
+    /// let more = read(&bytes).expect(&rt, "a descriptor");
+    /// assert!(rt; more.laid_out().is_none());
+    /// ```
+    #[inline(always)]
+    pub fn laid_out(&self) -> Option<&'a [u8]>
+        ensures value { IfSome result (λ bytes. bytes.now ≡ layout self.now) }
+        ensures limits { IsDescriptor self.now }
+    {
+        if is_laid_out(self.bytes, self.acls) {
+            Some(self.bytes)
+        } else {
+            None
+        }
+    }
 }
 
 // The SID at an offset that was checked.
@@ -418,7 +441,8 @@ fn sid_in(bytes: &[u8], offset: u32) -> Option<SidView<'_>>
 }
 
 // The bytes of the SID at an offset that was checked.
-fn sid_bytes_at(bytes: &[u8], offset: u32) -> &[u8]
+#[inline(always)]
+pub(crate) fn sid_bytes_at(bytes: &[u8], offset: u32) -> &[u8]
     requires { IsSidAt bytes.now offset }
     ensures value { result.now ≡ sid_part (sid_shown bytes.now offset) }
     ensures short { length result.now ≤ MOST_SID_SIZE }

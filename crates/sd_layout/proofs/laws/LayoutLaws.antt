@@ -1,9 +1,8 @@
 -- The layout of a descriptor shows it.
-use Rattle.std.proofs.Common.{◌≡◌, ◌≤◌, ◌<◌, inl, ℕ, ◌+◌, ◌^◌, eqb, Bool, true, false, cond, List, [], ◌++◌}
-use Rattle.std.proofs.Common.{length, drop, slice_index, Option, Some, None, refl, sym, ap, ◌∙◌, arith}
+use Rattle.std.proofs.Common.{◌≡◌, ◌≤◌, ◌<◌, inl, ℕ, ◌+◌, ◌^◌, Bool, true, false, cond, List, [], ◌++◌}
+use Rattle.std.proofs.Common.{drop, slice_index, Option, Some, None, refl, sym, ap, ◌∙◌, arith}
 use Rattle.std.specs.Prelude.{◌==◌, if◌then◌else◌, IfSome}
-use Rattle.std.proofs.lemmas.Bool.Decides.{nat_tests}
-use Rattle.std.proofs.lemmas.List.{append-nil, drop_at, drop-drop}
+use Rattle.std.proofs.lemmas.List.{append-nil}
 use Rattle.byteorder.specs.Endian.{little_bytes}
 use Rattle.byteorder.specs.Numbers.{little_number-reads_back}
 use Rattle.sd_sid.specs.Sid.{SecurityId, IsSid, sid_size}
@@ -22,6 +21,7 @@ use Rattle.sd_view.specs.declared.acl_part.AclPart.TheVariants as acl
 use Rattle.sd_view.proofs.laws.ApartLaws.{six-apart}
 use Rattle.sd_view.proofs.laws.LayoutSizes.{acl_size-read, length-acl_part, length-header, length-layout, length-sid_part}
 use Rattle.sd_view.proofs.laws.LayoutSizes.{size-most}
+use Rattle.sd_view.proofs.laws.Places.{after, not-zero, offset-stands}
 use Rattle.sd_layout.proofs.laws.AclLayoutLaws.{acl_bytes-shows}
 
 -- the fields of a header
@@ -56,10 +56,6 @@ module _ (rm control : ℕ) (o : Parts ℕ) (rest : List ℕ) where
   unfolding u32_at header_bytes
   header-dacl h = little_number-reads_back 4 o.dacl rest h
 
--- a size that is not zero
-not-zero : (n : ℕ) → 0 < n → eqb n 0 ≡ false
-not-zero n h = grind (arith, nat_tests)
-
 cond-most : (b : Bool) (n : ℕ) → cond b 0 n ≤ n
 cond-most true n = omega arith
 cond-most false n = omega arith
@@ -70,9 +66,6 @@ extent_if start n = if n == 0 then None else Some (start, start + n)
 
 offset-most : (start n : ℕ) → offset_if start n ≤ start
 offset-most start n = cond-most (n == 0) start
-
-pub offset-stands : (start n : ℕ) → 0 < n → offset_if start n ≡ start
-offset-stands start n h = rw (not-zero n h) refl
 
 extent-stands : (start n : ℕ) → 0 < n → extent_if start n ≡ Some (start, start + n)
 extent-stands start n h = rw (not-zero n h) refl
@@ -97,11 +90,6 @@ parts-apart p k l m n =
     six-apart _ (apart p k (p + k) l (omega arith)) (apart p k (p + k + l) m (omega arith))
     (apart p k (p + k + l + m) n (omega arith)) (apart (p + k) l (p + k + l) m (omega arith))
     (apart (p + k) l (p + k + l + m) n (omega arith)) (apart (p + k + l) m (p + k + l + m) n (omega arith))
-
--- what stands after a part
-after : (start n : ℕ) (whole part rest : List ℕ) → length part ≡ n → drop start whole ≡ part ++ rest
-    → drop (start + n) whole ≡ rest
-after start n whole part rest len shape = sym (drop-drop n start whole) ∙ ap (drop n) shape ∙ drop_at part rest n len
 
 -- a SID that stands where it begins is shown there
 sid-stands : (bytes rest : List ℕ) (offset start : ℕ) (o : Option SecurityId)

@@ -1,13 +1,13 @@
-use Rattle.std.proofs.Common.{◌∙◌, sym, arith}
+use Rattle.std.proofs.Common.{ap, sym, ◌∙◌, arith}
+use Rattle.sd_acl_view.specs.AclLayout.{revision_if}
 use Rattle.sd_acl_view.proofs.WrittenLaws.{acl-written}
 use Rattle.sd_acl_view.proofs.written_acl.is_written.Goals as goal
 
-pub returns-then-read_u64 : goal.returns-then-read_u64
-returns-then-read_u64 c =
+pub returns : goal.returns
+returns c =
     λ e.
-    acl-written c.args.extent.now c.args.header.now (λ i. omega (arith, c.type_inv.extent i))
-    (λ i. omega (arith, c.type_inv.header i))
-    c.requires.extent
-    c.requires.header
-    (sym c.read_u64.ensures ∙ c.if-read_u64.true ∙ c.read_u64-2.ensures)
+    acl-written c.args.extent.now (λ i. omega (arith, c.type_inv.extent i)) c.requires.extent
+    (c.if-extent-written.false ∙ c.requires.size)
+    (sym c.u16_at.ensures ∙ c.if-u16_at-revision_if.false ∙ c.revision_if.ensures ∙ ap revision_if c.requires.object)
+    (sym c.u16_at-else-u16_at-revision_if.ensures ∙ c.if-u16_at-ne0.false)
     (sym c.are_flags_named.ensures ∙ e)

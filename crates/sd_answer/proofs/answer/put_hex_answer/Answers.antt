@@ -25,11 +25,11 @@ returns-in-Ok g c = λ holder text h.
     let some = (c.is_empty.ensures _ text h).1 c.if-is_empty.false in
     put-answered c.args.task.now holder text _ _ (Some (Ok c.in-Ok.view)) _
     (meaning-text c.args.task.now.job text (Ok c.in-Ok.view) some within (c.in-Ok.ensures _ text h within))
-    (subst (λ (x : Act). PutsAnswer (g.S.Sink.told c.args.sink.now) (g.S.Sink.told c.put_as_hex.new.sink)
+    (subst (λ (x : Act). PutsAnswer (g.S.Sink.told c.args.sink.now) (g.S.Sink.told c.put_layout_as_hex.new.sink)
     (act_outcome c.args.task.now holder x c.in-Ok.view).text
     (act_outcome c.args.task.now holder x c.in-Ok.view).is_error c.unless_failed-in-Ok.result) (sym c.requires.hex)
     (puts-answer _ _ _ _ _ c.unless_failed-in-Ok.ensures
-    (rw (c.bytes.ensures.value, c.write_layout.ensures) at c.put_as_hex.ensures)))
+    c.put_layout_as_hex.ensures))
 
 pub returns-in-Err : goal.returns-in-Err
 returns-in-Err g c = λ holder text h.

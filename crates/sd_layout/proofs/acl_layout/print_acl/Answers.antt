@@ -6,5 +6,5 @@ use Rattle.sd_layout.proofs.acl_layout.print_acl.Goals as goal
 
 pub returns-in-None : goal.returns-in-None
 returns-in-None g c =
-    prints_as (ap (λ (t : List ℕ). t ++ flat_map ace_bytes c.args.acl.now) c.header_of-header.ensures)
+    prints_as (ap (λ (t : List ℕ). t ++ flat_map ace_bytes c.args.acl.now) c.header_of.ensures)
     (prints_then c.put-in-None.ensures c.print_aces.ensures)

@@ -1,18 +1,16 @@
-use Rattle.std.proofs.Common.{◌≡◌, ℕ, Bool, true, false, List, ◌++◌, drop, slice_index, eqb, ap, subst, refl, ◌∙◌, arith}
-use Rattle.std.proofs.lemmas.Bool.Decides.{nat_tests}
+use Rattle.std.proofs.Common.{◌≡◌, ℕ, Bool, true, false, List, ◌++◌, drop, slice_index, eqb, ap, subst, refl, ◌∙◌}
 use Rattle.std.proofs.lemmas.List.{take_rest}
 use Rattle.sd_ace.specs.Ace.{AccessControlEntry}
 use Rattle.sd_acl_view.specs.Acl.{IsAcl, acl_size, has_object}
 use Rattle.sd_acl_view.specs.AclLayout.{acl_bytes, revision_if}
-use Rattle.sd_acl_view.specs.AclReading.{acl_at_front, acl_of}
 use Rattle.sd_acl_view.specs.Bytes.{u16_at}
 use Rattle.sd_view.specs.Descriptor.{IsAclPart}
 use Rattle.sd_view.specs.Inner.Found.{written_of}
-use Rattle.sd_view.specs.Reading.{acl_shown}
 use Rattle.sd_view.specs.WrittenForm.{AclIsWritten}
 use Rattle.sd_view.specs.declared.acl_part.AclPart.{AclPart}
 use Rattle.sd_view.specs.declared.acl_part.AclPart.TheVariants as acl
 use Rattle.sd_acl_view.specs.declared.acl.Written.{Written}
+use Rattle.sd_view.proofs.Parts.{acl_shown-stands}
 use Rattle.sd_view.proofs.laws.LayoutSizes.{acl_size-read}
 use Rattle.sd_view.proofs.view.written_at.Goals as goal
 
@@ -28,14 +26,6 @@ header-tells at rest aces h found = (
   acl_size-read at rest aces h found,
   ap (λ (xs : List ℕ). eqb (slice_index xs 0) 4) found ∙ revision-tells (has_object aces),
 )
-
--- an ACL is there
-there : (bytes : List ℕ) (present : Bool) (offset : ℕ) → present ≡ true → (offset ≡ 0 → ⊥)
-    → acl_shown bytes present offset ≡ acl.List (acl_of (acl_at_front (drop offset bytes)))
-unfolding acl_shown
-there bytes present offset e other =
-    let zero_test : eqb offset 0 ≡ false = grind (arith, nat_tests) in
-    rw (e, zero_test) refl
 
 -- and its header tells what its written form needs
 listed : (bytes : List ℕ) (present : Bool) (offset size : ℕ) (part : AclPart) (aces : List AccessControlEntry)
@@ -56,5 +46,5 @@ returns c =
     let rest = take_rest bytes offset in
     let count : c.from.result ≡ u16_at 2 (drop offset bytes) =
     c.from.ensures ∙ c.u16_at.ensures ∙ ap (u16_at 2) rest in
-    let found = there bytes c.args.present offset c.if-not-present.false c.if-offset-eq0.false in
+    let found = acl_shown-stands bytes c.args.present offset c.if-not-present.false c.if-offset-eq0.false in
     rw rest (listed bytes c.args.present offset c.from.result _ _ found c.requires.written c.requires.limits count)

@@ -1,8 +1,8 @@
 use Rattle.sd_sink.proofs.laws.PrintLemmas.{prints_then}
-use Rattle.sd_layout.proofs.layout.print_layout.Goals as goal
+use Rattle.sd_layout.proofs.layout.print_parts.Goals as goal
 
-pub returns-clause-printed : goal.returns-clause-printed
-returns-clause-printed g c =
+pub returns : goal.returns
+returns g c =
     rw (
       ← c.header_of.ensures.value,
       ← c.owner_bytes.ensures.value,
