@@ -1,6 +1,6 @@
 -- How each call of a builder goes on with what was built. A call's condition speaks of one draft; what the builder
 -- keeps shows that the condition then holds of each draft that it was given.
-use Rattle.std.proofs.Common.{◌≡◌, ◌≤◌, ◌<◌, ℕ, ◌+◌, ◌^◌, ◌||◌, Bool, false, List, [], ◌∷◌, ◌++◌, length, take, drop}
+use Rattle.std.proofs.Common.{◌≡◌, ◌≤◌, ◌<◌, ℕ, ◌+◌, ◌%◌, ◌^◌, ◌||◌, Bool, false, List, [], ◌∷◌, ◌++◌, length, take, drop}
 use Rattle.std.proofs.Common.{Option, Some, None, refl, sym, ap, subst, ◌∙◌, append_assoc, arith, length-append}
 use Rattle.std.specs.Prelude.{IsSome}
 use Rattle.std.specs.List.{flat_map}
@@ -35,7 +35,7 @@ use Rattle.sd_parts.specs.declared.part.SidPart.{SidPart}
 use Rattle.sd_parts.specs.declared.part.SidPart.TheVariants as sids
 use Rattle.sd_view.proofs.laws.ApartLaws.{six-apart}
 use Rattle.sd_acl_view.proofs.laws.AceLists.{all-more, size-more}
-use Rattle.sd_acl_view.proofs.laws.AclLayoutSizes.{aces-many, length-aces}
+use Rattle.sd_acl_view.proofs.laws.AclLayoutSizes.{acl_size-fourth, aces-many, length-aces}
 use Rattle.sd_builder.proofs.Order.{given-reopened, more-order, null-order, order-reopened}
 use Rattle.sd_builder.proofs.Standing.{IsOneMore, given-none, none-given, null-more, part-more, room, stands-last}
 
@@ -188,7 +188,7 @@ absent-given lists.Sacl t e = ap given_acl e
 absent-given lists.Dacl t e = ap given_acl e
 
 acl-left : (b : Builder) (bytes : List ℕ) (w : Which) (t : DraftParts) → PartsStand bytes b t → acl_for w t ≡ acl.Absent
-    → length bytes + 65535 ≤ 131226
+    → length bytes + 65538 ≤ 131226
 acl-left b bytes lists.Sacl t h e = (room bytes b t h).left part.Sacl (ap given_acl e)
 acl-left b bytes lists.Dacl t h e = (room bytes b t h).left part.Dacl (ap given_acl e)
 
@@ -305,7 +305,7 @@ record IsSized (b : Builder) (bytes : List ℕ) (t : Draft) (o : OpenAcl) : Type
   size : o.start + open_size t.parts ≡ length bytes
   small : open_size t.parts < 2 ^ 16
   count : o.count ≤ 4096
-  room : o.start + 65535 ≤ 131226
+  room : o.start + 65538 ≤ 131226
 
 sized : (b : Builder) (bytes : List ℕ) (t : Draft) (o : OpenAcl) → IsBegun b bytes t o → IsSized b bytes t o
 sized b bytes t o h =
@@ -327,12 +327,19 @@ pub open-size : (b : Builder) (bytes : List ℕ) (t : Draft) (o : OpenAcl) → B
 unfolding Builds
 open-size b bytes t o h e = (sized b bytes t o (is_begun b bytes t o h e)).size
 
+pub open-fourth : (b : Builder) (bytes : List ℕ) (t : Draft) (o : OpenAcl) → Builds b bytes t → b.open ≡ Some o
+    → open_size t.parts % 4 ≡ 0
+unfolding Builds
+open-fourth b bytes t o h e =
+    let found = is_begun b bytes t o h e in
+    ap (λ (x : Option (Which × List AccessControlEntry)). open_size_in x % 4) found.given ∙ acl_size-fourth found.aces
+
 -- what safety needs of it
 pub record IsRoomy (bytes : List ℕ) (o : OpenAcl) : Type 0 where
   pub start : o.start + 8 ≤ length bytes
   pub size : length bytes < o.start + 2 ^ 16
   pub count : o.count ≤ 4096
-  pub room : o.start + 65535 ≤ 131226
+  pub room : o.start + 65538 ≤ 131226
 
 pub open-roomy : (b : Builder) (bytes : List ℕ) (t : Draft) (o : OpenAcl) → Builds b bytes t → b.open ≡ Some o
     → IsRoomy bytes o

@@ -22,7 +22,7 @@ use Rattle.sd_parts.specs.declared.part.Part.{Part}
 use Rattle.sd_parts.specs.declared.part.Part.TheVariants as part
 use Rattle.sd_parts.proofs.laws.PartLaws.{each-part, get-other, get-set}
 use Rattle.sd_view.proofs.laws.ApartLaws.{apart-with}
-use Rattle.sd_acl_view.proofs.laws.AclLayoutSizes.{length-acl_bytes}
+use Rattle.sd_acl_view.proofs.laws.AclLayoutSizes.{acl_size-most, length-acl_bytes}
 
 -- what stands in some bytes stands in others
 abbrev pub Kept : List ℕ → List ℕ → Type 0
@@ -114,18 +114,19 @@ sid-most bytes None (Some s) h = absurd (cc)
 sid-most bytes (Some offset) (Some s) h = omega (arith, h.0.count, length-sid_bytes s)
 
 acl-most : (bytes : List ℕ) (offset : Option ℕ) (p : AclPart) → PartStands bytes offset (given_acl p)
-    → length (given_bytes (given_acl p)) ≤ 65535
+    → length (given_bytes (given_acl p)) ≤ 65532
 acl-most bytes offset acl.Absent h = omega arith
 acl-most bytes offset acl.Null h = omega arith
 acl-most bytes None (acl.List aces) h = absurd (cc)
-acl-most bytes (Some offset) (acl.List aces) h = omega (arith, h.0.fits, length-acl_bytes aces)
+acl-most bytes (Some offset) (acl.List aces) h = omega (arith, length-acl_bytes aces, acl_size-most aces h.0)
 
--- the bytes that a part has at most
+-- The bytes that there is room for, where a part is not given yet. For an ACL they are six more than it has at most,
+-- since the size of an ACL is a multiple of four.
 abbrev pub most_of : Part → ℕ
 most_of part.Owner = 68
 most_of part.Group = 68
-most_of part.Sacl = 65535
-most_of part.Dacl = 65535
+most_of part.Sacl = 65538
+most_of part.Dacl = 65538
 
 -- the header stands, and there is room for the parts that are not given yet
 pub record Room (bytes : List ℕ) (t : DraftParts) : Type 0 where

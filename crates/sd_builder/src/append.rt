@@ -1,10 +1,12 @@
 //! SIDs and ACEs appended to a buffer.
 
-ghost use Rattle.std.specs.Prelude.{◌≡◌, ◌≤◌, ◌+◌, ◌*◌, ◌/◌, ◌%◌, ◌∷◌, ◌++◌, length, false};
+ghost use Rattle.std.specs.Prelude.{◌≡◌, ◌≤◌, ◌+◌, ◌*◌, ◌/◌, ◌%◌, ◌∷◌, ◌++◌, length, take, false};
 ghost use Rattle.std.specs.List.{flat_map};
 ghost use Rattle.byteorder.specs.Endian.{big_bytes, little_bytes};
 ghost use Rattle.sd_ace.specs.Ace.{IsAce, ace_size};
+ghost use Rattle.sd_sid.specs.Account.{account_sid};
 ghost use Rattle.sd_sid.specs.Sid.{IsSid, sid_bytes, sid_size};
+ghost use Rattle.sd_sid.specs.SidText.{known_sid};
 ghost use Rattle.sd_kinds.specs.Kinds.{is_object};
 ghost use Rattle.sd_ace.specs.AceLayout.{ace_bytes, ace_front, guid_part, guids};
 ghost use Rattle.sd_builder.specs.AccountAce.{account_entry};
@@ -28,8 +30,20 @@ const ACCOUNT_SUBS_OFFSET: usize = FRONT_SIZE + 8;
 // The size of such an ACE for an account of a domain.
 const ACCOUNT_ACE_SIZE: usize = ACCOUNT_SUBS_OFFSET + 4 * ACCOUNT_SUBS;
 
+// The size of the SID of such an account.
+const ACCOUNT_SID_SIZE: usize = 8 + 4 * ACCOUNT_SUBS;
+
 // The first sub-authority of an account of a domain.
 const DOMAIN: u32 = 21;
+
+// Nearly every SID with a name has at most so many sub-authorities.
+const NAMED_SUBS: usize = 2;
+
+// The size of such a SID.
+const NAMED_SID_SIZE: usize = 8 + 4 * NAMED_SUBS;
+
+// The size of an ACE without object types for such a SID.
+const NAMED_ACE_SIZE: usize = FRONT_SIZE + NAMED_SID_SIZE;
 
 // Appends a SID (MS-DTYP 2.4.2.2). Inlined, since most of a descriptor's bytes are SIDs.
 #[inline(always)]
@@ -79,6 +93,38 @@ pub(crate) fn append_sid_at(buf: &mut SdBuf, sid: &Sid) -> u32
     let _ = sid.size();
     append_sid(buf, sid);
     offset
+}
+
+// The same for the SID of an account, whose numbers go into the buffer from where they were read.
+#[inline(always)]
+pub(crate) fn append_account_sid_at(buf: &mut SdBuf, account: Account) -> u32
+    requires { length buf.old + MOST_SID_SIZE ≤ CAPACITY }
+    ensures offset { result ≡ length buf.old }
+    ensures value { buf.new ≡ buf.old ++ sid_bytes (account_sid account) }
+    ensures limits { IsSid (account_sid account) }
+{
+    let offset = buf.bytes().len() as u32;
+    account.note_limits();
+    buf.append(&account_sid_bytes(account));
+    offset
+}
+
+// The bytes of the SID of an account.
+#[inline(always)]
+fn account_sid_bytes(account: Account) -> [u8; ACCOUNT_SID_SIZE]
+    ensures { result ≡ sid_bytes (account_sid account) }
+{
+    let subs = [
+        DOMAIN,
+        account.first,
+        account.second,
+        account.third,
+        account.last,
+    ];
+    let mut bytes = [0; ACCOUNT_SID_SIZE];
+    bytes[..8].copy_from_slice(&account_header());
+    bytes[8..].copy_from_slice(&account_subs(&subs));
+    bytes
 }
 
 // Appends an ACE (MS-DTYP 2.4.4).
@@ -145,17 +191,9 @@ fn account_ace_bytes(
     ensures { result ≡ ace_bytes (account_entry kind flags mask account) }
 {
     let _ = (kind, flags, mask);
-    let subs = [
-        DOMAIN,
-        account.first,
-        account.second,
-        account.third,
-        account.last,
-    ];
     let mut bytes = [0; ACCOUNT_ACE_SIZE];
     bytes[..FRONT_SIZE].copy_from_slice(&front.cells()[..FRONT_SIZE]);
-    bytes[FRONT_SIZE..ACCOUNT_SUBS_OFFSET].copy_from_slice(&account_header());
-    bytes[ACCOUNT_SUBS_OFFSET..].copy_from_slice(&account_subs(&subs));
+    bytes[FRONT_SIZE..].copy_from_slice(&account_sid_bytes(account));
     bytes
 }
 
@@ -191,37 +229,89 @@ pub(crate) fn append_named_ace(
     mask: u32,
     name: &WellKnown,
 )
-    requires room { length buf.old + ace_size (named_entry kind flags mask name.now) ≤ CAPACITY }
+    requires room { length buf.old + 4 + ace_size (named_entry kind flags mask name.now) ≤ CAPACITY }
     requires plain { is_object kind ≡ false }
     requires count { name.now.count ≤ MOST_KNOWN }
     ensures { buf.new ≡ buf.old ++ ace_bytes (named_entry kind flags mask name.now) }
 {
     let numbers = &name.subs[..name.count];
-    let size = (ACCOUNT_SUBS_OFFSET + 4 * numbers.len()) as u16;
-    let front = AceFront::of_fields(kind, flags, size, mask, 0);
-    buf.append(&named_front(kind, flags, mask, name, &front));
-    append_subs(buf, numbers);
+    let size = ACCOUNT_SUBS_OFFSET + 4 * numbers.len();
+    let front = AceFront::of_fields(kind, flags, size as u16, mask, 0);
+    // One number and two are copied alike, since a branch on the count is hard to predict. There is room for one number
+    // more than there are, but not for two.
+    if 0 < numbers.len() && numbers.len() <= NAMED_SUBS {
+        buf.append_front(&named_ace_cells(kind, flags, mask, name, &front), size);
+    } else {
+        buf.append(&front.cells()[..FRONT_SIZE]);
+        append_long_sid(buf, name);
+    }
 }
 
-// What stands before the numbers of such an ACE.
+// The bytes of such an ACE for a SID of one or two numbers, with room for two.
 #[inline(always)]
-fn named_front(
+fn named_ace_cells(
     kind: AceKind,
     flags: u8,
     mask: u32,
     name: &WellKnown,
     front: &AceFront,
-) -> [u8; ACCOUNT_SUBS_OFFSET]
+) -> [u8; NAMED_ACE_SIZE]
     requires front { front.now ≡ ace_front (named_entry kind flags mask name.now) }
     requires plain { is_object kind ≡ false }
-    requires count { name.now.count ≤ MOST_KNOWN }
-    ensures { result ≡ front.now ++ 1 ∷ name.now.count ∷ big_bytes 6 name.now.authority }
+    requires count { name.now.count ≤ NAMED_SUBS }
+    ensures { take (ace_size (named_entry kind flags mask name.now)) result
+        ≡ ace_bytes (named_entry kind flags mask name.now) }
 {
     let _ = (kind, flags, mask);
-    let mut bytes = [0; ACCOUNT_SUBS_OFFSET];
-    bytes[..FRONT_SIZE].copy_from_slice(&front.cells()[..FRONT_SIZE]);
-    bytes[FRONT_SIZE..].copy_from_slice(&named_header(name.authority, name.count as u8));
-    bytes
+    let mut cells = [0; NAMED_ACE_SIZE];
+    cells[..FRONT_SIZE].copy_from_slice(&front.cells()[..FRONT_SIZE]);
+    cells[FRONT_SIZE..].copy_from_slice(&named_sid_cells(name));
+    cells
+}
+
+// The bytes of the SID of a name that has at most two numbers, with room for two (MS-DTYP 2.4.2.2).
+#[inline(always)]
+fn named_sid_cells(name: &WellKnown) -> [u8; NAMED_SID_SIZE]
+    requires { name.now.count ≤ NAMED_SUBS }
+    ensures { take (sid_size (known_sid name.now)) result ≡ sid_bytes (known_sid name.now) }
+{
+    let mut cells = [0; NAMED_SID_SIZE];
+    cells[..8].copy_from_slice(&named_header(name.authority, name.count as u8));
+    cells[8..12].copy_from_slice(&name.subs[0].to_le_bytes());
+    cells[12..].copy_from_slice(&name.subs[1].to_le_bytes());
+    cells
+}
+
+// Appends the SID of a name, and returns its offset.
+#[inline(always)]
+pub(crate) fn append_named_sid_at(buf: &mut SdBuf, name: &WellKnown) -> u32
+    requires room { length buf.old + MOST_SID_SIZE ≤ CAPACITY }
+    requires count { name.now.count ≤ MOST_KNOWN }
+    ensures offset { result ≡ length buf.old }
+    ensures value { buf.new ≡ buf.old ++ sid_bytes (known_sid name.now) }
+    ensures limits { IsSid (known_sid name.now) }
+{
+    let offset = buf.bytes().len() as u32;
+    let numbers = &name.subs[..name.count];
+    note_limits(name.authority, numbers);
+    if numbers.len() <= NAMED_SUBS {
+        buf.append_front(&named_sid_cells(name), 8 + 4 * numbers.len());
+    } else {
+        append_long_sid(buf, name);
+    }
+    offset
+}
+
+// Appends the SID of a name, number by number. Apart, since few names have more than two.
+#[inline(never)]
+fn append_long_sid(buf: &mut SdBuf, name: &WellKnown)
+    requires room { length buf.old + sid_size (known_sid name.now) ≤ CAPACITY }
+    requires count { name.now.count ≤ MOST_KNOWN }
+    ensures { buf.new ≡ buf.old ++ sid_bytes (known_sid name.now) }
+{
+    let numbers = &name.subs[..name.count];
+    buf.append(&named_header(name.authority, name.count as u8));
+    append_subs(buf, numbers);
 }
 
 // What the SID of a name begins with: revision, count and identifier authority (MS-DTYP 2.4.2.2).

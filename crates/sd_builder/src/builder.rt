@@ -4,11 +4,13 @@ ghost use Rattle.std.specs.Prelude.{◌≡◌, ◌≤◌, ◌+◌, ◌/◌, ◌%
 ghost use Rattle.sd_ace.specs.Ace.{AccessControlEntry, IsAce, ace_size};
 ghost use Rattle.sd_ace.specs.AceLayout.{ace_bytes};
 ghost use Rattle.sd_kinds.specs.Kinds.{is_object};
+ghost use Rattle.sd_sid.specs.Account.{account_sid};
 ghost use Rattle.sd_parts.specs.declared.limits.TheConstants.{CAPACITY};
 ghost use Rattle.sd_builder.specs.AccountAce.{account_entry};
 ghost use Rattle.sd_builder.specs.NamedAce.{named_entry};
 ghost use Rattle.sd_builder.specs.Builds.{Builds};
 ghost use Rattle.sd_builder.specs.Inner.Building.{placed};
+ghost use Rattle.sd_sid.specs.SidText.{known_sid};
 ghost use Rattle.sd_view.specs.Descriptor.{Shows};
 ghost use Rattle.sd_view.specs.WrittenForm.{IsWrittenForm};
 ghost use Rattle.sd_builder.specs.Draft.{CanBegin, Draft, IsOpen, begun, built, built_bytes, ended, nothing_given};
@@ -16,8 +18,8 @@ ghost use Rattle.sd_builder.specs.Draft.{open_size, with_ace, with_acl, with_gro
 ghost use Rattle.sd_view.specs.declared.acl_part.AclPart.TheVariants as acl;
 
 use crate::append::{
-    account_ace_size, append_account_ace, append_ace, append_named_ace, append_sid_at,
-    named_ace_size,
+    account_ace_size, append_account_ace, append_account_sid_at, append_ace, append_named_ace,
+    append_named_sid_at, append_sid_at, named_ace_size,
 };
 use crate::changed::{ChangedAce, append_changed};
 use sd_ace::{Ace, AceParts};
@@ -97,6 +99,50 @@ impl Builder {
     {
         let offset = append_sid_at(buf, sid);
         self.keep(Part::Group, offset);
+    }
+
+    /// Appends the SID of the owner, as `owner` does, where it is an account's.
+    #[inline(always)]
+    pub fn account_owner(&mut self, buf: &mut SdBuf, account: Account)
+        requires { (t : Draft) × Builds self.old buf.old t × (t.parts.owner ≡ None) × (t.parts.«open» ≡ None) }
+        ensures value { (t : Draft) → Builds self.old buf.old t
+            → Builds self.new buf.new (with_owner (account_sid account) t) }
+    {
+        self.keep(Part::Owner, append_account_sid_at(buf, account));
+    }
+
+    /// Appends the SID of the primary group, as `group` does, where it is an account's.
+    #[inline(always)]
+    pub fn account_group(&mut self, buf: &mut SdBuf, account: Account)
+        requires { (t : Draft) × Builds self.old buf.old t × (t.parts.group ≡ None) × (t.parts.«open» ≡ None) }
+        ensures value { (t : Draft) → Builds self.old buf.old t
+            → Builds self.new buf.new (with_group (account_sid account) t) }
+    {
+        self.keep(Part::Group, append_account_sid_at(buf, account));
+    }
+
+    /// Appends the SID of the owner, as `owner` does, where two letters name it everywhere.
+    #[inline(always)]
+    pub fn named_owner(&mut self, buf: &mut SdBuf, name: &WellKnown)
+        requires count { name.now.count ≤ 6 }
+        requires held { (t : Draft) × Builds self.old buf.old t × (t.parts.owner ≡ None) × (t.parts.«open» ≡ None) }
+        ensures value { (t : Draft) → Builds self.old buf.old t
+            → Builds self.new buf.new (with_owner (known_sid name.now) t) }
+    {
+        let start = append_named_sid_at(buf, name);
+        self.keep(Part::Owner, start);
+    }
+
+    /// Appends the SID of the primary group, as `group` does, where two letters name it everywhere.
+    #[inline(always)]
+    pub fn named_group(&mut self, buf: &mut SdBuf, name: &WellKnown)
+        requires count { name.now.count ≤ 6 }
+        requires held { (t : Draft) × Builds self.old buf.old t × (t.parts.group ≡ None) × (t.parts.«open» ≡ None) }
+        ensures value { (t : Draft) → Builds self.old buf.old t
+            → Builds self.new buf.new (with_group (known_sid name.now) t) }
+    {
+        let start = append_named_sid_at(buf, name);
+        self.keep(Part::Group, start);
     }
 
     /// Begins an ACL (MS-DTYP 2.4.5), to which `ace` appends, until `end_acl`.
@@ -219,6 +265,9 @@ impl Builder {
         requires { (t : Draft) × Builds self.old buf.now t × IsOpen t.parts }
         ensures full { (t : Draft) → Builds self.old buf.now t → (IsErr result ↔ (2 ^ 16 ≤ open_size t.parts + size)) }
         ensures room { OnOk result (length buf.now + size ≤ CAPACITY) }
+        // The size of an ACE is a multiple of four, so an ACL has at most 65,532 bytes.
+        ensures spare { (a : AccessControlEntry) → size ≡ ace_size a
+            → OnOk result (length buf.now + 4 + size ≤ CAPACITY) }
         ensures ok { (t : Draft) (a : AccessControlEntry) → Builds self.old buf.now t
             → IsAce a → size ≡ ace_size a → object ≡ is_object a.kind
             → OnOk result (Builds self.new (buf.now ++ ace_bytes a) (record t { parts = with_ace a t.parts })) }

@@ -10,18 +10,26 @@ use std::array;
 /// How many domains are kept at most.
 const SLOTS: usize = 32;
 
-/// The front of an account's text, up to the eight bytes behind `S-1-5-21-` that tell its slot. In most domains these
+/// The places of domains. There are more of them than slots, so that few domains share one.
+const PLACES: usize = 128;
+
+/// The front of an account's text, up to the eight bytes behind `S-1-5-21-` that tell its place. In most domains these
 /// are digits of the first number.
 const TOLD: usize = 17;
 
-/// What spreads these bytes over the slots.
+/// What spreads these bytes over the places.
 const SPREAD: u64 = 0x9e37_79b9_7f4a_7c15;
 
-/// Up to 32 domains, each in the slot that those bytes tell. Most files have accounts of two or three domains in
-/// turn.
+/// Up to 32 domains, each in the slot of its place. A place gets the next slot where a domain of it is noted first. So
+/// the first 32 domains have slots of their own, unless two have one place. Most files have accounts of two or three
+/// domains in turn.
 #[derive(Drop)]
 pub struct KeptDomains {
     slots: [KeptDomain; SLOTS],
+    // The slot of each place, counted from 1, or 0 where it has none yet.
+    places: [u8; PLACES],
+    // The slot that was given last, or 0.
+    given: u8,
 }
 
 impl KeptDomains {
@@ -31,6 +39,8 @@ impl KeptDomains {
     {
         KeptDomains {
             slots: array::from_fn(|_| KeptDomain::none()),
+            places: [0; PLACES],
+            given: 0,
         }
     }
 
@@ -43,7 +53,7 @@ impl KeptDomains {
         ensures within { IfSome result (λ r. r.1 ≤ length text.now) }
         ensures domain { IfSome result (λ r. IsKept (take r.1 text.now) r.0) }
     {
-        front_account(text, &self.slots[slot_of(text)])
+        front_account(text, &self.slots[self.slot_of(text)])
     }
 
     /// Notes an account that was read, with the text of its domain, or no text where its domain is kept.
@@ -53,20 +63,54 @@ impl KeptDomains {
         ensures { (slot : ℕ) × (slot < 32) × (self.new.slots
             ≡ set self.old.slots slot (noted (get_or self.old.slots slot no_domain) text.now account)) }
     {
-        self.slots[slot_of(text)].note(text, account);
+        let slot = self.slot_to_note(text);
+        self.slots[slot].note(text, account);
+    }
+
+    // The slot of the domain of an account.
+    #[inline(always)]
+    fn slot_of(&self, text: &[u8]) -> usize
+        ensures { result < 32 }
+    {
+        match place_of(text) {
+            Some(place) => slot_in(self.places[place]),
+            None => 0,
+        }
+    }
+
+    // The same. Its place gets a slot if it has none yet.
+    #[inline(always)]
+    fn slot_to_note(&mut self, text: &[u8]) -> usize
+        ensures slot { result < 32 }
+        ensures same { self.new.slots ≡ self.old.slots }
+    {
+        let Some(place) = place_of(text) else {
+            return 0;
+        };
+        if self.places[place] == 0 {
+            self.given = self.given % SLOTS as u8 + 1;
+            self.places[place] = self.given;
+        }
+        slot_in(self.places[place])
     }
 }
 
-// The slot of the domain of an account.
+// The slot that is meant by a count from 1.
 #[inline(always)]
-fn slot_of(text: &[u8]) -> usize
+fn slot_in(count: u8) -> usize
     ensures { result < 32 }
 {
-    let Some(told) = text.first_chunk::<TOLD>() else {
-        return 0;
-    };
+    usize::from(count) % SLOTS
+}
+
+// The place of the domain of an account, if the text is long enough to tell one.
+#[inline(always)]
+fn place_of(text: &[u8]) -> Option<usize>
+    ensures { IfSome result (λ place. place < 128) }
+{
+    let told = text.first_chunk::<TOLD>()?;
     let bytes = u64::from_le_bytes([
         told[9], told[10], told[11], told[12], told[13], told[14], told[15], told[16],
     ]);
-    (bytes.wrapping_mul(SPREAD) / (1 << 59)) as usize
+    Some((bytes.wrapping_mul(SPREAD) / (1 << 57)) as usize)
 }

@@ -9,5 +9,6 @@ mod slot;
 
 pub use fault::SddlFault;
 pub use kept::KeptDomains;
+pub use name::front_name;
 pub use reading::{FieldReader, fault_of};
 pub use slot::{AceField, Head, Slot};

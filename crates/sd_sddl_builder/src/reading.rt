@@ -148,6 +148,41 @@ impl FieldReader {
         }
     }
 
+    /// Takes the SID of an owner or a group that is an account. Its numbers are not kept in a SID on their way.
+    #[inline(always)]
+    pub fn put_account_sid(&mut self, buf: &mut SdBuf, part: SidPart, account: Account)
+        requires { (t : FieldsRead) × HasReadFields self.old buf.old t × Lacks (head.Sid part) t }
+        ensures held { (t : FieldsRead) → HasReadFields self.old buf.old t
+            → HasReadFields self.new buf.new (with_owner_or_group part t (account_sid account)) }
+        ensures domain { self.new.domain ≡ self.old.domain }
+    {
+        self.close_acl(buf);
+        if self.large.is_none() {
+            match part {
+                SidPart::Owner => self.builder.account_owner(buf, account),
+                SidPart::Group => self.builder.account_group(buf, account),
+            }
+        }
+    }
+
+    /// Takes the SID of an owner or a group that two letters name everywhere.
+    #[inline(always)]
+    pub fn put_named_sid(&mut self, buf: &mut SdBuf, part: SidPart, name: &WellKnown)
+        requires count { name.now.count ≤ 6 }
+        requires held { (t : FieldsRead) × HasReadFields self.old buf.old t × Lacks (head.Sid part) t }
+        ensures held { (t : FieldsRead) → HasReadFields self.old buf.old t
+            → HasReadFields self.new buf.new (with_owner_or_group part t (known_sid name.now)) }
+        ensures domain { self.new.domain ≡ self.old.domain }
+    {
+        self.close_acl(buf);
+        if self.large.is_none() {
+            match part {
+                SidPart::Owner => self.builder.named_owner(buf, name),
+                SidPart::Group => self.builder.named_group(buf, name),
+            }
+        }
+    }
+
     // Ends the ACL at hand, where one is open.
     fn close_acl(&mut self, buf: &mut SdBuf)
         requires { (t : FieldsRead) × HasReadFields self.old buf.old t }
@@ -415,7 +450,8 @@ impl FieldReader {
             self.new buf.new rest.now) }
         ensures domain { self.new.domain ≡ self.old.domain }
     {
-        let (name, rest) = front_name(text)?;
+        let (name, end) = front_name(text)?;
+        let rest = after(end, b")")?;
         self.ace = AceFields {
             flags,
             mask,

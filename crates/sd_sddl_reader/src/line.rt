@@ -5,15 +5,16 @@ ghost use Rattle.std.specs.Str.{byte as char};
 ghost use Rattle.std.specs.List.{list_all};
 ghost use Rattle.sd_sddl_fields.specs.Held.{is_plain_text};
 ghost use Rattle.sd_sddl_reader.specs.Inner.Progress.{is_plain_outside};
-ghost use Rattle.sd_sddl_reader.specs.Inner.WholePart.{AccountBefore, FrontBefore, HeadAfter, IsPlainText};
+ghost use Rattle.sd_sddl_reader.specs.Inner.WholePart.{AccountBefore, FrontBefore, HeadAfter, IsPlainText, NamedBefore};
 ghost use Rattle.sd_sddl_builder.specs.Line.{head_of};
 ghost use Rattle.sd_sddl_builder.specs.FoldedReading.{next_field};
 ghost use Rattle.sd_sddl_reader.specs.Inner.Heads.{have_heads};
 ghost use Rattle.sd_sddl_reader.specs.Inner.Progress.{state_of};
 ghost use Rattle.sd_text.specs.Limits.{most_field};
 
+use sd_alias::WellKnown;
 use sd_parts::{AclFlags, SidPart, Which};
-use sd_sddl_builder::{AceField, Head, KeptDomains};
+use sd_sddl_builder::{AceField, Head, KeptDomains, front_name};
 use sd_sddl_fields::{AclFront, NO_FLAGS, after, is_plain_text, plain_text};
 use sd_sid::Account;
 use sd_text::MOST_FIELD_SIZE;
@@ -176,6 +177,18 @@ pub fn next_account<'a>(text: &'a [u8], kept: &KeptDomains) -> Option<(Account, 
     let (account, _, behind) = kept.front_account(text)?;
     let (_, head, rest) = front_head(behind)?;
     Some((account, head, rest))
+}
+
+/// The SID that two letters at the front of a text name everywhere, the head that ends them, and what follows its
+/// colon. Where it is `None`, `next_head` decides.
+#[inline(always)]
+pub fn next_named(text: &[u8]) -> Option<(&'static WellKnown, Head, &[u8])>
+    ensures found { IfSome result (λ r. NamedBefore r.0.now r.1 r.2.now text.now) }
+    ensures count { IfSome result (λ r. r.0.now.count ≤ 6) }
+{
+    let (name, end) = front_name(text)?;
+    let (_, head, rest) = front_head(end)?;
+    Some((name, head, rest))
 }
 
 /// The flags of an ACL at the front of a text, if they are those that most ACLs have, and what follows the parenthesis

@@ -9,7 +9,9 @@ ghost use Rattle.sd_sddl_reader.specs.Inner.WholePart.{IsPlainText};
 ghost use Rattle.sd_sddl_reader.specs.Inner.Progress.{is_inside};
 ghost use Rattle.sd_sddl_reader.specs.Inner.Reads.{Feeds, IsFresh, IsReader};
 
-use crate::line::{State, first_parenthesis, front_head, next_account, next_head, usual_front};
+use crate::line::{
+    State, first_parenthesis, front_head, next_account, next_head, next_named, usual_front,
+};
 use crate::reader::SddlReader;
 use sd_buffer::SdBuf;
 use sd_parts::{SidPart, Which};
@@ -151,35 +153,35 @@ impl SddlReader {
         requires reader { IsReader self.old buf.old }
         ensures { Feeds self.old buf.old text.now self.new buf.new result.now }
     {
-        if let Some(rest) = self.feed_account(buf, part, text) {
+        if let Some(rest) = self.feed_usual(buf, part, text) {
             return rest;
         }
         self.feed_other_sid(buf, part, text)
     }
 
-    // The same for an account of a domain. If no such SID is whole in the text, nothing changes.
+    // The same for an account of a domain, or a name that means one SID everywhere. If no such SID is whole in the
+    // text, nothing changes.
     #[inline(always)]
-    fn feed_account<'a>(
-        &mut self,
-        buf: &mut SdBuf,
-        part: SidPart,
-        text: &'a [u8],
-    ) -> Option<&'a [u8]>
+    fn feed_usual<'a>(&mut self, buf: &mut SdBuf, part: SidPart, text: &'a [u8]) -> Option<&'a [u8]>
         requires here { self.old.state ≡ State.Sid part }
         requires fresh { IsFresh self.old }
         requires reader { IsReader self.old buf.old }
         ensures { MatchOption result ((self.new ≡ self.old) × (buf.new ≡ buf.old))
             (λ rest. Feeds self.old buf.old text.now self.new buf.new rest.now) }
     {
-        // A name such as BA has a letter where the text of an account has its first dash.
-        if text.len() < 2 || text[1] != b'-' {
+        if text.len() < 2 {
             return None;
         }
-        let rest = self.put_account(buf, part, text)?;
+        // A name such as BA has a letter where the text of an account has its first dash.
+        if text[1] == b'-' {
+            let rest = self.put_account(buf, part, text)?;
+            return Some(rest);
+        }
+        let rest = self.put_named(buf, part, text)?;
         Some(rest)
     }
 
-    // The same. Apart, so that other SIDs keep their registers.
+    // The same for an account. Apart, so that other SIDs keep their registers.
     #[inline(never)]
     fn put_account<'a>(
         &mut self,
@@ -194,7 +196,22 @@ impl SddlReader {
             (λ rest. Feeds self.old buf.old text.now self.new buf.new rest.now) }
     {
         let (account, head, rest) = next_account(text, &self.fields.kept)?;
-        self.fields.put_sid(buf, part, &account.sid());
+        self.fields.put_account_sid(buf, part, account);
+        self.note_head(head);
+        Some(rest)
+    }
+
+    // The same for a name. The SID's numbers come from the table of names.
+    #[inline(never)]
+    fn put_named<'a>(&mut self, buf: &mut SdBuf, part: SidPart, text: &'a [u8]) -> Option<&'a [u8]>
+        requires here { self.old.state ≡ State.Sid part }
+        requires fresh { IsFresh self.old }
+        requires reader { IsReader self.old buf.old }
+        ensures { MatchOption result ((self.new ≡ self.old) × (buf.new ≡ buf.old))
+            (λ rest. Feeds self.old buf.old text.now self.new buf.new rest.now) }
+    {
+        let (name, head, rest) = next_named(text)?;
+        self.fields.put_named_sid(buf, part, name);
         self.note_head(head);
         Some(rest)
     }

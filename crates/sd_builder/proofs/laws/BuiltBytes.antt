@@ -13,7 +13,7 @@ use Rattle.sd_view.specs.declared.acl_part.AclPart.TheVariants as acl
 use Rattle.sd_parts.specs.declared.part.Part.{Part}
 use Rattle.sd_parts.specs.declared.part.Part.TheVariants as part
 use Rattle.sd_view.proofs.laws.LayoutSizes.{length-acl_part, length-sid_part}
-use Rattle.sd_layout.proofs.laws.LayoutLaws.{offset-stands}
+use Rattle.sd_view.proofs.laws.Places.{offset-stands}
 use Rattle.sd_builder.specs.Builds.{Builds}
 use Rattle.sd_builder.specs.Draft.{Draft, DraftParts, built, built_bytes, is_present, offset_among, part_bytes}
 use Rattle.sd_parts.specs.Parts.{same_part}

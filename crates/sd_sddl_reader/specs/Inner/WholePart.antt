@@ -2,9 +2,10 @@
 use Rattle.std.specs.Prelude.{◌≡◌, ℕ, ◌≤◌, true, List, ◌∷◌, ◌++◌, length, Option, Some, Ok, false}
 use Rattle.std.specs.List.{list_all}
 use Rattle.std.specs.Str.{byte as char}
+use Rattle.sd_alias.specs.declared.table.WellKnown.{WellKnown}
 use Rattle.sd_sid.specs.Account.{account_sid}
 use Rattle.sd_sid.specs.Sid.{SecurityId}
-use Rattle.sd_sid.specs.SidText.{sid_reads}
+use Rattle.sd_sid.specs.SidText.{known_sid, sid_reads}
 use Rattle.sd_sid.specs.declared.account.Account.{Account}
 use Rattle.sd_text.specs.Limits.{most_field}
 use Rattle.sd_sddl_builder.specs.Line.{head_of}
@@ -30,6 +31,12 @@ pub record AccountBefore (account : Account) (head : Head) (rest text : List ℕ
   pub field : List ℕ
   pub before : HeadAfter field head rest text
   pub reads : (domain : Option SecurityId) → sid_reads field domain ≡ Ok (account_sid account)
+
+-- two letters that name a SID everywhere, a head that ends them, and a rest
+pub record NamedBefore (name : WellKnown) (head : Head) (rest text : List ℕ) : Type 0 where
+  pub field : List ℕ
+  pub before : HeadAfter field head rest text
+  pub reads : (domain : Option SecurityId) → sid_reads field domain ≡ Ok (known_sid name)
 
 -- a text that reads as the flags of an ACL that is not null, the parenthesis that ends it, and a rest
 pub record FrontBefore (front : AclFront) (rest text : List ℕ) : Type 0 where

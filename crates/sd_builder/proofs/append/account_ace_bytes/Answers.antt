@@ -12,9 +12,7 @@ returns c =
     rw (
       c.copy_from_slice.ensures.after,
       c.copy_from_slice-2.ensures.after,
-      c.copy_from_slice-3.ensures.after,
-      c.account_header.ensures,
-      c.account_subs.ensures,
+      c.account_sid_bytes.ensures,
       front,
       c.requires.plain,
     ) refl

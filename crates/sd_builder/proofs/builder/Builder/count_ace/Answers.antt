@@ -1,7 +1,8 @@
 use Rattle.std.proofs.Common.{◌<◌, ◌+◌, length, refl, ap, arith}
 use Rattle.sd_ace.specs.Ace.{ace_size}
+use Rattle.sd_acl_view.proofs.laws.AclLayoutSizes.{ace_size-fourth}
 use Rattle.sd_builder.specs.Draft.{open_size}
-use Rattle.sd_builder.proofs.Building.{ace-builds, is-open, open-roomy, open-size}
+use Rattle.sd_builder.proofs.Building.{ace-builds, is-open, open-fourth, open-roomy, open-size}
 use Rattle.sd_builder.proofs.builder.Builder.count_ace.Goals as goal
 
 pub unwrap-open-requires : goal.unwrap-open-requires
@@ -31,6 +32,16 @@ pub returns-in-Some-clause-room : goal.returns-in-Some-clause-room
 returns-in-Some-clause-room c =
     let r = open-roomy _ _ c.requires.0 _ c.requires.1 c.unwrap-open.ensures in
     omega (arith, r.start, r.room, ap length c.bytes.ensures.value)
+
+pub returns-in-Some-clause-spare : goal.returns-in-Some-clause-spare
+returns-in-Some-clause-spare c =
+    λ a of_size.
+    let t = c.requires.0 in
+    let r = open-roomy _ _ t _ c.requires.1 c.unwrap-open.ensures in
+    let size = open-size _ _ t _ c.requires.1 c.unwrap-open.ensures in
+    let fourth = open-fourth _ _ t _ c.requires.1 c.unwrap-open.ensures in
+    let four = ace_size-fourth a in
+    omega (arith, r.start, r.room, size, fourth, of_size, four.0, ap length c.bytes.ensures.value)
 
 pub returns-in-Some-clause-ok : goal.returns-in-Some-clause-ok
 returns-in-Some-clause-ok c =

@@ -1,4 +1,5 @@
 use Rattle.std.proofs.Common.{◌++◌, refl, ap, length, length-append, arith}
+use Rattle.sd_sid.specs.Account.{account_sid}
 use Rattle.sd_sddl_builder.specs.FoldedReading.{take_field, with_owner_or_group}
 use Rattle.sd_sddl_builder.proofs.laws.WholeTexts.{whole-readable}
 use Rattle.sd_sddl_reader.proofs.WholeFields.{fed-on, reader-at}
@@ -13,17 +14,17 @@ returns c =
     let at = c.in_ok-account.ensures in
     let plain = at.before.whole in
     let noted = c.note_head.ensures in
-    let taken : SddlReader = record s { fields = c.put_sid.new.self } in
+    let taken : SddlReader = record s { fields = c.put_account_sid.new.self } in
     let readable = whole-readable at.field (text-inside at.field plain.plain) plain.fits in
-    let over = steps-sid s taken c.note_head.new.self c.args.buf.now c.put_sid.new.buf at.field c.in_ok-account.rest.now
+    let over = steps-sid s taken c.note_head.new.self c.args.buf.now c.put_account_sid.new.buf at.field c.in_ok-account.rest.now
     c.args.text.now c.args.part c.in_ok-account.head c.requires.here c.requires.fresh at.before
     (record {
       read = λ t k. (
-        with_owner_or_group c.args.part t c.sid.result,
-        λ none. c.put_sid.ensures.held t k,
-        rw (c.requires.fresh.clear, c.sid.ensures.value, readable, at.reads s.fields.domain) refl,
+        with_owner_or_group c.args.part t (account_sid c.in_ok-account.account),
+        λ none. c.put_account_sid.ensures.held t k,
+        rw (c.requires.fresh.clear, readable, at.reads s.fields.domain) refl,
       );
-      domain = c.put_sid.ensures.domain;
+      domain = c.put_account_sid.ensures.domain;
       same = refl;
     })
     (record {
@@ -36,9 +37,9 @@ returns c =
     let e = over.steps c.requires.reader.read c.requires.reader.held in
     record {
       shorter = omega (arith, ap length over.stands, length-append over.bytes c.in_ok-account.rest.now);
-      reader = reader-at c.note_head.new.self c.put_sid.new.buf over.field over.pending e.0 e.1;
+      reader = reader-at c.note_head.new.self c.put_account_sid.new.buf over.field over.pending e.0 e.1;
       read = λ domain before h.
-          fed-on s c.note_head.new.self c.args.buf.now c.put_sid.new.buf domain over.bytes c.in_ok-account.rest.now
+          fed-on s c.note_head.new.self c.args.buf.now c.put_account_sid.new.buf domain over.bytes c.in_ok-account.rest.now
           c.args.text.now (before ++ c.args.text.now) c.requires.fresh.none over.pending over.steps over.stands
           (before, h, refl);
     }

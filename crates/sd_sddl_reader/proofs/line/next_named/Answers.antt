@@ -1,0 +1,18 @@
+use Rattle.std.proofs.Common.{◌∙◌, ap, arith, ◌++◌}
+use Rattle.sd_sddl_reader.proofs.WholeParts.{sid-bytes-text}
+use Rattle.sd_sddl_reader.proofs.line.next_named.Goals as goal
+
+pub returns-clause-found : goal.returns-clause-found
+returns-clause-found c =
+    let at = c.in_ok-name.ensures.found in
+    let next = c.in_ok-head.ensures.found in
+    record {
+      field = at.field;
+      before = record {
+        whole = record { plain = sid-bytes-text at.field at.plain; fits = omega (arith, at.short) };
+        letter = _;
+        stands = at.stands ∙ ap (λ t. at.field ++ t) next.1;
+        names = next.0;
+      };
+      reads = at.reads;
+    }
