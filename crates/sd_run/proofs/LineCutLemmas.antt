@@ -7,7 +7,7 @@ use Rattle.std.specs.Prelude.{not}
 use Rattle.std.specs.List.{prefix_len}
 use Rattle.std.proofs.lemmas.Bool.{cases_lt}
 use Rattle.std.proofs.lemmas.Bool.Decides.{nat_tests}
-use Rattle.std.proofs.lemmas.List.Sums.{prefix_len_passes, prefix_len_stops}
+use Rattle.std.proofs.lemmas.List.Sums.{prefix_len_passes}
 use Rattle.std.proofs.lemmas.List.Elements.{All-from_get_or}
 use Rattle.std.proofs.lemmas.List.Folds.{list_any_at, list_any_none}
 use Rattle.sd_run.specs.Lines.{IsCut, LinesAreCut, LineCut, cut_at_line_feeds, onto_first_line, ended, has_lf}
@@ -180,14 +180,5 @@ none-before bytes k low e =
     let no : false ≡ true = rw e at p in
     absurd cc
 
-is-lf : (b : ℕ) → not (b == 10) ≡ false → b ≡ 10
+pub is-lf : (b : ℕ) → not (b == 10) ≡ false → b ≡ 10
 is-lf b e = grind (arith, nat_tests)
-
-pub lf-there : (bytes : List ℕ) (k : ℕ) → k < length bytes → get_or bytes k 0 ≡ 10
-    → (before_lf bytes < length bytes) × (get_or bytes (before_lf bytes) 0 ≡ 10)
-lf-there bytes k within e =
-    let low : before_lf bytes < length bytes = elim (cases_lt k (before_lf bytes)) [
-      | inl h ↦ absurd (none-before bytes k h e)
-      | inr h ↦ omega (arith, h, within)
-    ] in
-    (low, is-lf (get_or bytes (before_lf bytes) 0) (prefix_len_stops (λ (b : ℕ). not (b == 10)) bytes 0 low))
