@@ -80,6 +80,8 @@ struct Memory {
 }
 
 impl Memory {
+    // Apart, so that what is moved on the way takes no stack while a run is prepared.
+    #[inline(never)]
     fn new(alloc: Global) -> Result<Memory, NoMemory>
         ensures { IfOk result (λ memory. (memory.token.holder ≡ nobody) × (memory.token.compared ≡ 0)) }
     {
@@ -147,35 +149,18 @@ pub fn prepare(alloc: Global, words: &[String]) -> Result<Prepared, Stop>
     ensures kinds { steps.PreparesBy (map string_bytes words.now) result }
 {
     let matches = parse_words(alloc, words)?;
-    settle_with(&matches, Memory::new(alloc))
+    settle(&matches, Memory::new(alloc))
 }
 
-// What the matches settle, if there is memory. Apart, so that what is moved on the way takes no stack while words are read.
+// What the matches settle, if there is memory. Apart, so that what is moved on the way takes no stack while words are
+// read; and in one function, since a result that is handed on would be moved once more.
 #[inline(never)]
-fn settle_with(matches: &ArgMatches<'_>, memory: Result<Memory, NoMemory>) -> Result<Prepared, Stop>
+#[tactic(auto, unfolding(crate::specs::Settings::with_creator))]
+fn settle(matches: &ArgMatches<'_>, memory: Result<Memory, NoMemory>) -> Result<Prepared, Stop>
     requires { IfOk memory (λ memory. (memory.token.holder ≡ nobody) × (memory.token.compared ≡ 0)) }
     ensures { MatchResult memory
         (λ _. steps.Settles (settings (subcommand_rows_of matches.now)) result)
         (λ _. result ≡ Err (Early early.NoMemory)) }
-{
-    match memory {
-        Ok(memory) => match settle(matches, memory) {
-            Ok(prepared) => Ok(prepared),
-            Err(fault) => Err(Stop::Value(fault)),
-        },
-        Err(_) => Err(Stop::Early(EarlyEnd::NoMemory)),
-    }
-}
-
-// What the matches settle.
-#[tactic(auto, unfolding(crate::specs::Settings::with_creator))]
-fn settle(matches: &ArgMatches<'_>, memory: Memory) -> Result<Prepared, UsageFault>
-    requires nobody { memory.token.holder ≡ nobody }
-    requires none_compared { memory.token.compared ≡ 0 }
-    ensures settled { MatchResult result
-        (λ prepared. settings (subcommand_rows_of matches.now) ≡ Ok (steps.settled prepared))
-        (λ fault. settings (subcommand_rows_of matches.now) ≡ Err fault) }
-    ensures compared { IfOk result (λ prepared. prepared.token.compared ≡ 0) }
 {
     let Memory {
         mut token,
@@ -183,14 +168,19 @@ fn settle(matches: &ArgMatches<'_>, memory: Memory) -> Result<Prepared, UsageFau
         written,
         creator,
         held,
-    } = memory;
+    } = match memory {
+        Ok(memory) => memory,
+        Err(_) => return Err(Stop::Early(EarlyEnd::NoMemory)),
+    };
     let choice = match choose(matches, &mut token) {
         Ok(choice) => choice,
-        Err(fault) => return Err(fault),
+        Err(fault) => return Err(Stop::Value(fault)),
     };
     let mut engine = Engine::over(choice.job, read, written, creator, held);
-    give_creator(&mut engine, choice.creator)?;
-    Ok(Prepared { engine, token })
+    match give_creator(&mut engine, choice.creator) {
+        Ok(()) => Ok(Prepared { engine, token }),
+        Err(fault) => Err(Stop::Value(fault)),
+    }
 }
 
 // Answers the input, if there is nothing against it.
