@@ -34,7 +34,7 @@ import reference  # noqa: E402
 SECONDS = 1200  # for one run
 MANY = 1_000_000
 FIRST_CALLS, LAST_CALLS = 300, 20  # that fail in turn; a program that is as it should be makes no more
-PIECE = 8192  # bytes that the program asks for in a read
+PIECE = 65_536  # bytes that the program asks for in a read
 READ_FAULTS = [errno.EIO, errno.EAGAIN, errno.EINTR, errno.EBADF, errno.ETIMEDOUT, errno.ENOMEM]
 # (0: the write takes nothing.)
 WRITE_FAULTS = [0, errno.EIO, errno.EAGAIN, errno.ENOSPC, errno.EPIPE, errno.ETIMEDOUT, errno.ENOMEM]

@@ -14,8 +14,8 @@ A bug in code and definition alike passes every contract, since contracts only c
 have their values from elsewhere. So neither code nor contract is looked at here: a change counts as refused only if a
 row fails over the changed definitions. The rows tried are those of the crate itself, or of the crates that --rows
 lists, but for those that name a proof of their own crate. Tables are changed too, where a definition cites them. Left
-out are files that code alone cites (specs/Inner, FieldReading and WholeAce), tables written out again (*Values.antt), and
-FoldedReading.antt, which a law proves equal to another definition.
+out are files that code alone cites (specs/Inner, FieldReading, NamedSid and WholeAce), tables written out again
+(*Values.antt), and FoldedReading.antt, which a law proves equal to another definition.
 
 Many changes are judged at once: each changed file, what depends on it and the rows become modules in a copy of the
 crate that has the rows, and `rt check --only` runs there. So they may name the private types of that crate. Only rows
@@ -54,7 +54,7 @@ USE = re.compile(r"^use (Rattle\.[\w.]+?)(?:\.\{([^}]*)\}| as (\w+))\s*$")
 MODULE_OF_USE = re.compile(r"^use (Rattle\.[\w.]+?)(?=\.\{| as )", re.M)
 SIGNATURE = re.compile(r"^(?:abbrev |unfoldable )?(?:pub )?([\w◌>=«»]+) : (.*)$")
 VARIANTS = re.compile(r"Rattle\.(\w+)\.specs\.declared\.(?:\w+\.)*(\w+)\.TheVariants$")
-NOT_CHANGED = re.compile(r"Values$|\.specs\.Inner\.|\.(?:FieldReading|WholeAce|FoldedReading)$")
+NOT_CHANGED = re.compile(r"Values$|\.specs\.Inner\.|\.(?:FieldReading|NamedSid|WholeAce|FoldedReading)$")
 TOKEN = re.compile(r'codes "((?:[^"\\]|\\.)*)"|char "((?:[^"\\]|\\.)*)"|"(?:[^"\\]|\\.)*"'
                    r"|(?<![\w.◌])(0x[0-9A-Fa-f_]+|\d[\d_]*)(?!\w)|(?<![\w◌])([A-Za-z_«][\w»]*(?:\.[\w«»]+)*)"
                    r"|&&|\|\||≤|<")

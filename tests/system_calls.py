@@ -2,8 +2,8 @@
 """system_calls.py PROGRAM
 
 Counts the program's reads and writes, by the library faults.c that is preloaded under it, and holds them to a limit:
-a read for each 8 KiB of the input, and a write for each read and for each 16 KiB of the output. So an answer of many
-bytes goes out in few writes, and so do the answers to many lines that were read at once.
+a read for each 64 KiB of the input, and a write for each read and for each 64,000 bytes of the output. So an answer of
+many bytes goes out in few writes, and so do the answers to many lines that were read at once.
 What else the program asks of the system is not counted.
 The last line is 'N passed, M failed'.
 """
@@ -17,7 +17,7 @@ sys.dont_write_bytecode = True
 import device_faults as faults  # noqa: E402
 import preload  # noqa: E402
 
-READ, WRITE = 8192, 16_384
+READ, WRITE = 65_536, 64_000
 MEGABYTE = 1_000_000
 EXAMPLES = pathlib.Path(__file__).resolve().parent.parent / "examples/descriptors.hex"
 LONGEST_SDDL = faults.LONG_SDDL + b"S" + faults.LONG_SDDL[1:]

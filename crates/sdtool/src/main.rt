@@ -8,11 +8,13 @@ ghost use Rattle.sd_command_line.specs.FaultLines.{fault_line};
 
 use sd_command_line::{NO_MEMORY_LINE, NO_MEMORY_STATUS, USAGE_LINE, USAGE_STATUS};
 use sd_filter::{FromRead, ToWrite, command};
+use sd_streams::{HeldAnswers, InputAhead};
+use std::cell::Cell;
 use std::env::{self, Env};
-use std::io::{BufWriter, ErrorKind};
+use std::io::{BufReader, BufWriter, ErrorKind};
 use std::process::ExitCode;
 
-/// The bytes of answers that are gathered before they are written: a run flushes them before it reads again.
+/// The bytes of input that are read at once, and those of answers that are gathered before they are written.
 const GATHERED: usize = 1 << 16;
 
 fn main(rt: HostRuntime) -> ExitCode {
@@ -32,22 +34,25 @@ fn exit_code(ended: Result<u8, u8>) -> ExitCode
     }
 }
 
-// Reads the words, makes room for the output, and runs the command over the standard streams.
+// Reads the words, makes room for the input and the output, and runs the command over the standard streams.
 fn run(rt: &HostRuntime) -> Result<u8, u8>
     ensures { MatchResult result (λ _. Unit {0}) (λ status. (status ≡ 2) ⊎ (status ≡ 4)) }
 {
     let words = words(rt)?;
+    let input = BufReader::with_capacity(rt.alloc(), GATHERED, rt.stdin());
+    let input = input.map_err(|_| NO_MEMORY_STATUS)?;
     let output = BufWriter::with_capacity(rt.alloc(), GATHERED, rt.stdout());
-    let mut output = output.map_err(|_| NO_MEMORY_STATUS)?;
+    let output = output.map_err(|_| NO_MEMORY_STATUS)?;
+    let line_follows = Cell::new(false);
+    let mut answers = HeldAnswers::new(output, &line_follows);
     let status = command(
         rt.alloc(),
         words,
-        &mut FromRead::new(rt.stdin()),
-        &mut ToWrite::new(&mut output),
+        &mut FromRead::new(InputAhead::new(input, &line_follows)),
+        &mut ToWrite::new(&mut answers),
         &mut ToWrite::new(rt.stderr()),
     );
-    // What a failed output did not take is let go: nothing is written after the message of the error.
-    let _ = output.into_parts();
+    answers.end();
     Ok(status)
 }
 
