@@ -281,8 +281,10 @@ async function bigFile(...given) {
     };
 }
 
-// What a filter of the table keeps: its last page. Gives the number of lines, and the one of the last.
+// What a filter of the table keeps: its last page. Gives the number of lines, and the one of the last. A run has ended before
+// the lines of its table are read.
 async function lastOfFilter(name) {
+    await until(() => byId("lines-filter"));
     const numbers = () => document.querySelector("#lines-table .pages").firstChild.data.match(/[\d,]+/g);
     document.activeElement.blur();
     put("lines-filter", name);
@@ -294,6 +296,45 @@ async function lastOfFilter(name) {
         await until(() => numbers()[1] === count);
     }
     return {count, last: numbers()[1]};
+}
+
+const linesShown = () => Array.from(document.querySelectorAll("table.lines tbody th"), (one) => one.textContent);
+
+// A filter whose lines are read only when those of another one, chosen after it, are shown. Gives what is shown in the end.
+async function overtaken(...given) {
+    const [first, second] = given;
+    const {text} = window.Blob.prototype;
+    const reads = [];
+    let read = null;
+    const gate = new Promise((resolve) => { read = resolve; });
+    window.Blob.prototype.text = function() {
+        reads.push(gate.then(() => text.call(this)));
+        return reads[reads.length - 1];
+    };
+    put("lines-filter", first);
+    window.Blob.prototype.text = text;
+    await lastOfFilter(second);
+    read();
+    await Promise.all(reads);
+    await pause(1);
+    return {late: reads.length, filter: byId("lines-filter").value, shown: linesShown()};
+}
+
+// Another file and another form are chosen below a table. Gives the line that its first row opens, and the name of what is saved.
+async function besideOtherFile(...given) {
+    const [data, form] = given;
+    const transfer = new window.DataTransfer();
+    transfer.items.add(new window.File([data], "other.txt"));
+    byId("lines-file").files = transfer.files;
+    byId("lines-file").dispatchEvent(new window.Event("change"));
+    put("lines-from", form);
+    let name = null;
+    window.HTMLAnchorElement.prototype.click = function() { name = this.download; };
+    byId("lines-save").click();
+    document.querySelector("table.lines .jump").click();
+    await until(() => byId("text").value !== "");
+    await until(isIdle);
+    return {name, text: byId("text").value, form: byId("form").value};
 }
 
 // Each filter of the table in turn: how many lines it keeps, what its last page says, and the longest turn.

@@ -124,6 +124,7 @@ TESTS = [
     page_size.test_tangles,
     page_size.test_big_file,
     page_size.test_many_lines,
+    page_size.test_late_lines,
     page_size.test_filter_of_type,
     page_size.test_stop,
     page_people.test_keyboard,

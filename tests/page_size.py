@@ -177,6 +177,23 @@ def test_stop(count, page, _):
     count.add("Stopped after" in got["status"], f"a run that is stopped: {got}")
 
 
+def test_late_lines(count, page, _):
+    """The table is that of the filter chosen last, and of its own file and form, whatever is chosen meanwhile."""
+    page.open()
+    page.view("lines")
+    page.do("put('lines-command', 'convert'); put('lines-from', 'sddl');")
+    piece = b"D:(A;;FR;;;WD)\nno descriptor\nO:BA\n"
+    page.call("bigFile", {"data": base64.b64encode(piece).decode(), "times": 1, "isShort": True})
+    page.do("await until(() => byId('lines-filter'));")
+    got = page.call("overtaken", "error", "noDacl")
+    count.add(got == {"late": 1, "filter": "noDacl", "shown": ["3"]}, f"a filter whose lines are read late: {got}")
+    got = page.call("besideOtherFile", "O:SY and more, so that each line of the table has another text in this file", "hex")
+    count.add(
+        got == {"name": "big.hex.answers.txt", "text": "O:BA", "form": "sddl"},
+        f"a line and the answers of a table, beside another file: {got}",
+    )
+
+
 def test_filter_of_type(count, page, _):
     """Which rights change an object depends on its type: of three directory objects Users may write one."""
     page.open()
@@ -187,7 +204,7 @@ def test_filter_of_type(count, page, _):
     )
     piece = b"D:(A;;RP;;;BU)\nD:(A;;WP;;;BU)\nD:(A;;LC;;;BU)\n"
     page.call("bigFile", {"data": base64.b64encode(piece).decode(), "times": 1, "isShort": True})
-    kept = page.do("await lastOfFilter('change'); return Array.from(document.querySelectorAll('table.lines tbody th'), (one) => one.textContent);")
+    kept = page.do("await lastOfFilter('change'); return linesShown();")
     count.add(kept == ["2"], f"lines of a directory that Users may change: {kept}")
     kind = page.do("document.querySelector('table.lines .jump').click(); await until(() => byId('text').value !== ''); await until(isIdle); return byId('kind').value;")
     count.add(kind == "ds", f"the kind of a line of a directory is {kind}")
@@ -198,6 +215,6 @@ def test_filter_of_type(count, page, _):
             page.view("lines")
             page.do("put('lines-command', given[0]); put('lines-from', 'sddl'); put('lines-type', given[1]);", command, kind)
             page.call("bigFile", {"data": base64.b64encode(piece).decode(), "times": 1, "isShort": True})
-            kept = page.do("await lastOfFilter('change'); return Array.from(document.querySelectorAll('table.lines tbody th'), (one) => one.textContent);")
+            kept = page.do("await lastOfFilter('change'); return linesShown();")
             is_shown = page.do("return byId('lines-type').checkVisibility();")
             count.add(kept == expected and is_shown, f"lines that Users may change, {command}, {kind}, beside {text!r}: {kept}")

@@ -3,12 +3,11 @@
 
 Puts the page together: one file, PAGE, of web/page.html, web/page.css, the ES modules of web/ from main.mjs on, the
 file LIBRARY (sdtool.mjs) and the file MODULE (sdtool.wasm), compressed and in base64. It leaves out comments, indentation,
-most line ends and the blanks of the style, and changes nothing else but how a module gets what another exports: each becomes
-a function that is called once, in the order in which a browser would. The script is no module, since browsers refuse modules
-in workers of a page from a disk; so it has no import.meta. What the page never calls is left out: of the module by binaryen's
-wasm-metadce, of the library by name. Then binaryen's wasm-opt lets the module's functions share locals, and takes out what sets a local in
-vain. The page's policy
-allows this script and this style alone, by their hashes.
+empty lines, most line ends and the blanks of the style, and changes nothing else but how a module gets what another exports: each
+becomes a function that is called once, in the order in which a browser would. The script is no module, since browsers refuse
+modules in workers of a page from a disk; so it has no import.meta. What the page never calls is left out: of the module by
+binaryen's wasm-metadce, of the library by name. Then binaryen's wasm-opt lets the module's functions share locals, and takes
+out what sets a local in vain. The page's policy allows this script and this style alone, by their hashes.
 """
 import argparse
 import base64
@@ -45,8 +44,10 @@ IMPORT = re.compile(r'^import \{([^}]*)\} from "([^"]+)";\n', re.M)
 EXPORTED = re.compile(r"^export ((?:async )?(?:function|class|const|let)) ([A-Za-z_$][\w$]*)", re.M)
 EXPORTS = re.compile(r"^export \{([^}]*)\};\n", re.M)
 # What only a reader of the sources needs: comments, but for those behind code that have a quotation mark and so may be in a
-# text, and indentation.
-FOR_READERS = re.compile(r"^[ \t]*//.*\n|^[ \t]*/\*\*(?:.|\n)*?\*/\n|^[ \t]+|[ \t]+// [^\"'`\n]*$", re.M)
+# text, indentation, and empty lines.
+FOR_READERS = re.compile(r"^[ \t]*//.*\n|^[ \t]*/\*\*(?:.|\n)*?\*/\n|^[ \t]+|^\n|[ \t]+// [^\"'`\n]*$", re.M)
+# A text in quotation marks.
+QUOTED = re.compile(r'"(?:[^"\\\n]|\\.)*"')
 # A line without a comment, behind whose end nothing has to begin a line.
 GOES_ON = re.compile(r"^((?:(?!//)[^\n])*[,;{(\[])\n", re.M)
 # A function or a constant of the library.
@@ -131,6 +132,8 @@ def wrapped(name, text):
     )
     text = EXPORTS.sub("", EXPORTED.sub(r"\1 \2", text)).replace("import.meta.url", "location.href")
     text = FOR_READERS.sub("", text)
+    if any(line.count("`") % 2 for line in QUOTED.sub("", text).split("\n")):
+        raise SystemExit(f"{name} has a text of several lines, which would lose what only a reader of the sources needs")
     if LEFT.search(text):
         raise SystemExit(f"{name} has an import or an export of a form that this script does not know")
     text = GOES_ON.sub(r"\1", text)

@@ -83,10 +83,10 @@ function filtersOf({options, filterToken}) {
     };
 }
 
-// One run over a file, and what is kept of it.
+// One run over a file, and what is kept of it. Its lines are of this file and in this form, whatever is chosen meanwhile.
 class Run {
-    constructor(file) {
-        this.file = file;
+    constructor(file, {from, type}) {
+        Object.assign(this, {file, from, type});
         this.pieces = [];
         this.kept = 0;
         this.began = performance.now();
@@ -218,7 +218,7 @@ export class LinesView {
             return;
         }
         this.stop();
-        this.run = new Run(this.file);
+        this.run = new Run(this.file, this.lines.options);
         this.page = 0;
         this.filter = "all";
         show(byId("lines-table"));
@@ -273,7 +273,7 @@ export class LinesView {
     showProgress() {
         const {bytes, lines, errors} = this.run.progress;
         const seconds = (performance.now() - this.run.began) / 1000;
-        const part = this.file.size ? bytes / this.file.size : 1;
+        const part = bytes / this.run.file.size;
         byId("lines-bar").value = part;
         // A live region that changes with each piece would never let a reader finish.
         if (!this.told || performance.now() - this.told > 2000) {
@@ -291,12 +291,13 @@ export class LinesView {
         const url = URL.createObjectURL(this.run.blob());
         const link = document.createElement("a");
         link.href = url;
-        link.download = `${this.file.name}.answers.txt`;
+        link.download = `${this.run.file.name}.answers.txt`;
         link.click();
         setTimeout(() => URL.revokeObjectURL(url), 60_000);
     }
 
-    async showTable() {
+    // Shows what was asked for last, and moves the focus to the field of this id, if any.
+    async showTable(id) {
         const {run} = this;
         const chosen = run.chosen(this.filter);
         const count = chosen ? chosen.length : run.kept;
@@ -304,18 +305,20 @@ export class LinesView {
         this.page = Math.min(Math.max(0, this.page), pages - 1);
         const numbers = Array.from({length: Math.min(ROWS, count - this.page * ROWS)},
             (_, at) => (chosen ? chosen[this.page * ROWS + at] : this.page * ROWS + at));
+        this.numbers = numbers;
         const rows = await Promise.all(
             numbers.map(async (line) => ({line, input: await run.input(line), answer: run.answer(line)})));
-        if (run === this.run) {
-            const go = (page, id) => {
+        if (run === this.run && numbers === this.numbers) {
+            const go = (page, field) => {
                 this.page = page;
-                this.showTable().then(() => byId(id).focus());
+                this.showTable(field);
             };
             show(byId("lines-table"), this.filterBar(), pagesBar("page", {page: this.page, rows: ROWS, count}, go),
                 this.table(rows),
                 run.progress.lines > run.kept ?
                     make("p", {class: "hint"}, say(WORDS.lines.tooMany, {count: formatted(run.kept)})) :
                     null);
+            byId(id)?.focus();
         }
     }
 
@@ -323,7 +326,7 @@ export class LinesView {
         return labelled(WORDS.lines.filterLabel, select("lines-filter", WORDS.lines.filters, this.filter, (value) => {
             this.filter = value;
             this.page = 0;
-            this.showTable().then(() => byId("lines-filter").focus());
+            this.showTable("lines-filter");
         }));
     }
 
@@ -348,9 +351,10 @@ export class LinesView {
     }
 
     async open(line) {
-        const {first, places} = this.run.pieceOf(line);
-        const text = await this.file.slice(places[line - first], places[line - first] + 1_100_000).text();
-        const {from = FORMS[0], type} = this.lines.options;
+        const {run} = this;
+        const {first, places} = run.pieceOf(line);
+        const text = await run.file.slice(places[line - first], places[line - first] + 1_100_000).text();
+        const {from = FORMS[0], type} = run;
         // The first type is what the program takes without the option, so it says nothing of a line.
         this.onOpen(text.split("\n", 1)[0].replace(/\r$/, ""), from, type === TYPES[0] ? null : type);
     }
