@@ -1,6 +1,6 @@
 -- An owner, a group or the flags of an ACL that stand whole in what comes of a line, read where they stand.
 use Rattle.std.proofs.Common.{◌≡◌, ℕ, ◌≤◌, ◌⊎◌, inl, inr, Bool, true, false, ◌&&◌, ◌||◌, List, [], ◌∷◌, ◌++◌, length}
-use Rattle.std.proofs.Common.{Some, None, Ok, refl, ap, sym, ◌∙◌, arith, append_assoc}
+use Rattle.std.proofs.Common.{Some, None, Ok, refl, ap, sym, ◌∙◌, arith, append_assoc, length-append}
 use Rattle.std.specs.Prelude.{◌==◌, if◌then◌else◌, Option, Result}
 use Rattle.std.specs.List.{list_all}
 use Rattle.std.proofs.lemmas.Bool.{and_parts}
@@ -18,7 +18,7 @@ use Rattle.sd_sddl_builder.specs.FoldedReading.{FieldsRead, take_field}
 use Rattle.sd_sddl_reader.specs.Inner.Progress.{Seen, ended_with, is_inside, is_seen, rest_answer}
 use Rattle.sd_sddl_reader.specs.Inner.Progress.{state_of, with_head}
 use Rattle.sd_sddl_builder.specs.FieldReading.{HasReadFields}
-use Rattle.sd_sddl_reader.specs.Inner.Reads.{IsFresh, LineHasRead, Steps, answer_at}
+use Rattle.sd_sddl_reader.specs.Inner.Reads.{Feeds, IsFresh, IsReader, LineHasRead, Steps, answer_at}
 use Rattle.sd_sddl_reader.specs.Inner.WholePart.{HeadAfter, IsPlainText}
 use Rattle.sd_sddl_builder.specs.declared.fault.SddlFault.{SddlFault}
 use Rattle.sd_sddl_builder.specs.declared.fault.SddlFault.TheVariants as fault
@@ -34,7 +34,7 @@ use Rattle.sd_sddl_reader.proofs.FitLaws.{fits-first, fits-head, lacks-ended, no
 use Rattle.sd_sddl_reader.proofs.Runs.{not_true, plain-is}
 use Rattle.sd_sddl_builder.proofs.laws.Heads.{no-colon, not_letter}
 use Rattle.sd_sddl_reader.proofs.Steps.{begin-noted, open_first, outside_text}
-use Rattle.sd_sddl_reader.proofs.WholeFields.{nothing-held, whole-held}
+use Rattle.sd_sddl_reader.proofs.WholeFields.{fed-on, nothing-held, reader-at, whole-held}
 
 -- 1. The answer to a text outside parentheses.
 
@@ -243,4 +243,17 @@ steps-flags s e before after t rest text which here f plain stands w =
           );
       field = ap (λ (x : SddlReader). x.field) w.same ∙ f.begins;
       pending = ap (λ (x : SddlReader). x.pending) w.same ∙ f.none;
+    }
+
+-- such a step is what a call does that takes bytes at the front
+pub feeds-to : (s n : SddlReader) (before text after rest : List ℕ) → s.pending ≡ None → IsReader s before
+    → StepsTo s before text n after rest → Feeds s before text n after rest
+feeds-to s n before text after rest none reader over =
+    let e = over.steps reader.read reader.held in
+    record {
+      shorter = omega (arith, ap length over.stands, length-append over.bytes rest);
+      reader = reader-at n after over.field over.pending e.0 e.1;
+      read = λ domain fed h.
+          fed-on s n before after domain over.bytes rest text (fed ++ text) none over.pending over.steps over.stands
+          (fed, h, refl);
     }

@@ -1,9 +1,8 @@
-use Rattle.std.proofs.Common.{◌++◌, refl, true, ap, length, length-append, arith}
+use Rattle.std.proofs.Common.{refl, true}
 use Rattle.sd_sddl_builder.specs.declared.slot.AceField.TheVariants as field
 use Rattle.sd_sddl_reader.specs.declared.line.State.TheVariants as state
 use Rattle.sd_sddl_reader.proofs.FitLaws.{can-take-front}
-use Rattle.sd_sddl_reader.proofs.WholeFields.{fed-on, reader-at}
-use Rattle.sd_sddl_reader.proofs.WholeParts.{steps-flags, text-inside}
+use Rattle.sd_sddl_reader.proofs.WholeParts.{feeds-to, steps-flags, text-inside}
 use Rattle.sd_sddl_reader.specs.declared.reader.SddlReader.{SddlReader}
 use Rattle.sd_builder.specs.Draft.{closed}
 use Rattle.sd_sddl_builder.specs.FoldedReading.{begun_or_null, take_field, take_front, with_flags}
@@ -43,15 +42,8 @@ returns-in-Some c =
       domain = c.put_front.ensures.domain;
       same = refl;
     }) in
-    let n = record taken { state = state.Ace field.Kind } in
-    let e = over.steps c.requires.reader.read c.requires.reader.held in
-    record {
-      shorter = omega (arith, ap length over.stands, length-append over.bytes c.in-Some.rest.now);
-      reader = reader-at n c.put_front.new.buf over.field over.pending e.0 e.1;
-      read = λ domain before h.
-          fed-on s n c.args.buf.now c.put_front.new.buf domain over.bytes c.in-Some.rest.now c.args.text.now
-          (before ++ c.args.text.now) c.requires.fresh.none over.pending over.steps over.stands (before, h, refl);
-    }
+    feeds-to s (record taken { state = state.Ace field.Kind }) c.args.buf.now c.args.text.now
+    c.put_front.new.buf c.in-Some.rest.now c.requires.fresh.none c.requires.reader over
 
 pub returns-in-Some-first_parenthesis : goal.returns-in-Some-first_parenthesis
 returns-in-Some-first_parenthesis c =
@@ -59,13 +51,5 @@ returns-in-Some-first_parenthesis c =
     let over = steps-flags c.args.self.now c.take_whole.new.self c.args.buf.now c.take_whole.new.buf c.in-Some-first_parenthesis.field.now
     c.in-Some-first_parenthesis.rest.now c.args.text.now c.args.which c.requires.here c.requires.fresh c.in-Some-first_parenthesis.ensures.found.0
     c.in-Some-first_parenthesis.ensures.found.1 (record { read = taken.read; domain = taken.domain; same = taken.same }) in
-    let n = record c.take_whole.new.self { state = state.Ace field.Kind } in
-    let e = over.steps c.requires.reader.read c.requires.reader.held in
-    record {
-      shorter = omega (arith, ap length over.stands, length-append over.bytes c.in-Some-first_parenthesis.rest.now);
-      reader = reader-at n c.take_whole.new.buf over.field over.pending e.0 e.1;
-      read = λ domain before h.
-          fed-on c.args.self.now n c.args.buf.now c.take_whole.new.buf domain over.bytes c.in-Some-first_parenthesis.rest.now
-          c.args.text.now (before ++ c.args.text.now) c.requires.fresh.none over.pending over.steps over.stands
-          (before, h, refl);
-    }
+    feeds-to c.args.self.now (record c.take_whole.new.self { state = state.Ace field.Kind }) c.args.buf.now c.args.text.now
+    c.take_whole.new.buf c.in-Some-first_parenthesis.rest.now c.requires.fresh.none c.requires.reader over

@@ -1,9 +1,8 @@
-use Rattle.std.proofs.Common.{◌++◌, refl, ap, length, length-append, arith}
+use Rattle.std.proofs.Common.{refl}
 use Rattle.sd_sid.specs.SidText.{known_sid}
 use Rattle.sd_sddl_builder.specs.FoldedReading.{take_field, with_owner_or_group}
 use Rattle.sd_sddl_builder.proofs.laws.WholeTexts.{whole-readable}
-use Rattle.sd_sddl_reader.proofs.WholeFields.{fed-on, reader-at}
-use Rattle.sd_sddl_reader.proofs.WholeParts.{steps-sid, text-inside}
+use Rattle.sd_sddl_reader.proofs.WholeParts.{feeds-to, steps-sid, text-inside}
 use Rattle.sd_sddl_reader.specs.declared.reader.SddlReader.{SddlReader}
 use Rattle.sd_sddl_reader.proofs.reader.SddlReader.put_named.Goals as goal
 
@@ -34,12 +33,5 @@ returns c =
       fault = noted.fault;
       same = noted.same;
     }) in
-    let e = over.steps c.requires.reader.read c.requires.reader.held in
-    record {
-      shorter = omega (arith, ap length over.stands, length-append over.bytes c.in_ok-name.rest.now);
-      reader = reader-at c.note_head.new.self c.put_named_sid.new.buf over.field over.pending e.0 e.1;
-      read = λ domain before h.
-          fed-on s c.note_head.new.self c.args.buf.now c.put_named_sid.new.buf domain over.bytes c.in_ok-name.rest.now
-          c.args.text.now (before ++ c.args.text.now) c.requires.fresh.none over.pending over.steps over.stands
-          (before, h, refl);
-    }
+    feeds-to s c.note_head.new.self c.args.buf.now c.args.text.now c.put_named_sid.new.buf c.in_ok-name.rest.now
+    c.requires.fresh.none c.requires.reader over
