@@ -55,8 +55,16 @@ pub fn check_asker(input: &AskerInput<'_>) -> Result<(), CallFault>
 }
 
 /// What is asked, or why nothing can be.
-#[tactic(auto, unfolding(crate::specs::Checks::ask_in))]
 pub(crate) fn ask_in(input: &AskInput<'_>) -> Result<Ask, CallFault>
+    ensures { result ≡ ask_in input.now.request.now input.now.object.now input.now.principal_self.now }
+{
+    ask_at_once(input)
+}
+
+/// The same for a call that does little else. Inlined there, since a call would copy what is asked twice more.
+#[inline(always)]
+#[tactic(auto, unfolding(crate::specs::Checks::ask_in))]
+pub(crate) fn ask_at_once(input: &AskInput<'_>) -> Result<Ask, CallFault>
     ensures { result ≡ ask_in input.now.request.now input.now.object.now input.now.principal_self.now }
 {
     let request = input.request;

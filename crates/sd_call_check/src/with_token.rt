@@ -5,7 +5,7 @@ ghost use Rattle.sd_call_check.specs.Checks.{told};
 ghost use Rattle.sd_call_check.specs.TokenMemory.{checked_held};
 
 use crate::access::verdict_on;
-use crate::asker::{AskInput, ask_in};
+use crate::asker::{AskInput, ask_at_once};
 use crate::request::level_of;
 use crate::token_memory::{holds_token, token_in};
 use crate::verdict::{VerdictOutcome, told};
@@ -28,7 +28,7 @@ fn verdict_of(bytes: &[u8], memory: &[u32], input: &AskInput<'_>) -> Result<Verd
     if !holds_token(memory) {
         return Err(CallFault::Argument(Argument::Token, 0));
     }
-    let ask = ask_in(input)?;
+    let ask = ask_at_once(input)?;
     let mut token = token_in(memory, level_of(input.request));
     verdict_on(bytes, &mut token, &ask)
 }
