@@ -202,11 +202,14 @@ class Figures:
         front, _, rows = FIGURES.read_text(encoding="utf-8").partition("\n\n")
         self.front, reasons = front, []
         for line in rows.splitlines():
+            found = ROW.fullmatch(line)
             if line.startswith("#"):
                 reasons.append(line)
-            else:
-                number, name = ROW.fullmatch(line).groups()
+            elif found:
+                number, name = found.groups()
                 self.numbers[name], self.reasons[name], reasons = int(number.replace(",", "")), reasons, []
+            else:
+                sys.exit(f"{FIGURES.name} has a line that is neither a reason nor a row: {line!r}")
 
     def take(self, name, number, why):
         """A lower figure, the first one, or a higher one for which there is a reason."""
@@ -241,10 +244,12 @@ def main():
     parser.add_argument("--why", help="why other figures rise; these are written too")
     given = parser.parse_args()
     count = preload.Count()
+    # The file is read where valgrind is missing too, so that nobody hands in one that can't be read.
+    kept = Figures()
     if not shutil.which("valgrind"):
         print("instructions: skipped, there is no command valgrind")
         return count.end()
-    kept, jobs = Figures(), all_jobs()
+    jobs = all_jobs()
     chosen = [job for job in jobs if not given.only or any(word in job.name for word in given.only)]
     with tempfile.TemporaryDirectory() as name, concurrent.futures.ThreadPoolExecutor(JOBS) as pool:
         programs = programs_for(given.program.resolve(), pathlib.Path(name))
