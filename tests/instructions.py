@@ -57,6 +57,7 @@ OTHER_ACCOUNT = f"S-1-{'-'.join(map(str, make_inputs.OTHER_DOMAIN))}-1106"
 NEXT_ACCOUNT = f"{make_inputs.DOMAIN_TEXT[:-1]}{(int(make_inputs.DOMAIN_TEXT[-1]) + 1) % 10}-1106"
 DOMAINS = [f"S-1-5-21-{1_000_000_007 + 271_828_183 * i}-2695158682-2101375467" for i in range(12)]
 TO_HEX = ["convert", "--from", "sddl", "--to", "hex"]
+TO_SDDL = ["convert", "--from", "sddl", "--to", "sddl"]
 # A descriptor whose DACL has eight ACEs for the group Users, each as a layout has it.
 HEADS = "0100048000000000000000000000000014000000" + "0200c80008000000"
 WRITTEN = HEADS + "00001800ff011f0001020000000000052000000021020000" * 8
@@ -88,6 +89,12 @@ PATHS = {
     "an ACE with an inherited GUID": aces(f"(OA;CIIO;RPWP;;{GUID};AU)"),
     "an ACE with two GUIDs": aces(f"(OA;CI;RPWP;{GUID};{GUID};AU)"),
     "blanks between parts and ACEs": (TO_HEX, "O:BA D:" + " (A;OICI;FA;;;BU)" * 8),
+    "blanks behind an account": (TO_HEX, f"O:{ACCOUNT} G:{ACCOUNT} D:"),
+    "an ACE for an account in small letters": aces(f"(A;;FA;;;{ACCOUNT.lower()})"),
+    "an ACE for an account to SDDL, under its domain":
+        ([*TO_SDDL, *make_inputs.ONE_DOMAIN.split()], "D:" + f"(A;;FA;;;{ACCOUNT})" * 8),
+    **{f"an ACE with flags {flags} and rights {rights} to SDDL": (TO_SDDL, "D:" + f"(A;{flags};{rights};;;BU)" * 8)
+       for flags, rights in (("", "FA"), ("OICIIO", "0x1301bf"), ("OICINPIOID", "LCSW"))},
     "a line far too long": (TO_HEX, "D:" + "(A;;FA;;;WD)" * 90_000),
     # Each byte may begin a whole field, and is looked at no further than a field goes.
     "an owner behind a wrong byte": (TO_HEX, "<O:" + ">" * 8_000),

@@ -5,13 +5,16 @@ ghost use Rattle.sd_text.specs.Bits.{has_bit};
 ghost use Rattle.sd_kinds.specs.FlagValues.{FlagNames, FlagValues};
 ghost use Rattle.sd_kinds.specs.Flags.{flags_reads, flags_text, is_flag};
 ghost use Rattle.sd_text.specs.LimitValues.{LimitValues};
-ghost use Rattle.sd_text.specs.Usual.{have_values, usual_text};
+ghost use Rattle.sd_text.specs.Usual.{have_texts, have_values, usual_text};
 ghost use Rattle.sd_sink.specs.Print.{Prints};
 ghost use Rattle.sd_sink.specs.Sink.{Puts};
 
 use crate::flag_cells::FLAG_CELLS;
-use crate::flag_texts::{USUAL_FLAG_KEYS, USUAL_FLAG_SIZES, USUAL_FLAG_VALUES};
-use sd_sink::{Print, Printer, Sink, SinkFault};
+use crate::flag_texts::{
+    FLAG_ROWS, PRINTED_FLAG_SIZES, PRINTED_FLAG_TEXTS, USUAL_FLAG_KEYS, USUAL_FLAG_SIZES,
+    USUAL_FLAG_VALUES,
+};
+use sd_sink::{FRONT, Print, Printer, Sink, SinkFault};
 use sd_text::{MOST_FIELD_SIZE, NamedBits, USUAL_ROWS, named, print_names, read_names, usual_row};
 
 /// OBJECT_INHERIT_ACE: files inherit the ACE.
@@ -85,14 +88,32 @@ pub fn put_flags<S: Sink>(flags: u8, sink: &mut S) -> Result<(), SinkFault>
 }
 
 /// Prints the names of an ACE's flags. Bit 0x20 has no name.
+#[inline(always)]
 pub fn print_flags<P: Print>(flags: u8, out: &mut P)
     ensures { Prints (P.told out.old) (P.told out.new) (flags_text flags) }
 {
-    // Many ACEs have none.
-    if flags == 0 {
-        return;
+    // Most ACEs are not audited, so that a table has the text of their flags.
+    if usize::from(flags) < FLAG_ROWS {
+        print_row(&PRINTED_FLAG_TEXTS, &PRINTED_FLAG_SIZES, flags, out);
+    } else {
+        print_names(&FLAGS, u32::from(flags), out);
     }
-    print_names(&FLAGS, u32::from(flags), out);
+}
+
+// Prints the text that a table has of these flags.
+#[inline(always)]
+fn print_row<P: Print>(
+    texts: &[[u8; FRONT]; FLAG_ROWS],
+    sizes: &[u8; FLAG_ROWS],
+    flags: u8,
+    out: &mut P,
+)
+    requires texts { have_texts flags_text texts.now sizes.now ≡ true }
+    requires row { flags < 32 }
+    ensures { Prints (P.told out.old) (P.told out.new) (flags_text flags) }
+{
+    let row = usize::from(flags);
+    out.put_front(&texts[row], usize::from(sizes[row]));
 }
 
 /// The flags of a text of at most 183 bytes (MS-DTYP 2.5.1.1): names of two letters, in either case and any

@@ -1,5 +1,6 @@
 //! The access masks that most ACEs have. `make figures` writes this file by `tests/usual_texts.py`.
 
+use sd_sink::FRONT;
 use sd_text::USUAL_ROWS;
 
 /// The key of each text.
@@ -85,4 +86,89 @@ pub static USUAL_MASK_VALUES: [u32; USUAL_ROWS] = [
     0x1f01ff, 0x1f01ff, 0x3, 0x100, 0x1f01ff, 0x20000000, 0x100116, 0x1f01ff, 0x1f01ff, 0x20094,
     0x30, 0x1f01ff, 0x10, 0x1f01ff, 0x120089, 0x4, 0x120116, 0xa0000000, 0xa0000000, 0x1f01ff,
     0x1f01ff, 0x1f01ff, 0x1200a0, 0x1f01ff, 0x1f01ff,
+];
+
+/// The mask of each row when it is printed.
+pub static PRINTED_MASKS: [u32; USUAL_ROWS] = [
+    0x1f01ff, 0x20094, 0x1f01ff, 0x1f01ff, 0x10000000, 0x120089, 0x1f01ff, 0x1f01ff, 0x20000000,
+    0x1, 0x1301bf, 0x1f01ff, 0x1f01ff, 0x8, 0x30, 0x1f01ff, 0x1f01ff, 0x40000000, 0x1f01ff, 0x2,
+    0x1f01ff, 0x120116, 0x10000, 0x1f01ff, 0x1f01ff, 0x1f01ff, 0x10, 0x40000, 0x3, 0x1f01ff,
+    0x20019, 0x1f01ff, 0x1f01ff, 0x1f01ff, 0x80000000, 0x1200a0, 0x1f01ff, 0x100, 0x4, 0x100116,
+    0x1f01ff, 0x1f01ff, 0xa0000000, 0x1f01ff, 0x1f01ff, 0x20000, 0x1f01ff, 0x1f01ff, 0x1f01ff,
+    0x1f01ff, 0x1f01ff, 0x1f01ff, 0x20, 0x1f01ff, 0x1f01ff, 0xf003f, 0x1f01ff, 0x1f01ff, 0x1200a9,
+    0x1f01ff, 0x1f01ff, 0x1f01ff, 0x1f01ff, 0x1f01ff,
+];
+
+/// The text of each of these masks, in cells that have blanks behind it.
+pub static PRINTED_MASK_TEXTS: [[u8; FRONT]; USUAL_ROWS] = [
+    *b"FA              ",
+    *b"LCRPLORC        ",
+    *b"FA              ",
+    *b"FA              ",
+    *b"GA              ",
+    *b"FR              ",
+    *b"FA              ",
+    *b"FA              ",
+    *b"GX              ",
+    *b"CC              ",
+    *b"0x1301bf        ",
+    *b"FA              ",
+    *b"FA              ",
+    *b"SW              ",
+    *b"RPWP            ",
+    *b"FA              ",
+    *b"FA              ",
+    *b"GW              ",
+    *b"FA              ",
+    *b"DC              ",
+    *b"FA              ",
+    *b"FW              ",
+    *b"SD              ",
+    *b"FA              ",
+    *b"FA              ",
+    *b"FA              ",
+    *b"RP              ",
+    *b"WD              ",
+    *b"CCDC            ",
+    *b"FA              ",
+    *b"KR              ",
+    *b"FA              ",
+    *b"FA              ",
+    *b"FA              ",
+    *b"GR              ",
+    *b"FX              ",
+    *b"FA              ",
+    *b"CR              ",
+    *b"LC              ",
+    *b"0x100116        ",
+    *b"FA              ",
+    *b"FA              ",
+    *b"GXGR            ",
+    *b"FA              ",
+    *b"FA              ",
+    *b"RC              ",
+    *b"FA              ",
+    *b"FA              ",
+    *b"FA              ",
+    *b"FA              ",
+    *b"FA              ",
+    *b"FA              ",
+    *b"WP              ",
+    *b"FA              ",
+    *b"FA              ",
+    *b"KA              ",
+    *b"FA              ",
+    *b"FA              ",
+    *b"0x1200a9        ",
+    *b"FA              ",
+    *b"FA              ",
+    *b"FA              ",
+    *b"FA              ",
+    *b"FA              ",
+];
+
+/// The size of each of these texts in bytes.
+pub static PRINTED_MASK_SIZES: [u8; USUAL_ROWS] = [
+    2, 8, 2, 2, 2, 2, 2, 2, 2, 2, 8, 2, 2, 2, 4, 2, 2, 2, 2, 2, 2, 2, 2, 2, 2, 2, 2, 2, 4, 2, 2, 2,
+    2, 2, 2, 2, 2, 2, 2, 8, 2, 2, 4, 2, 2, 2, 2, 2, 2, 2, 2, 2, 2, 2, 2, 2, 2, 2, 8, 2, 2, 2, 2, 2,
 ];

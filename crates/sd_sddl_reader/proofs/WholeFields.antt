@@ -1,7 +1,9 @@
 -- An ACE that stands whole in what comes, read where it stands.
 use Rattle.std.proofs.Common.{◌≡◌, ℕ, ◌≤◌, Bool, true, false, List, [], ◌∷◌, ◌++◌, length, Ok, Err, Some, None, refl}
-use Rattle.std.proofs.Common.{ap, sym, ◌∙◌, subst, arith, append_assoc}
-use Rattle.std.specs.Prelude.{Result, Option}
+use Rattle.std.proofs.Common.{ap, sym, ◌∙◌, subst, arith, append_assoc, eqb-true}
+use Rattle.std.specs.Prelude.{◌==◌, Result, Option}
+use Rattle.std.proofs.lemmas.Bool.{and_parts}
+use Rattle.std.proofs.lemmas.Bool.Decides.{nat_tests}
 use Rattle.std.specs.List.{list_all}
 use Rattle.sd_sid.specs.Sid.{SecurityId}
 use Rattle.sd_sddl_builder.specs.declared.fault.SddlFault.{SddlFault}
@@ -10,16 +12,19 @@ use Rattle.sd_sddl_builder.specs.declared.slot.AceField.TheVariants as field
 use Rattle.sd_sddl_reader.specs.declared.line.State.TheVariants as state
 use Rattle.sd_sddl_builder.specs.declared.slot.Slot.TheVariants as slot
 use Rattle.sd_sddl_builder.specs.FoldedReading.{FieldsRead, take_field}
-use Rattle.sd_sddl_fields.specs.Held.{IsHeld, is_plain_inside, no_text}
+use Rattle.sd_sddl_builder.specs.Line.{begins_with_colon, head_of, pieces_from}
+use Rattle.sd_sddl_builder.proofs.laws.Heads.{no_head}
+use Rattle.sd_sddl_fields.specs.FieldTexts.{is_blank}
+use Rattle.sd_sddl_fields.specs.Held.{Held, IsHeld, is_plain_inside, no_text}
 use Rattle.sd_sddl_reader.specs.Inner.Progress.{Seen, rest_answer, end_of, state_after}
-use Rattle.sd_sddl_reader.specs.Inner.Reads.{FedTo, Feeds, Fits, IsReader, LineHasRead, Steps}
+use Rattle.sd_sddl_reader.specs.Inner.Reads.{FedTo, Feeds, Fits, IsReader, LineHasRead, Steps, answer_at}
 use Rattle.sd_sddl_reader.specs.declared.reader.SddlReader.{SddlReader}
 use Rattle.sd_sddl_builder.specs.WholeAce.{AceTexts, AreWhole, TakesAce, ace_before, with_field, with_texts}
 use Rattle.sd_text.specs.Chains.{and_then, unless}
 use Rattle.sd_sddl_reader.proofs.FitLaws.{fits-field, fits-next}
 use Rattle.sd_sddl_fields.proofs.laws.HeldRuns.{run-fits}
 use Rattle.sd_sddl_reader.proofs.Runs.{inside-held, inside-run}
-use Rattle.sd_sddl_reader.proofs.Steps.{close_last, cut, open_next}
+use Rattle.sd_sddl_reader.proofs.Steps.{between_blank, close_last, cut, open_next}
 
 -- 1. The text of a field.
 
@@ -148,6 +153,50 @@ reader-at s buf begins none t k = record {
   letter = λ b is. absurd (let no : None ≡ Some b = sym none ∙ is in cc);
   read = t;
   held = k;
+}
+
+-- a blank is no parenthesis, and no head
+pub blank-is : (b : ℕ) → is_blank b ≡ true
+    → ((b == 40) ≡ false) × ((b == 41) ≡ false) × ((b == 58) ≡ false) × (head_of b ≡ None)
+blank-is b e = by_byte (b == 32) refl
+  where
+    by_byte : (x : Bool) → (b == 32) ≡ x
+        → ((b == 40) ≡ false) × ((b == 41) ≡ false) × ((b == 58) ≡ false) × (head_of b ≡ None)
+    by_byte true f = let is : b ≡ 32 = eqb-true b 32 f in rw is (refl, refl, refl, refl)
+    by_byte false f = let is : b ≡ 9 = grind (arith, nat_tests) in rw is (refl, refl, refl, refl)
+
+-- blanks after an ACE change nothing
+blanks-between : (dm : Option SecurityId) (so tw : Bool) (se : Seen) (r : Result FieldsRead SddlFault) (h : Held)
+    (bs rest : List ℕ) → list_all is_blank bs ≡ true
+    → rest_answer dm so tw se r state.AfterAce h rest ≡ rest_answer dm so tw se r state.AfterAce h (bs ++ rest)
+blanks-between dm so tw se r h [] rest all = refl
+blanks-between dm so tw se r h (b ∷ bs) rest all =
+    let p = and_parts (is_blank b) (list_all is_blank bs) all in
+    let is = blank-is b p.0 in
+    blanks-between dm so tw se r h bs rest p.1
+    ∙ between_blank dm so tw se r b (bs ++ rest) is.0 is.1
+    (no_head (begins_with_colon (pieces_from false (bs ++ rest)).after) (head_of b) is.3) h p.0
+
+-- an ACE, and blanks behind it
+pub over-blanks : (s s' : SddlReader) (buf buf' text rest bs more : List ℕ) → StepsOver s buf text s' buf' rest
+    → list_all is_blank bs ≡ true → rest ≡ bs ++ more → StepsOver s buf text s' buf' more
+over-blanks s s' buf buf' text rest bs more over all is = record {
+  bytes = over.bytes ++ bs;
+  stands = over.stands ∙ ap (λ (t : List ℕ). over.bytes ++ t) is ∙ sym (append_assoc over.bytes bs more);
+  steps = λ t k.
+      let e = over.steps t k in (
+        e.0,
+        e.1,
+        λ after.
+            let same : answer_at s' e.0 after ≡ answer_at s' e.0 (bs ++ after) =
+            rw (over.state)
+            (blanks-between s'.fields.domain s'.sound s'.twice s'.seen (unless s'.fault e.0) s'.field bs after all) in
+            same ∙ e.2 (bs ++ after) ∙ ap (answer_at s t) (sym (append_assoc over.bytes bs after)),
+      );
+  state = over.state;
+  field = over.field;
+  pending = over.pending;
+  fault = over.fault;
 }
 
 -- the parenthesis of the next ACE

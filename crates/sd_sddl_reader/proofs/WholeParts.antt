@@ -2,7 +2,8 @@
 use Rattle.std.proofs.Common.{◌≡◌, ℕ, ◌≤◌, ◌⊎◌, inl, inr, Bool, true, false, ◌&&◌, ◌||◌, List, [], ◌∷◌, ◌++◌, length}
 use Rattle.std.proofs.Common.{Some, None, Ok, refl, ap, sym, ◌∙◌, arith, append_assoc, length-append}
 use Rattle.std.specs.Prelude.{◌==◌, if◌then◌else◌, Option, Result}
-use Rattle.std.specs.List.{list_all}
+use Rattle.std.specs.List.{list_all, list_any}
+use Rattle.std.proofs.Math.Dec.{eqb-suc-zero}
 use Rattle.std.proofs.lemmas.Bool.{and_parts}
 use Rattle.std.proofs.lemmas.Bool.Decides.{nat_tests}
 use Rattle.sd_sid.specs.Sid.{SecurityId}
@@ -10,16 +11,18 @@ use Rattle.sd_sid.specs.SidText.{is_sid_byte}
 use Rattle.sd_sid.proofs.laws.TextLaws.{list_all-more}
 use Rattle.sd_parts.specs.declared.part.SidPart.{SidPart}
 use Rattle.sd_parts.specs.declared.part.Which.{Which}
-use Rattle.sd_sddl_fields.specs.Held.{IsHeld, Held, held_run, held_with, is_plain_inside, is_plain_text, no_text}
+use Rattle.sd_sddl_fields.specs.FieldTexts.{is_blank}
+use Rattle.sd_sddl_fields.specs.Held.{IsHeld, Held, held_blank, held_run, held_text, held_with, is_plain_inside}
+use Rattle.sd_sddl_fields.specs.Held.{is_plain_text, no_text}
 use Rattle.sd_sddl_fields.proofs.laws.HeldRuns.{run-fits}
 use Rattle.sd_text.specs.Chains.{unless}
-use Rattle.sd_sddl_builder.specs.Line.{byte, head_at, head_of, pieces_from}
+use Rattle.sd_sddl_builder.specs.Line.{begins_with_colon, byte, head_at, head_of, pieces_from}
 use Rattle.sd_sddl_builder.specs.FoldedReading.{FieldsRead, take_field}
 use Rattle.sd_sddl_reader.specs.Inner.Progress.{Seen, ended_with, is_inside, is_seen, rest_answer}
 use Rattle.sd_sddl_reader.specs.Inner.Progress.{state_of, with_head}
 use Rattle.sd_sddl_builder.specs.FieldReading.{HasReadFields}
 use Rattle.sd_sddl_reader.specs.Inner.Reads.{Feeds, IsFresh, IsReader, LineHasRead, Steps, answer_at}
-use Rattle.sd_sddl_reader.specs.Inner.WholePart.{HeadAfter, IsPlainText}
+use Rattle.sd_sddl_reader.specs.Inner.WholePart.{HeadAfter, HeadBehind, IsPlainText}
 use Rattle.sd_sddl_builder.specs.declared.fault.SddlFault.{SddlFault}
 use Rattle.sd_sddl_builder.specs.declared.fault.SddlFault.TheVariants as fault
 use Rattle.sd_sddl_builder.specs.declared.slot.AceField.TheVariants as field
@@ -29,12 +32,13 @@ use Rattle.sd_sddl_builder.specs.declared.slot.Slot.TheVariants as slot
 use Rattle.sd_sddl_reader.specs.declared.line.State.{State}
 use Rattle.sd_sddl_reader.specs.declared.line.State.TheVariants as state
 use Rattle.sd_sddl_reader.specs.declared.reader.SddlReader.{SddlReader}
-use Rattle.sd_sddl_reader.proofs.FieldTexts.{same_text, with_held}
+use Rattle.sd_sddl_reader.proofs.FieldTexts.{same_blank, same_text, with_held}
 use Rattle.sd_sddl_reader.proofs.FitLaws.{fits-first, fits-head, lacks-ended, none-ended, unseen-head}
 use Rattle.sd_sddl_reader.proofs.Runs.{not_true, plain-is}
 use Rattle.sd_sddl_builder.proofs.laws.Heads.{no-colon, not_letter}
+use Rattle.sd_sddl_builder.proofs.laws.Heads.{no_head as unheaded}
 use Rattle.sd_sddl_reader.proofs.Steps.{begin-noted, open_first, outside_text}
-use Rattle.sd_sddl_reader.proofs.WholeFields.{fed-on, nothing-held, reader-at, whole-held}
+use Rattle.sd_sddl_reader.proofs.WholeFields.{blank-is, fed-on, nothing-held, reader-at, whole-held}
 
 -- 1. The answer to a text outside parentheses.
 
@@ -88,7 +92,62 @@ module _ (dm : Option SecurityId) (so tw : Bool) (se : Seen) (r : Result FieldsR
       ap (λ h. rest_answer dm so tw se r pl h (c ∷ rest)) (sym (run-fits [] t (omega arith)))
       ∙ text-run no_text t nothing-held e
 
--- 2. A head.
+-- 2. Blanks behind a text outside parentheses.
+
+-- what is held of a text that ended, and what follows it
+pub record EndsHeld (dm : Option SecurityId) (so tw : Bool) (se : Seen) (r : Result FieldsRead SddlFault) (p : SidPart)
+    (h : Held) (bs : List ℕ) : Type 0 where
+  pub ended : Held
+  pub held : IsHeld ended
+  pub text : held_text ended ≡ held_text h
+  pub answers : (rest : List ℕ) → rest_answer dm so tw se r (state.Sid p) ended rest
+      ≡ rest_answer dm so tw se r (state.Sid p) h (bs ++ rest)
+
+blank-held : (h : Held) → IsHeld h → IsHeld (held_blank h) × (held_text (held_blank h) ≡ held_text h)
+blank-held h k = by_broken h.text h.gap h.broken k.clean k.fits
+  where
+    by_broken : (t : List ℕ) (g x : Bool) → list_any is_blank t ≡ false → length t ≤ 183
+        → IsHeld (held_blank (record { text = t; gap = g; broken = x }))
+        × (held_text (held_blank (record { text = t; gap = g; broken = x }))
+        ≡ held_text (record { text = t; gap = g; broken = x }))
+    by_broken t g true clean fits = (record { clean = clean; fits = fits }, refl)
+    by_broken [] g false clean fits = (record { clean = clean; fits = fits }, refl)
+    by_broken (c ∷ t) g false clean fits =
+        rw (eqb-suc-zero (length t)) (record { clean = clean; fits = fits }, refl)
+
+pub blanks-behind : (dm : Option SecurityId) (so tw : Bool) (se : Seen) (r : Result FieldsRead SddlFault) (p : SidPart)
+    (h : Held) (bs : List ℕ) → IsHeld h → list_all is_blank bs ≡ true → EndsHeld dm so tw se r p h bs
+blanks-behind dm so tw se r p h [] k all = record { ended = h; held = k; text = refl; answers = λ rest. refl }
+blanks-behind dm so tw se r p h (b ∷ bs) k all =
+    let q = and_parts (is_blank b) (list_all is_blank bs) all in
+    let is = blank-is b q.0 in
+    let next = blank-held h k in
+    let more = blanks-behind dm so tw se r p (held_blank h) bs next.0 q.1 in
+    record {
+      ended = more.ended;
+      held = more.held;
+      text = more.text ∙ next.1;
+      answers = λ rest.
+          more.answers rest
+          ∙ outside_text dm so tw se r h b (bs ++ rest) is.0 is.1
+          (unheaded (begins_with_colon (pieces_from false (bs ++ rest)).after) (head_of b) is.3) (state.Sid p)
+          (held_blank h) is.2 (λ u. same_blank h b u k q.0) (inl (p, refl));
+    }
+
+-- a text and blanks behind it, before a head
+text-then : (dm : Option SecurityId) (so tw : Bool) (se : Seen) (r : Result FieldsRead SddlFault) (p : SidPart)
+    (t bs : List ℕ) (letter : ℕ) (more : List ℕ) → list_all is_plain_text t ≡ true → length t ≤ 183
+    → list_all is_blank bs ≡ true → (letter == 58) ≡ false
+    → rest_answer dm so tw se r (state.Sid p) (record { text = t; gap = false; broken = false })
+    (bs ++ letter ∷ 58 ∷ more)
+    ≡ rest_answer dm so tw se r (state.Sid p) no_text (t ++ (bs ++ letter ∷ 58 ∷ more))
+text-then dm so tw se r p t [] letter more plain fits all n =
+    whole-text dm so tw se r (state.Sid p) (inl (p, refl)) letter (58 ∷ more) n t plain fits
+text-then dm so tw se r p t (b ∷ bs) letter more plain fits all n =
+    let is = blank-is b (and_parts (is_blank b) (list_all is_blank bs) all).0 in
+    whole-text dm so tw se r (state.Sid p) (inl (p, refl)) b (bs ++ letter ∷ 58 ∷ more) is.2 t plain fits
+
+-- 3. A head.
 
 -- the part at hand was read, and nothing is held of it
 pub record EndsPart (s : SddlReader) (before : List ℕ) (e : SddlReader) (after : List ℕ) : Type 0 where
@@ -145,7 +204,7 @@ head-steps s e n before after letter head here held names ends notes = λ t k.
           e.fault here held names x.2),
     )
 
--- 3. A part that is whole.
+-- 4. A part that is whole.
 
 -- a field was read
 pub record TakesWhole (s : SddlReader) (before : List ℕ) (sl : Slot) (text : List ℕ) (e : SddlReader) (after : List ℕ)
@@ -164,16 +223,16 @@ pub record StepsTo (s : SddlReader) (before text : List ℕ) (n : SddlReader) (a
   pub field : n.field ≡ no_text
   pub pending : n.pending ≡ None
 
--- the reader with this text as the field at hand
-abbrev holding : SddlReader → List ℕ → SddlReader
-holding s t = record s { field = record { text = t; gap = false; broken = false } }
+-- the reader with what is held of the field at hand
+abbrev holding : SddlReader → Held → SddlReader
+holding s h = record s { field = h }
 
-ends-sid : (s e : SddlReader) (before after t : List ℕ) (p : SidPart) → s.state ≡ state.Sid p → IsFresh s
-    → TakesWhole s before (slot.Sid p) t e after → EndsPart (holding s t) before e after
-ends-sid s e before after t p here f w = record {
+ends-sid : (s e : SddlReader) (before after t : List ℕ) (h : Held) (p : SidPart) → s.state ≡ state.Sid p → IsFresh s
+    → held_text h ≡ t → TakesWhole s before (slot.Sid p) t e after → EndsPart (holding s h) before e after
+ends-sid s e before after t h p here f text w = record {
   read = λ r k.
       let x = w.read r (k.fields f.clear) in
-      (x.0, x.1, rw (here, f.clear) x.2);
+      (x.0, x.1, rw (here, f.clear, text) x.2);
   cleared = ap (λ (x : SddlReader). x.field) w.same ∙ f.begins;
   domain = w.domain;
   same = w.same
@@ -181,26 +240,46 @@ ends-sid s e before after t p here f w = record {
       (sym (ap (λ (x : SddlReader). x.field) w.same));
 }
 
+-- a head that stands directly behind its text
+pub behind-none : (t : List ℕ) (head : Head) (rest text : List ℕ) → HeadAfter t head rest text
+    → HeadBehind t head rest text
+behind-none t head rest text h = record {
+  whole = h.whole;
+  blanks = [];
+  blank = refl;
+  letter = h.letter;
+  stands = h.stands;
+  names = h.names;
+}
+
 pub steps-sid : (s e n : SddlReader) (before after t rest text : List ℕ) (p : SidPart) (head : Head)
-    → s.state ≡ state.Sid p → IsFresh s → HeadAfter t head rest text → TakesWhole s before (slot.Sid p) t e after
+    → s.state ≡ state.Sid p → IsFresh s → HeadBehind t head rest text → TakesWhole s before (slot.Sid p) t e after
     → NotesHead e head n → StepsTo s before text n after rest
 steps-sid s e n before after t rest text p head here f h w notes =
+    let whole : Held = record { text = t; gap = false; broken = false } in
     let held = whole-held t (text-inside t h.whole.plain) h.whole.fits in
-    let over = head-steps (holding s t) e n before after h.letter head (rw here refl) held h.names
-    (ends-sid s e before after t p here f w) notes in
+    let spaced = λ (r : FieldsRead). blanks-behind s.fields.domain s.sound s.twice s.seen (unless s.fault r) p whole
+    h.blanks held h.blank in
     record {
-      bytes = t ++ h.letter ∷ 58 ∷ [];
-      stands = h.stands ∙ sym (append_assoc t (h.letter ∷ 58 ∷ []) rest);
+      bytes = t ++ (h.blanks ++ h.letter ∷ 58 ∷ []);
+      stands =
+          h.stands
+          ∙ sym (append_assoc t (h.blanks ++ h.letter ∷ 58 ∷ []) rest
+          ∙ ap (λ (u : List ℕ). t ++ u) (append_assoc h.blanks (h.letter ∷ 58 ∷ []) rest));
       steps = λ r k.
+          let ended = spaced r in
+          let over = head-steps (holding s ended.ended) e n before after h.letter head (rw here refl) ended.held h.names
+          (ends-sid s e before after t ended.ended p here f ended.text w) notes in
           let x = over r (record { fields = k.fields; fits = k.fits }) in (
             x.0,
             x.1,
             λ more.
-                let run : answer_at (holding s t) r (h.letter ∷ 58 ∷ more)
-                ≡ answer_at s r ((t ++ h.letter ∷ 58 ∷ []) ++ more) =
-                rw (f.begins, append_assoc)
-                (whole-text s.fields.domain s.sound s.twice s.seen (unless s.fault r) s.state (inl (p, here))
-                h.letter (58 ∷ more) (not_letter h.letter 58 head h.names refl) t h.whole.plain h.whole.fits) in
+                let run : answer_at (holding s ended.ended) r (h.letter ∷ 58 ∷ more)
+                ≡ answer_at s r ((t ++ (h.blanks ++ h.letter ∷ 58 ∷ [])) ++ more) =
+                rw (here, f.begins, append_assoc, append_assoc)
+                (ended.answers (h.letter ∷ 58 ∷ more)
+                ∙ text-then s.fields.domain s.sound s.twice s.seen (unless s.fault r) p t h.blanks h.letter more
+                h.whole.plain h.whole.fits h.blank (not_letter h.letter 58 head h.names refl)) in
                 x.2 more ∙ run,
           );
       field = ap (λ (x : SddlReader). x.field) notes.same ∙ (ap (λ (x : SddlReader). x.field) w.same ∙ f.begins);

@@ -5,7 +5,9 @@ ghost use Rattle.std.specs.Str.{byte as char};
 ghost use Rattle.std.specs.List.{list_all};
 ghost use Rattle.sd_sddl_fields.specs.Held.{is_plain_text};
 ghost use Rattle.sd_sddl_reader.specs.Inner.Progress.{is_plain_outside};
-ghost use Rattle.sd_sddl_reader.specs.Inner.WholePart.{AccountBefore, FrontBefore, HeadAfter, IsPlainText, NamedBefore};
+ghost use Rattle.sd_sddl_fields.specs.FieldTexts.{is_blank};
+ghost use Rattle.sd_sddl_reader.specs.Inner.WholePart.{AccountBefore, FrontBefore, HeadAfter, IsBehindBlanks, IsPlainText};
+ghost use Rattle.sd_sddl_reader.specs.Inner.WholePart.{NamedBefore};
 ghost use Rattle.sd_sddl_builder.specs.Line.{head_of};
 ghost use Rattle.sd_sddl_builder.specs.FoldedReading.{next_field};
 ghost use Rattle.sd_sddl_reader.specs.Inner.Heads.{have_heads};
@@ -15,7 +17,7 @@ ghost use Rattle.sd_text.specs.Limits.{most_field};
 use sd_alias::WellKnown;
 use sd_parts::{AclFlags, SidPart, Which};
 use sd_sddl_builder::{AceField, Head, KeptDomains, front_name};
-use sd_sddl_fields::{AclFront, NO_FLAGS, after, is_plain_text, plain_text};
+use sd_sddl_fields::{AclFront, NO_FLAGS, after, is_blank, is_plain_text, plain_text};
 use sd_sid::Account;
 use sd_text::MOST_FIELD_SIZE;
 
@@ -139,6 +141,29 @@ pub fn front_head(text: &[u8]) -> Option<(u8, Head, &[u8])>
     Some((text[0], head, &text[2..]))
 }
 
+// How many bytes at the front are blanks.
+#[inline(always)]
+fn blanks(text: &[u8]) -> usize
+    ensures within { result ≤ length text.now }
+    ensures blank { list_all is_blank (take result text.now) ≡ true }
+    ensures ends { result < length text.now → is_blank (slice_index text.now result) ≡ false }
+{
+    for (i, byte) in text.iter().enumerate() {
+        if !is_blank(*byte) {
+            return i;
+        }
+    }
+    text.len()
+}
+
+/// What follows the blanks at the front of a text.
+#[inline(always)]
+pub fn behind_blanks(text: &[u8]) -> &[u8]
+    ensures { IsBehindBlanks result.now text.now }
+{
+    &text[blanks(text)..]
+}
+
 // How many bytes at the front are plain, as far as a field may go and one byte more. So a look at what may be a whole
 // field takes no longer for a longer line.
 fn plain_front(text: &[u8]) -> usize
@@ -168,26 +193,26 @@ pub fn next_head(text: &[u8]) -> Option<(&[u8], Head, &[u8])>
     Some((&text[..end - 1], head, &text[end + 1..]))
 }
 
-/// The account of an owner or a group at the front of a text, the head that ends it, and what follows its colon. Where
-/// it is `None`, `next_head` decides. The numbers of a domain that is kept are not read again.
+/// The account of an owner or a group at the front of a text, the head behind it, and what follows its colon. Blanks may
+/// stand before the head. Where it is `None`, `next_head` decides. The numbers of a domain that is kept are not read again.
 #[inline(always)]
 pub fn next_account<'a>(text: &'a [u8], kept: &KeptDomains) -> Option<(Account, Head, &'a [u8])>
     ensures { IfSome result (λ r. AccountBefore r.0 r.1 r.2.now text.now) }
 {
     let (account, _, behind) = kept.front_account(text)?;
-    let (_, head, rest) = front_head(behind)?;
+    let (_, head, rest) = front_head(behind_blanks(behind))?;
     Some((account, head, rest))
 }
 
-/// The SID that two letters at the front of a text name everywhere, the head that ends them, and what follows its
-/// colon. Where it is `None`, `next_head` decides.
+/// The SID that two letters at the front of a text name everywhere, the head behind them, and what follows its colon.
+/// Blanks may stand before the head. Where it is `None`, `next_head` decides.
 #[inline(always)]
 pub fn next_named(text: &[u8]) -> Option<(&'static WellKnown, Head, &[u8])>
     ensures found { IfSome result (λ r. NamedBefore r.0.now r.1 r.2.now text.now) }
     ensures count { IfSome result (λ r. r.0.now.count ≤ 6) }
 {
     let (name, end) = front_name(text)?;
-    let (_, head, rest) = front_head(end)?;
+    let (_, head, rest) = front_head(behind_blanks(end))?;
     Some((name, head, rest))
 }
 

@@ -10,7 +10,8 @@ ghost use Rattle.sd_sddl_reader.specs.Inner.Progress.{is_inside};
 ghost use Rattle.sd_sddl_reader.specs.Inner.Reads.{Feeds, IsFresh, IsReader};
 
 use crate::line::{
-    State, first_parenthesis, front_head, next_account, next_head, next_named, usual_front,
+    State, behind_blanks, first_parenthesis, front_head, next_account, next_head, next_named,
+    usual_front,
 };
 use crate::reader::SddlReader;
 use sd_buffer::SdBuf;
@@ -272,8 +273,8 @@ impl SddlReader {
         }
     }
 
-    // Takes the ACEs that are whole at the front of the text, from behind the first parenthesis of the first one, and
-    // answers what follows them.
+    // Takes the ACEs that are whole at the front of the text, from behind the first parenthesis of the first one, with the
+    // blanks behind each, and answers what follows them.
     fn feed_aces<'a>(&mut self, buf: &mut SdBuf, text: &'a [u8]) -> &'a [u8]
         requires here { self.old.state ≡ State.Ace AceField.Kind }
         requires fresh { IsFresh self.old }
@@ -283,9 +284,10 @@ impl SddlReader {
         let mut rest = text;
         while let Some(after) = self.fields.take_ace(buf, rest) {
             self.state = State::AfterAce;
-            match after.split_first() {
+            let behind = behind_blanks(after);
+            match behind.split_first() {
                 Some((b'(', next)) => rest = next,
-                _ => return after,
+                _ => return behind,
             }
             self.state = State::Ace(AceField::Kind);
         }

@@ -1,17 +1,17 @@
 -- The text of an account's SID, from the numbers in it.
 use Rattle.std.proofs.Common.{◌≡◌, ◌≤◌, ℕ, Bool, true, false, ◌&&◌, List, [], ◌∷◌, ◌++◌, length, drop}
 use Rattle.std.proofs.Common.{Option, Some, Ok, Err, slice_index, refl, ap, sym, ◌∙◌, arith, append-nil, append_assoc, length-append}
-use Rattle.std.proofs.Common.{◌+◌, ◌-◌, take, subst}
+use Rattle.std.proofs.Common.{◌+◌, ◌-◌, ◌⊎◌, inl, inr, take, subst}
 use Rattle.std.proofs.Math.Seq.{take-append_seam}
 use Rattle.std.specs.Prelude.{◌==◌, nat_le, nat_lt, if◌then◌else◌}
-use Rattle.std.specs.Char.{is_digit}
+use Rattle.std.specs.Char.{is_digit, to_ascii_uppercase}
 use Rattle.std.specs.List.{list_all}
 use Rattle.std.proofs.lemmas.Bool.{and_parts}
 use Rattle.std.proofs.lemmas.Bool.Decides.{nat_tests}
 use Rattle.sd_text.specs.Cuts.{all_cuts, with_byte}
 use Rattle.sd_sid.specs.Sid.{SecurityId}
-use Rattle.sd_sid.specs.SidText.{are_letters, are_numbers, cut_at_dashes, decimal_reads, has_form, is_decimal}
-use Rattle.sd_sid.specs.SidText.{is_sid_byte, letters_read, numbers_read, or_number_fault, sid_reads}
+use Rattle.sd_sid.specs.SidText.{are_letters, are_numbers, begins_with_s1, cut_at_dashes, decimal_reads, has_form}
+use Rattle.sd_sid.specs.SidText.{is_decimal, is_sid_byte, letters_read, numbers_read, or_number_fault, sid_reads}
 use Rattle.sd_sid.specs.declared.sid_text.SidFault.TheVariants as faults
 use Rattle.sd_sid.specs.declared.account.Account.{Account}
 use Rattle.sd_sid.specs.Account.{AccountAt, account_sid}
@@ -41,8 +41,18 @@ more-bytes : (ds rest : List ℕ) → is_decimal ds ≡ true → list_all is_sid
     → list_all is_sid_byte (ds ++ 45 ∷ rest) ≡ true
 more-bytes ds rest e f = joined_bytes ds (45 ∷ rest) (decimal-bytes ds e) f
 
-module _ (c d e f : List ℕ) (is_c : is_decimal c ≡ true) (is_d : is_decimal d ≡ true) (is_e : is_decimal e ≡ true)
-    (is_f : is_decimal f ≡ true) where
+-- The S at the front of a SID may be small.
+abbrev pub IsS : ℕ → Type 0
+IsS letter = (letter ≡ 83) ⊎ (letter ≡ 115)
+
+s-upper : (letter : ℕ) → IsS letter → to_ascii_uppercase letter ≡ 83
+s-upper letter is_s = elim is_s [ inl e ↦ rw e refl | inr e ↦ rw e refl ]
+
+s-byte : (letter : ℕ) → IsS letter → is_sid_byte letter ≡ true
+s-byte letter is_s = elim is_s [ inl e ↦ rw e refl | inr e ↦ rw e refl ]
+
+module _ (letter : ℕ) (is_s : IsS letter) (c d e f : List ℕ) (is_c : is_decimal c ≡ true) (is_d : is_decimal d ≡ true)
+    (is_e : is_decimal e ≡ true) (is_f : is_decimal f ≡ true) where
   numbers_text : List ℕ
   numbers_text = c ++ 45 ∷ (d ++ 45 ∷ (e ++ 45 ∷ f))
 
@@ -64,9 +74,9 @@ module _ (c d e f : List ℕ) (is_c : is_decimal c ≡ true) (is_d : is_decimal 
       let r = length-append e (45 ∷ f) in
       omega arith
 
-  -- S-1-5-21- and the numbers
+  -- S-1-5-21- with either S, and the numbers
   account_text : List ℕ
-  account_text = 83 ∷ 45 ∷ 49 ∷ 45 ∷ 53 ∷ 45 ∷ 50 ∷ 49 ∷ 45 ∷ numbers_text
+  account_text = letter ∷ 45 ∷ 49 ∷ 45 ∷ 53 ∷ 45 ∷ 50 ∷ 49 ∷ 45 ∷ numbers_text
 
   no-letters : are_letters account_text ≡ false
   unfolding account_text
@@ -82,7 +92,9 @@ module _ (c d e f : List ℕ) (is_c : is_decimal c ≡ true) (is_d : is_decimal 
   unfolding account_text has_form
   account-form short =
       let fits : nat_le (length account_text) 183 ≡ true = grind (arith, nat_tests) in
-      ap (λ (b : Bool). (b && true) && are_numbers (cut_at_dashes (drop 4 account_text))) fits
+      ap (λ (b : Bool). b && begins_with_s1 account_text && are_numbers (cut_at_dashes (drop 4 account_text))) fits
+      ∙ ap (λ (u : ℕ). u == 83 && true && true && true && are_numbers (cut_at_dashes (drop 4 account_text)))
+      (s-upper letter is_s)
       ∙ ap are_numbers cut-account
       ∙ rw (is_c, is_d, is_e, is_f) refl
 
@@ -107,46 +119,48 @@ module _ (c d e f : List ℕ) (is_c : is_decimal c ≡ true) (is_d : is_decimal 
 
   account-bytes : list_all is_sid_byte account_text ≡ true
   unfolding account_text
-  account-bytes = numbers-bytes
+  account-bytes = ap (λ (b : Bool). b && list_all is_sid_byte numbers_text) (s-byte letter is_s) ∙ numbers-bytes
 
 -- the texts of the four numbers one after the other
-pub account-at : (text p q r s rest : List ℕ) (a : Account) → text ≡ 83 ∷ 45 ∷ 49 ∷ 45 ∷ 53 ∷ 45 ∷ 50 ∷ 49 ∷ 45 ∷ p
+pub account-at : (letter : ℕ) → IsS letter → (text p q r s rest : List ℕ) (a : Account)
+    → text ≡ letter ∷ 45 ∷ 49 ∷ 45 ∷ 53 ∷ 45 ∷ 50 ∷ 49 ∷ 45 ∷ p
     → NumberAt p a.first (45 ∷ q) → NumberAt q a.second (45 ∷ r) → NumberAt r a.third (45 ∷ s)
     → NumberAt s a.last rest
     → AccountAt text a rest
 unfolding account_text numbers_text
-account-at text p q r s rest a stands k l m n =
-    let count = length-numbers k.digits l.digits m.digits n.digits k.form l.form m.form n.form k.few l.few m.few n.few in
-    let short : length (account_text k.digits l.digits m.digits n.digits k.form l.form m.form n.form) ≤ 52 =
+account-at letter is_s text p q r s rest a stands k l m n =
+    let count = length-numbers letter is_s k.digits l.digits m.digits n.digits k.form l.form m.form n.form
+    k.few l.few m.few n.few in
+    let short : length (account_text letter is_s k.digits l.digits m.digits n.digits k.form l.form m.form n.form) ≤ 52 =
     omega (arith, count) in
     record {
-      field = account_text k.digits l.digits m.digits n.digits k.form l.form m.form n.form;
+      field = account_text letter is_s k.digits l.digits m.digits n.digits k.form l.form m.form n.form;
       stands =
           let last : k.digits ++ 45 ∷ (l.digits ++ 45 ∷ (m.digits ++ 45 ∷ (n.digits ++ rest)))
-          ≡ numbers_text k.digits l.digits m.digits n.digits k.form l.form m.form n.form ++ rest =
+          ≡ numbers_text letter is_s k.digits l.digits m.digits n.digits k.form l.form m.form n.form ++ rest =
           sym (append_assoc k.digits (45 ∷ (l.digits ++ 45 ∷ (m.digits ++ 45 ∷ n.digits))) rest
           ∙ ap (λ (t : List ℕ). k.digits ++ 45 ∷ t)
           (append_assoc l.digits (45 ∷ (m.digits ++ 45 ∷ n.digits)) rest
           ∙ ap (λ (t : List ℕ). l.digits ++ 45 ∷ t) (append_assoc m.digits (45 ∷ n.digits) rest))) in
-          stands ∙ ap (λ (t : List ℕ). 83 ∷ 45 ∷ 49 ∷ 45 ∷ 53 ∷ 45 ∷ 50 ∷ 49 ∷ 45 ∷ t)
+          stands ∙ ap (λ (t : List ℕ). letter ∷ 45 ∷ 49 ∷ 45 ∷ 53 ∷ 45 ∷ 50 ∷ 49 ∷ 45 ∷ t)
           (k.stands ∙ ap (λ (t : List ℕ). k.digits ++ 45 ∷ t) (l.stands ∙ ap (λ (t : List ℕ). l.digits ++ 45 ∷ t)
           (m.stands ∙ ap (λ (t : List ℕ). m.digits ++ 45 ∷ t) n.stands)) ∙ last);
-      reads = account-reads k.digits l.digits m.digits n.digits k.form l.form m.form n.form (account_sid a)
+      reads = account-reads letter is_s k.digits l.digits m.digits n.digits k.form l.form m.form n.form (account_sid a)
           (omega (arith, short))
-          (account-numbers k.digits l.digits m.digits n.digits k.form l.form m.form n.form a.first a.second a.third
-          a.last k.reads l.reads m.reads n.reads);
-      plain = account-bytes k.digits l.digits m.digits n.digits k.form l.form m.form n.form;
+          (account-numbers letter is_s k.digits l.digits m.digits n.digits k.form l.form m.form n.form
+          a.first a.second a.third a.last k.reads l.reads m.reads n.reads);
+      plain = account-bytes letter is_s k.digits l.digits m.digits n.digits k.form l.form m.form n.form;
       short = short;
     }
 
 -- the texts of the first three numbers, and the dash behind each, are the text of the domain
-pub domain-text : (text p q r s : List ℕ) (a : Account)
-    → text ≡ 83 ∷ 45 ∷ 49 ∷ 45 ∷ 53 ∷ 45 ∷ 50 ∷ 49 ∷ 45 ∷ p
+pub domain-text : (letter : ℕ) → IsS letter → (text p q r s : List ℕ) (a : Account)
+    → text ≡ letter ∷ 45 ∷ 49 ∷ 45 ∷ 53 ∷ 45 ∷ 50 ∷ 49 ∷ 45 ∷ p
     → NumberAt p a.first (45 ∷ q) → NumberAt q a.second (45 ∷ r) → NumberAt r a.third (45 ∷ s)
     → IsDomainText (take (length text - length s) text) a
-domain-text text p q r s a stands k l m =
+domain-text letter is_s text p q r s a stands k l m =
     let inner : List ℕ = k.digits ++ 45 ∷ (l.digits ++ 45 ∷ (m.digits ++ 45 ∷ [])) in
-    let front : List ℕ = 83 ∷ 45 ∷ 49 ∷ 45 ∷ 53 ∷ 45 ∷ 50 ∷ 49 ∷ 45 ∷ inner in
+    let front : List ℕ = letter ∷ 45 ∷ 49 ∷ 45 ∷ 53 ∷ 45 ∷ 50 ∷ 49 ∷ 45 ∷ inner in
     let behind : (t : List ℕ)
     → inner ++ t ≡ k.digits ++ 45 ∷ (l.digits ++ 45 ∷ (m.digits ++ 45 ∷ t)) =
     λ t. append_assoc k.digits (45 ∷ (l.digits ++ 45 ∷ (m.digits ++ 45 ∷ []))) t
@@ -154,7 +168,7 @@ domain-text text p q r s a stands k l m =
     (append_assoc l.digits (45 ∷ (m.digits ++ 45 ∷ [])) t
     ∙ ap (λ (u : List ℕ). l.digits ++ 45 ∷ u) (append_assoc m.digits (45 ∷ []) t)) in
     let is : text ≡ front ++ s =
-    stands ∙ ap (λ (t : List ℕ). 83 ∷ 45 ∷ 49 ∷ 45 ∷ 53 ∷ 45 ∷ 50 ∷ 49 ∷ 45 ∷ t)
+    stands ∙ ap (λ (t : List ℕ). letter ∷ 45 ∷ 49 ∷ 45 ∷ 53 ∷ 45 ∷ 50 ∷ 49 ∷ 45 ∷ t)
     (k.stands ∙ ap (λ (t : List ℕ). k.digits ++ 45 ∷ t) (l.stands ∙ ap (λ (t : List ℕ). l.digits ++ 45 ∷ t) m.stands)
     ∙ sym (behind s)) in
     let sizes : length text ≡ length front + length s = ap length is ∙ length-append front s in
@@ -167,9 +181,9 @@ domain-text text p q r s a stands k l m =
     subst (λ (t : List ℕ). IsDomainText t a) (sym text-is) (record {
       short = omega (arith, one, two, three, k.few, l.few, m.few);
       reads = λ own rest n h.
-          account-at (front ++ own) (k.digits ++ 45 ∷ (l.digits ++ 45 ∷ (m.digits ++ 45 ∷ own)))
+          account-at letter is_s (front ++ own) (k.digits ++ 45 ∷ (l.digits ++ 45 ∷ (m.digits ++ 45 ∷ own)))
           (l.digits ++ 45 ∷ (m.digits ++ 45 ∷ own)) (m.digits ++ 45 ∷ own) own rest (record a { last = n })
-          (ap (λ (t : List ℕ). 83 ∷ 45 ∷ 49 ∷ 45 ∷ 53 ∷ 45 ∷ 50 ∷ 49 ∷ 45 ∷ t) (behind own))
+          (ap (λ (t : List ℕ). letter ∷ 45 ∷ 49 ∷ 45 ∷ 53 ∷ 45 ∷ 50 ∷ 49 ∷ 45 ∷ t) (behind own))
           (record { digits = k.digits; stands = refl; form = k.form; reads = k.reads; few = k.few })
           (record { digits = l.digits; stands = refl; form = l.form; reads = l.reads; few = l.few })
           (record { digits = m.digits; stands = refl; form = m.form; reads = m.reads; few = m.few })

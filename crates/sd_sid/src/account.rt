@@ -1,6 +1,6 @@
 //! The SIDs of accounts of a domain, `S-1-5-21` and four numbers: most SIDs of a line are such.
 
-ghost use Rattle.std.specs.Prelude.{◌≡◌, ◌≤◌, ◌<◌, ◌∷◌, ◌++◌, codes, length, take, true, IfSome};
+ghost use Rattle.std.specs.Prelude.{◌≡◌, ◌≤◌, ◌<◌, ◌∷◌, ◌++◌, ◌⊎◌, codes, length, take, true, IfSome};
 ghost use Rattle.std.specs.Str.{byte as char};
 ghost use Rattle.sd_sid.specs.Account.{AccountAt, account_sid};
 ghost use Rattle.sd_sid.specs.Inner.Read.{NumberAt};
@@ -12,8 +12,10 @@ use crate::usual_sid::{DOMAIN, NT};
 use sd_text::front_decimal;
 use std::marker::Model;
 
-/// The text before the numbers of an account, and its size.
+/// The text before the numbers of an account, with either letter, and its size.
 const DOMAIN_TEXT: &[u8; DOMAIN_TEXT_SIZE] = b"S-1-5-21-";
+
+const SMALL_DOMAIN_TEXT: &[u8; DOMAIN_TEXT_SIZE] = b"s-1-5-21-";
 
 const DOMAIN_TEXT_SIZE: usize = 9;
 
@@ -225,12 +227,14 @@ fn number(text: &[u8]) -> Option<(u32, &[u8])>
     Some((number as u32, &text[count..]))
 }
 
-// What follows `S-1-5-21-` at the front.
+// What follows `S-1-5-21-` at the front, or the same with a small `s`. The capital is more usual, so it is tried first.
 #[inline(always)]
 fn behind_domain(text: &[u8]) -> Option<&[u8]>
-    ensures { IfSome result (λ r. text.now ≡ codes "S-1-5-21-" ++ r.now) }
+    ensures { IfSome result (λ r. (text.now ≡ codes "S-1-5-21-" ++ r.now) ⊎ (text.now ≡ codes "s-1-5-21-" ++ r.now)) }
 {
-    if !has_front::<DOMAIN_TEXT_SIZE>(text, DOMAIN_TEXT) {
+    if !has_front::<DOMAIN_TEXT_SIZE>(text, DOMAIN_TEXT)
+        && !has_front::<DOMAIN_TEXT_SIZE>(text, SMALL_DOMAIN_TEXT)
+    {
         return None;
     }
     Some(&text[DOMAIN_TEXT_SIZE..])

@@ -19,8 +19,7 @@ pub struct Naming {
 }
 
 impl Naming {
-    /// The alias by which a SID is printed (MS-DTYP 2.5.1.1). None where it has none, or where numbers alone
-    /// are asked for.
+    /// The alias by which a SID is printed (MS-DTYP 2.5.1.1). None if it has none, or if numbers alone are asked for.
     #[inline(always)]
     pub fn alias(&self, sid: &Sid) -> Option<[u8; 2]>
         ensures { result ≡ alias_by self.now sid.now }

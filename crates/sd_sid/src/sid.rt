@@ -15,8 +15,7 @@ use std::marker::Model;
 /// The bytes of a SID without sub-authorities: revision, count and identifier authority.
 const HEADER_SIZE: usize = 8;
 
-/// A security identifier (MS-DTYP 2.4.2): an identifier authority below 2^48 and at most 15
-/// sub-authorities.
+/// A security identifier (MS-DTYP 2.4.2): an identifier authority below 2^48 and at most 15 sub-authorities.
 #[derive(Clone, Copy, Debug, PartialEq, Eq)]
 pub struct Sid {
     authority: u64,
@@ -52,8 +51,7 @@ impl Model for Sid {
 }
 
 impl Sid {
-    /// The SID of these parts. None where the authority is 2^48 or more, or where there are more than
-    /// 15 sub-authorities.
+    /// The SID of these parts. None if the authority is 2^48 or more, or if there are more than 15 sub-authorities.
     ///
     /// ```
     /// assert!(rt; Sid::new(5, &[32, 544]).map(|sid| sid.size()) == Some(16));
@@ -147,8 +145,7 @@ impl Sid {
         Some(HEADER_SIZE + 4 * count)
     }
 
-    /// The SID at the front of bytes that begin with one, as `read` finds it: the count is at most 15, and there are
-    /// as many sub-authorities.
+    /// The SID that `read` finds at the front. The count is at most 15, and there are as many sub-authorities.
     pub fn at_front(bytes: &[u8]) -> Sid
         requires count { slice_index bytes.now 1 ≤ most_subs }
         requires whole { 8 + 4 * slice_index bytes.now 1 ≤ length bytes.now }

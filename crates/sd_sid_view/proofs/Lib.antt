@@ -1,2 +1,3 @@
 mod KnownCounts
+mod RelativeNumbers
 pub mod ViewLemmas

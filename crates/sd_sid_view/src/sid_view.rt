@@ -28,6 +28,11 @@ const DOMAIN: u32 = 21;
 /// The first sub-authority of the SID of user-mode drivers, `S-1-5-84-0-0-0-0-0`. No other name has six.
 const USER_MODE_DRIVERS: u32 = 84;
 
+/// The last sub-authorities of the SIDs that have a name in a domain lie from this one to that one.
+const FIRST_RELATIVE: u32 = 498;
+
+const LAST_RELATIVE: u32 = 553;
+
 /// A SID in the bytes that show it (MS-DTYP 2.4.2.2).
 #[derive(Drop)]
 pub struct SidView<'a> {
@@ -235,9 +240,31 @@ impl<'a> SidView<'a> {
         }
     }
 
-    // Few descriptors are printed under a domain, so the SID is copied for its name there.
-    #[inline(never)]
+    // Most accounts have a higher number than those with a name in their domain. So the test for these is inlined, and the
+    // search is a call.
+    #[inline(always)]
     fn relative_alias(&self, domain: &Sid) -> Option<[u8; 2]>
+        ensures { result ≡ relative_alias self.now domain.now }
+    {
+        if !self.may_be_relative() {
+            return None;
+        }
+        self.find_relative(domain)
+    }
+
+    // Whether a SID with this last sub-authority may have a name in a domain.
+    #[inline(always)]
+    fn may_be_relative(&self) -> bool
+        ensures { result ≡ (nat_le 498 (slice_index self.now.subs (length self.now.subs - 1))
+            && nat_le (slice_index self.now.subs (length self.now.subs - 1)) 553) }
+    {
+        let last = self.last();
+        FIRST_RELATIVE <= last && last <= LAST_RELATIVE
+    }
+
+    // Few SIDs come here, so the SID is copied.
+    #[inline(never)]
+    fn find_relative(&self, domain: &Sid) -> Option<[u8; 2]>
         ensures { result ≡ relative_alias self.now domain.now }
     {
         relative_alias(&self.sid(), domain)

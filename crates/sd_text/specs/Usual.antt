@@ -1,7 +1,8 @@
 -- Usual texts in a table: keys, which are words of their bytes, and sizes.
 use Rattle.std.specs.Prelude.{◌≡◌, ◌<◌, ◌≤◌, ℕ, ◌*◌, ◌-◌, ◌%◌, ◌^◌, Bool, true, false, ◌&&◌, ◌==◌, List, [], ◌∷◌, take, drop}
-use Rattle.std.specs.Prelude.{length, get_or, Option, Some, None, suc}
+use Rattle.std.specs.Prelude.{length, get_or, Option, Some, None, suc, nat_le}
 use Rattle.std.specs.Int.{to_le_bytes, w64}
+use Rattle.std.specs.Str.{bytes_eq}
 
 -- the text of a key: the bytes at the high end of the word
 abbrev pub usual_text : ℕ → ℕ → List ℕ
@@ -35,3 +36,15 @@ have_values reads (key ∷ keys) [] values = false
 have_values reads (key ∷ keys) (size ∷ sizes) [] = false
 have_values reads (key ∷ keys) (size ∷ sizes) (value ∷ values) =
     gives (reads (usual_text key size)) value && have_values reads keys sizes values
+
+-- Texts as they are printed, in cells that may have more bytes.
+
+-- the cells from a row on begin with the texts of the rows, of at most 16 bytes
+abbrev pub texts_from : (ℕ → List ℕ) → ℕ → List (List ℕ) → List ℕ → Bool
+texts_from text row [] sizes = true
+texts_from text row (cells ∷ more) [] = false
+texts_from text row (cells ∷ more) (size ∷ sizes) =
+    (nat_le size 16 && bytes_eq (take size cells) (text row)) && texts_from text (suc row) more sizes
+
+abbrev pub have_texts : (ℕ → List ℕ) → List (List ℕ) → List ℕ → Bool
+have_texts text cells sizes = texts_from text 0 cells sizes

@@ -9,7 +9,7 @@ use Rattle.sd_sid.specs.SidText.{known_sid, sid_reads}
 use Rattle.sd_sid.specs.declared.account.Account.{Account}
 use Rattle.sd_text.specs.Limits.{most_field}
 use Rattle.sd_sddl_builder.specs.Line.{head_of}
-use Rattle.sd_sddl_fields.specs.FieldTexts.{front_reads}
+use Rattle.sd_sddl_fields.specs.FieldTexts.{front_reads, is_blank}
 use Rattle.sd_sddl_fields.specs.Held.{is_plain_text}
 use Rattle.sd_sddl_fields.specs.declared.field_texts.AclFront.{AclFront}
 use Rattle.sd_sddl_builder.specs.declared.slot.Head.{Head}
@@ -26,16 +26,32 @@ pub record HeadAfter (field : List ℕ) (head : Head) (rest text : List ℕ) : T
   pub stands : text ≡ field ++ letter ∷ char ":" ∷ rest
   pub names : head_of letter ≡ Some head
 
--- a text that reads as an account's SID, a head that ends it, and a rest
+-- what stands behind the blanks at the front of a text
+pub record IsBehindBlanks (rest text : List ℕ) : Type 0 where
+  pub blanks : List ℕ
+  pub blank : list_all is_blank blanks ≡ true
+  pub stands : text ≡ blanks ++ rest
+  pub ends : (b : ℕ) (more : List ℕ) → rest ≡ b ∷ more → is_blank b ≡ false
+
+-- the text of a field, a head behind it, blanks between them if any, and a rest
+pub record HeadBehind (field : List ℕ) (head : Head) (rest text : List ℕ) : Type 0 where
+  pub whole : IsPlainText field
+  pub blanks : List ℕ
+  pub blank : list_all is_blank blanks ≡ true
+  pub letter : ℕ
+  pub stands : text ≡ field ++ (blanks ++ letter ∷ char ":" ∷ rest)
+  pub names : head_of letter ≡ Some head
+
+-- a text that reads as an account's SID, a head behind it, and a rest
 pub record AccountBefore (account : Account) (head : Head) (rest text : List ℕ) : Type 0 where
   pub field : List ℕ
-  pub before : HeadAfter field head rest text
+  pub before : HeadBehind field head rest text
   pub reads : (domain : Option SecurityId) → sid_reads field domain ≡ Ok (account_sid account)
 
--- two letters that name a SID everywhere, a head that ends them, and a rest
+-- two letters that name a SID everywhere, a head behind them, and a rest
 pub record NamedBefore (name : WellKnown) (head : Head) (rest text : List ℕ) : Type 0 where
   pub field : List ℕ
-  pub before : HeadAfter field head rest text
+  pub before : HeadBehind field head rest text
   pub reads : (domain : Option SecurityId) → sid_reads field domain ≡ Ok (known_sid name)
 
 -- a text that reads as the flags of an ACL that is not null, the parenthesis that ends it, and a rest

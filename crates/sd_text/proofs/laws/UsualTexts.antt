@@ -1,11 +1,15 @@
 -- Usual texts, by their keys.
 use Rattle.std.proofs.Common.{◌≡◌, ◌<◌, ◌≤◌, ℕ, zero, suc, ◌+◌, ◌*◌, ◌%◌, ◌^◌, true, List, [], ◌∷◌}
 use Rattle.std.proofs.Common.{length, get_or, take, drop, Option, Some, None, arith, refl, sym, ap, ◌∙◌, eqb-true, w64}
-use Rattle.std.specs.Prelude.{◌==◌}
+use Rattle.std.specs.Prelude.{◌==◌, ◌&&◌, nat_le}
+use Rattle.std.specs.Cmp.Lexicographic.{same_text}
+use Rattle.std.specs.Str.{bytes_eq}
 use Rattle.std.specs.Int.{from_le_bytes}
 use Rattle.std.proofs.lemmas.Bool.{and_parts, true≢false}
+use Rattle.std.proofs.lemmas.Bool.Decides.{nat_tests}
 use Rattle.std.proofs.lemmas.Nat.{le_bytes_8}
-use Rattle.sd_text.specs.Usual.{are_shifts, gives, have_values, shift_of, shifts_from, usual_text}
+use Rattle.sd_text.specs.Usual.{are_shifts, gives, have_texts, have_values, shift_of, shifts_from, texts_from}
+use Rattle.sd_text.specs.Usual.{usual_text}
 
 -- 1. A row's value.
 
@@ -23,7 +27,34 @@ value-in reads (k ∷ ks) (s ∷ ss) (v ∷ vs) zero all h =
 value-in reads (k ∷ ks) (s ∷ ss) (v ∷ vs) (suc i) all h =
     value-in reads ks ss vs i (and_parts (gives (reads (usual_text k s)) v) (have_values reads ks ss vs) all).1 (omega arith)
 
--- 2. Shifts.
+-- 2. A row's printed text.
+
+text-from : (text : ℕ → List ℕ) (first : ℕ) (cells : List (List ℕ)) (sizes : List ℕ) (i : ℕ)
+    → texts_from text first cells sizes ≡ true → i < length cells
+    → (get_or sizes i 0 ≤ 16) × (take (get_or sizes i 0) (get_or cells i []) ≡ text (first + i))
+text-from text first [] sizes i all h = absurd (omega arith)
+text-from text first (c ∷ cs) [] i all h = absurd (true≢false (sym all))
+text-from text first (c ∷ cs) (s ∷ ss) zero all h =
+    let row = and_parts (nat_le s 16 && bytes_eq (take s c) (text first)) (texts_from text (suc first) cs ss) all in
+    let parts = and_parts (nat_le s 16) (bytes_eq (take s c) (text first)) row.0 in
+    let few : s ≤ 16 = let h = parts.0 in grind (arith, nat_tests) in
+    let same : first ≡ first + 0 = omega arith in
+    (few, same_text (take s c) (text first) (sym parts.1) ∙ ap text same)
+text-from text first (c ∷ cs) (s ∷ ss) (suc i) all h =
+    let row = and_parts (nat_le s 16 && bytes_eq (take s c) (text first)) (texts_from text (suc first) cs ss) all in
+    let next : suc first + i ≡ first + suc i = omega arith in
+    let rest = text-from text (suc first) cs ss i row.1 (omega arith) in
+    (rest.0, rest.1 ∙ ap text next)
+
+pub text-in : (text : ℕ → List ℕ) (cells : List (List ℕ)) (sizes : List ℕ) (i : ℕ)
+    → have_texts text cells sizes ≡ true → i < length cells
+    → (get_or sizes i 0 ≤ 16) × (take (get_or sizes i 0) (get_or cells i []) ≡ text i)
+text-in text cells sizes i all h =
+    let same : 0 + i ≡ i = omega arith in
+    let row = text-from text 0 cells sizes i all h in
+    (row.0, row.1 ∙ ap text same)
+
+-- 3. Shifts.
 
 shift-from : (first i : ℕ) (shifts : List ℕ) → shifts_from first shifts ≡ true → i < length shifts
     → get_or shifts i 0 ≡ shift_of (first + i)
@@ -39,7 +70,7 @@ shift-from first (suc i) (s ∷ more) all h =
 pub shift-at : (shifts : List ℕ) (i : ℕ) → are_shifts shifts ≡ true → i < length shifts → get_or shifts i 0 ≡ shift_of i
 shift-at shifts i all h = let same : 0 + i ≡ i = omega arith in shift-from 0 i shifts all h ∙ ap shift_of same
 
--- 3. The text of a key.
+-- 4. The text of a key.
 
 pub bytes-of : (a b c f g i j k : ℕ) → a < 256 → b < 256 → c < 256 → f < 256 → g < 256 → i < 256 → j < 256 → k < 256
     → (n : ℕ) → get_or (a ∷ b ∷ c ∷ f ∷ g ∷ i ∷ j ∷ k ∷ []) n 0 < 256

@@ -1,6 +1,6 @@
 use Rattle.std.proofs.Common.{◌≡◌, ℕ, ap, length, [], ◌∷◌, None, refl, ◌∙◌, arith, length-append}
 use Rattle.sd_sddl_reader.specs.declared.line.State.TheVariants as state
-use Rattle.sd_sddl_reader.proofs.WholeFields.{fed-on, reader-at, steps-open, steps-over}
+use Rattle.sd_sddl_reader.proofs.WholeFields.{fed-on, over-blanks, reader-at, steps-open, steps-over}
 use Rattle.sd_sddl_reader.proofs.reader.SddlReader.feed_aces.Goals as goal
 
 pub returns-in_default-split_first : goal.returns-in_default-split_first
@@ -9,11 +9,14 @@ returns-in_default-split_first c =
     let i = c.loop-after.invariant in
     let none : s.pending ≡ None = i.reader.still (rw (i.here) refl) in
     let t = record s { state = state.AfterAce; fields = c.take_ace.new.self } in
-    let over = steps-over s t c.loop-after.buf c.take_ace.new.buf c.loop-after.rest.now c.in-Some.after.now i.here
+    let ace = steps-over s t c.loop-after.buf c.take_ace.new.buf c.loop-after.rest.now c.in-Some.after.now i.here
     i.begins i.clear c.take_ace.ensures.domain refl c.in-Some.ensures.read in
+    let between = c.behind_blanks-behind.ensures in
+    let over = over-blanks s t c.loop-after.buf c.take_ace.new.buf c.loop-after.rest.now c.in-Some.after.now
+    between.blanks c.behind_blanks-behind.result.now ace between.blank between.stands in
     let e = over.steps i.reader.read i.reader.held in
     record {
-      shorter = omega (arith, length-append over.bytes c.in-Some.after.now, ap length over.stands, i.shorter);
+      shorter = omega (arith, length-append over.bytes c.behind_blanks-behind.result.now, ap length over.stands, i.shorter);
       reader = reader-at _ _ over.field (over.pending ∙ none) e.0 e.1;
       read = λ domain before h.
           fed-on s t c.loop-after.buf c.take_ace.new.buf domain over.bytes _ _ _ none (over.pending ∙ none) over.steps
@@ -26,11 +29,14 @@ returns-in_default-split_first-2 c =
     let i = c.loop-after.invariant in
     let none : s.pending ≡ None = i.reader.still (rw (i.here) refl) in
     let t = record s { state = state.AfterAce; fields = c.take_ace.new.self } in
-    let over = steps-over s t c.loop-after.buf c.take_ace.new.buf c.loop-after.rest.now c.in-Some.after.now i.here
+    let ace = steps-over s t c.loop-after.buf c.take_ace.new.buf c.loop-after.rest.now c.in-Some.after.now i.here
     i.begins i.clear c.take_ace.ensures.domain refl c.in-Some.ensures.read in
+    let between = c.behind_blanks-behind.ensures in
+    let over = over-blanks s t c.loop-after.buf c.take_ace.new.buf c.loop-after.rest.now c.in-Some.after.now
+    between.blanks c.behind_blanks-behind.result.now ace between.blank between.stands in
     let e = over.steps i.reader.read i.reader.held in
     record {
-      shorter = omega (arith, length-append over.bytes c.in-Some.after.now, ap length over.stands, i.shorter);
+      shorter = omega (arith, length-append over.bytes c.behind_blanks-behind.result.now, ap length over.stands, i.shorter);
       reader = reader-at _ _ over.field (over.pending ∙ none) e.0 e.1;
       read = λ domain before h.
           fed-on s t c.loop-after.buf c.take_ace.new.buf domain over.bytes _ _ _ none (over.pending ∙ none) over.steps
@@ -53,13 +59,16 @@ loop-after-preserved c =
     let t = record s { state = state.AfterAce; fields = c.take_ace.new.self } in
     let none : s.pending ≡ None = c.loop-after.invariant.reader.still (rw (c.loop-after.invariant.here) refl) in
     let i = c.loop-after.invariant in
-    let over = steps-over s t c.loop-after.buf c.take_ace.new.buf c.loop-after.rest.now c.in-Some.after.now i.here
+    let ace = steps-over s t c.loop-after.buf c.take_ace.new.buf c.loop-after.rest.now c.in-Some.after.now i.here
     i.begins i.clear c.take_ace.ensures.domain refl c.in-Some.ensures.read in
+    let between = c.behind_blanks-behind.ensures in
+    let over = over-blanks s t c.loop-after.buf c.take_ace.new.buf c.loop-after.rest.now c.in-Some.after.now
+    between.blanks c.behind_blanks-behind.result.now ace between.blank between.stands in
     let still : t.pending ≡ None = over.pending ∙ none in
     let opens = steps-open t c.take_ace.new.buf over.state over.field in
     let e = over.steps c.loop-after.invariant.reader.read c.loop-after.invariant.reader.held in
     let o = opens e.0 e.1 in
-    let rest = c.in-Some.after.now in
+    let rest = c.behind_blanks-behind.result.now in
     let next = c.in-Some-eq40-default.next.now in
     let is : rest ≡ 40 ∷ next =
     c.in-Some-eq40-default.ensures.cases.0 ∙ ap (λ (b : ℕ). b ∷ next) c.in-Some-eq40-default.field-0-0-test in

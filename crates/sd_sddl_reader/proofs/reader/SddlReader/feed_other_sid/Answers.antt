@@ -1,4 +1,4 @@
-use Rattle.sd_sddl_reader.proofs.WholeParts.{feeds-to, steps-sid}
+use Rattle.sd_sddl_reader.proofs.WholeParts.{behind-none, feeds-to, steps-sid}
 use Rattle.sd_sddl_reader.proofs.reader.SddlReader.feed_other_sid.Goals as goal
 
 pub returns-in-Some : goal.returns-in-Some
@@ -7,7 +7,7 @@ returns-in-Some c =
     let noted = c.note_head.ensures in
     let over = steps-sid c.args.self.now c.take_whole.new.self c.note_head.new.self c.args.buf.now c.take_whole.new.buf
     c.in-Some.field.now c.in-Some.rest.now c.args.text.now c.args.part c.in-Some.head c.requires.here c.requires.fresh
-    c.in-Some.ensures.found (record { read = taken.read; domain = taken.domain; same = taken.same })
+    (behind-none _ _ _ _ c.in-Some.ensures.found) (record { read = taken.read; domain = taken.domain; same = taken.same })
     (record {
       state = noted.state;
       twice = noted.twice;
