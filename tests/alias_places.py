@@ -2,12 +2,12 @@
 """alias_places.py [--check]
 
 Writes crates/sd_alias/src/places.rt from the tables of crates/sd_alias/src/table.rt: where the entry of each two
-letters is, and where the rows of one authority begin and end. With --check it writes nothing, and fails if the file is
-stale; the last line is then 'N passed, M failed'. What the file says is proved all the same: a wrong place fails the
-check of sd_alias.
+letters is, and that of each SID. With --check it writes nothing, and fails if the file is stale; the last line is then
+'N passed, M failed'. What the file says is proved all the same: a wrong place fails the check of sd_alias.
 """
 import argparse
 import pathlib
+import random
 import re
 import sys
 import textwrap
@@ -20,9 +20,7 @@ TABLES, PLACES = SOURCES / "table.rt", SOURCES / "places.rt"
 KNOWN = re.compile(r"known!\(b'(\w)', b'(\w)', (\d+), (\d+), \[([\d, ]+)\]\)")
 RELATIVE = re.compile(r"relative!\(b'(\w)', b'(\w)', \d+\)")
 LETTERS = 26
-# The rows that are searched apart: a name, what they are, their authority, the number of their sub-authorities, and
-# the first of these if there are two.
-GROUPS = [("CREATOR", "`S-1-3-N`", 3, 1, None), ("NT", "`S-1-5-N`", 5, 1, None), ("BUILTIN", "`S-1-5-32-N`", 5, 2, 32)]
+SID_CELLS = 128
 HEAD = """\
 //! Where each name of two letters is in the tables of aliases. `make figures` writes this file from `table.rt`.
 
@@ -32,12 +30,6 @@ pub const LETTERS: usize = 26;
 /// No name.
 pub const NO: u8 = 255;
 """
-GROUP = """
-/// Where the rows of {what} begin in the table of well-known names, and where they end.
-pub const {name}_NAMES: usize = {first};
-
-pub const {name}_NAMES_END: usize = {end};
-"""
 TABLE = """
 /// The place of the entry of each two capital letters, or `NO`. There are 26 cells for each first letter, and in them
 /// one for each second letter. The entries of `WELL_KNOWN` have the first places, and those of `DOMAIN_RELATIVE` the
@@ -45,16 +37,34 @@ TABLE = """
 pub const PLACES: [u8; LETTERS * LETTERS] = [
 {cells}
 ];
+
+/// What spreads SIDs over the cells: the entry of each SID in `WELL_KNOWN` has a cell of its own.
+pub const SID_SPREAD: u64 = {spread};
+
+/// The place of the entry of each SID, or `NO`, in the cell that its authority and last sub-authority give.
+pub const SID_PLACES: [u8; {sid_cells}] = [
+{sids}
+];
 """
 
 
-def ends_of(known, authority, count, first):
-    """Where the rows of a group begin and end. They have to be together."""
-    found = [at for at, row in enumerate(known)
-             if (int(row[2]), int(row[3])) == (authority, count) and first in (None, int(row[4].split(",")[0]))]
-    if not found or found != list(range(found[0], found[-1] + 1)):
-        sys.exit(f"{TABLES}: the rows of authority {authority} with {count} sub-authorities are not together")
-    return found[0], found[-1] + 1
+def sid_places(known):
+    """A factor that gives each SID a cell of its own, and the cells."""
+    keys = [int(row[2]) + 32 * int(row[4].split(",")[int(row[3]) - 1]) for row in known]
+    chance = random.Random(1)
+    while True:
+        spread = chance.getrandbits(64) | 1
+        found = [key * spread % 2**64 * SID_CELLS // 2**64 for key in keys]
+        if len(set(found)) == len(found):
+            break
+    cells = ["NO"] * SID_CELLS
+    for place, cell in enumerate(found):
+        cells[cell] = str(place)
+    return f"0x{spread:_x}", cells
+
+
+def filled(cells):
+    return textwrap.fill(", ".join(cells) + ",", 99, initial_indent="    ", subsequent_indent="    ")
 
 
 def written():
@@ -64,12 +74,8 @@ def written():
     cells = ["NO"] * (LETTERS * LETTERS)
     for place, row in enumerate([*known, *RELATIVE.findall(text)]):
         cells[LETTERS * (ord(row[0]) - ord("A")) + ord(row[1]) - ord("A")] = str(place)
-    groups = ""
-    for name, what, *rows in GROUPS:
-        first, end = ends_of(known, *rows)
-        groups += GROUP.format(name=name, what=what, first=first, end=end)
-    body = textwrap.fill(", ".join(cells) + ",", 100, initial_indent="    ", subsequent_indent="    ")
-    return HEAD + groups + TABLE.format(cells=body)
+    spread, sids = sid_places(known)
+    return HEAD + TABLE.format(cells=filled(cells), spread=spread, sid_cells=SID_CELLS, sids=filled(sids))
 
 
 def main():

@@ -59,7 +59,7 @@ pub static {name}_VALUES: [{type}; USUAL_ROWS] = [
 ];
 """
 PRINTED_FLAGS = """
-/// The text of each flags below 0x20, in cells that have blanks behind it.
+/// The text of the flags of each number below 0x20, in cells that have blanks behind it.
 pub static PRINTED_FLAG_TEXTS: [[u8; FRONT]; FLAG_ROWS] = [
 {texts}
 ];
@@ -169,7 +169,7 @@ def printed_masks(table):
 
 
 def texts_of_flags(table):
-    """The text of each flags below 0x20: the names of its bits, in the table's order."""
+    """The text of the flags of each number below 0x20: the names of its bits, in the table's order."""
     names = bits_of_names(table._replace(texts=()))
     return ["".join(name for name, bit in names.items() if flags & bit) for flags in range(FLAG_ROWS)]
 

@@ -1,28 +1,25 @@
--- The entry of two letters stands at their place.
-use Rattle.std.proofs.Common.{◌≡◌, ◌<◌, ◌≤◌, ◌-◌, get_or, ℕ, zero, suc, ◌+◌, ◌*◌, Bool, true, false, cond, ◌&&◌, List}
+-- The entry of two letters stands at their place, and that of a SID too.
+use Rattle.std.proofs.Common.{◌≡◌, ◌<◌, ◌≤◌, ◌-◌, get_or, ℕ, zero, suc, ◌+◌, Bool, true, false, cond, ◌&&◌, List}
 use Rattle.std.proofs.Common.{[], ◌∷◌, length, Option, Some, None, refl, sym, ap, ◌∙◌, arith}
-use Rattle.std.specs.Prelude.{◌==◌, slice_get}
+use Rattle.std.specs.Prelude.{◌==◌, slice_get, take}
 use Rattle.std.specs.Char.{is_ascii_uppercase}
 use Rattle.std.specs.List.{find, list_all}
 use Rattle.std.proofs.lemmas.Bool.{and_parts}
 use Rattle.std.proofs.lemmas.Bool.Decides.{nat_tests}
+use Rattle.std.proofs.lemmas.Slice.Eq.{bytes_eq-Decides}
 use Rattle.sd_text.specs.Names.{IsSameCapital}
 use Rattle.sd_text.proofs.laws.Capitals.{find-same}
-use Rattle.sd_alias.specs.Inner.Places.{place_of}
+use Rattle.sd_alias.specs.Inner.Places.{place_of, sid_place}
+use Rattle.sd_alias.specs.Names.{is_name_of, last_of, passing}
 use Rattle.sd_alias.specs.declared.table.DomainRelative.{DomainRelative}
 use Rattle.sd_alias.specs.declared.table.TheConstants.{DOMAIN_RELATIVE, WELL_KNOWN}
 use Rattle.sd_alias.specs.declared.table.WellKnown.{WellKnown}
-use Rattle.sd_alias.specs.declared.places.TheConstants.{NO, PLACES}
+use Rattle.sd_alias.specs.declared.places.TheConstants.{NO}
 
 -- each element has the place at which it stands, where the list begins at the place i
 placed : {X : Type 0} → (X → ℕ) → ℕ → List X → Bool
 placed place i [] = true
 placed place i (x ∷ xs) = place x == i && placed place (suc i) xs
-
--- an element that passes a test
-abbrev pub passing : {X : Type 0} → (X → Bool) → Option X → Option X
-passing p None = None
-passing p (Some x) = cond (p x) (Some x) None
 
 same_number : (m n : ℕ) → (m == n) ≡ true → m ≡ n
 same_number m n e = grind (arith, nat_tests)
@@ -154,20 +151,33 @@ default-none [] i d e = refl
 default-none (x ∷ xs) zero d e = absurd cc
 default-none (x ∷ xs) (suc i) d e = default-none xs i d e
 
-pub place-some : (row column first second v n : ℕ) → row ≡ first - 65 → column ≡ second - 65
-    → Some v ≡ slice_get PLACES (26 * row + column) → n ≡ v → n ≡ place_of first second
-unfolding place_of
-place-some row column first second v n of_first of_second found is =
-    is
-    ∙ sym (default-some PLACES (26 * row + column) v NO (sym found))
-    ∙ ap (λ k. get_or PLACES (26 * k + column) NO) of_first
-    ∙ ap (λ k. get_or PLACES (26 * (first - 65) + k) NO) of_second
+pub place-some : (cells : List ℕ) (cell v n : ℕ) → Some v ≡ slice_get cells cell → n ≡ v → n ≡ get_or cells cell NO
+place-some cells cell v n found is = is ∙ sym (default-some cells cell v NO (sym found))
 
-pub place-none : (row column first second n : ℕ) → row ≡ first - 65 → column ≡ second - 65
-    → None ≡ slice_get PLACES (26 * row + column) → n ≡ NO → n ≡ place_of first second
-unfolding place_of
-place-none row column first second n of_first of_second found is =
-    is
-    ∙ sym (default-none PLACES (26 * row + column) NO (sym found))
-    ∙ ap (λ k. get_or PLACES (26 * k + column) NO) of_first
-    ∙ ap (λ k. get_or PLACES (26 * (first - 65) + k) NO) of_second
+pub place-none : (cells : List ℕ) (cell n : ℕ) → None ≡ slice_get cells cell → n ≡ NO → n ≡ get_or cells cell NO
+place-none cells cell n found is = is ∙ sym (default-none cells cell NO (sym found))
+
+-- An entry and its SID.
+
+abbrev place_of_entry : WellKnown → ℕ
+place_of_entry e = sid_place e.authority (last_of (take e.count e.subs))
+
+sids_placed : placed place_of_entry 0 WELL_KNOWN ≡ true
+unfolding placed sid_place
+sids_placed = refl
+
+only_entry : (authority : ℕ) (subs : List ℕ) (e : WellKnown) → is_name_of authority subs e ≡ true
+    → place_of_entry e ≡ sid_place authority (last_of subs)
+only_entry authority subs e is =
+    let parts = and_parts (e.authority == authority) _ is in
+    rw (same_number e.authority authority parts.0, (bytes_eq-Decides (take e.count e.subs) subs).0 parts.1) refl
+
+pub known-sid-at : (authority last i : ℕ) (found : Option WellKnown) → i ≡ sid_place authority last
+    → found ≡ slice_get WELL_KNOWN i → (subs : List ℕ) → last_of subs ≡ last
+    → find (is_name_of authority subs) WELL_KNOWN ≡ passing (is_name_of authority subs) found
+known-sid-at authority last i found at e subs is =
+    find-placed (is_name_of authority subs) place_of_entry (sid_place authority (last_of subs)) (only_entry authority subs) 0
+    (sid_place authority (last_of subs)) WELL_KNOWN sids_placed (omega arith)
+    ∙ ap (λ k. passing (is_name_of authority subs) (slice_get WELL_KNOWN (sid_place authority k))) is
+    ∙ ap (λ k. passing (is_name_of authority subs) (slice_get WELL_KNOWN k)) (sym at)
+    ∙ ap (passing (is_name_of authority subs)) (sym e)

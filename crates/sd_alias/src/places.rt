@@ -6,21 +6,6 @@ pub const LETTERS: usize = 26;
 /// No name.
 pub const NO: u8 = 255;
 
-/// Where the rows of `S-1-3-N` begin in the table of well-known names, and where they end.
-pub const CREATOR_NAMES: usize = 1;
-
-pub const CREATOR_NAMES_END: usize = 4;
-
-/// Where the rows of `S-1-5-N` begin in the table of well-known names, and where they end.
-pub const NT_NAMES: usize = 4;
-
-pub const NT_NAMES_END: usize = 16;
-
-/// Where the rows of `S-1-5-32-N` begin in the table of well-known names, and where they end.
-pub const BUILTIN_NAMES: usize = 17;
-
-pub const BUILTIN_NAMES_END: usize = 41;
-
 /// The place of the entry of each two capital letters, or `NO`. There are 26 cells for each first letter, and in them
 /// one for each second letter. The entries of `WELL_KNOWN` have the first places, and those of `DOMAIN_RELATIVE` the
 /// next ones.
@@ -54,4 +39,17 @@ pub const PLACES: [u8; LETTERS * LETTERS] = [
     NO, NO, NO, NO, NO, NO, NO, NO, NO, NO, NO, NO, NO, NO, NO, NO, NO, NO, NO, NO, NO, NO, NO, NO,
     NO, NO, NO, NO, NO, NO, NO, NO, NO, NO, NO, NO, NO, NO, NO, NO, NO, NO, NO, NO, NO, NO, NO, NO,
     NO, NO, NO, NO,
+];
+
+/// What spreads SIDs over the cells: the entry of each SID in `WELL_KNOWN` has a cell of its own.
+pub const SID_SPREAD: u64 = 0x1814_3722_4dc2_32a7;
+
+/// The place of the entry of each SID, or `NO`, in the cell that its authority and last sub-authority give.
+pub const SID_PLACES: [u8; 128] = [
+    NO, NO, NO, NO, NO, NO, NO, NO, NO, 31, NO, 32, 0, NO, NO, NO, 33, 34, 35, 36, NO, 37, 38, 39,
+    NO, 40, NO, NO, NO, 46, NO, NO, NO, NO, NO, NO, 1, 2, NO, NO, NO, 3, NO, NO, NO, NO, 43, NO,
+    NO, NO, NO, NO, NO, 41, NO, NO, NO, NO, NO, NO, 16, NO, 4, NO, NO, 5, NO, 6, NO, 7, NO, 8, 9,
+    NO, 10, 11, NO, NO, NO, NO, NO, NO, 12, NO, 13, 14, NO, NO, NO, 47, NO, 48, NO, NO, NO, NO, NO,
+    NO, NO, NO, NO, 15, 45, NO, NO, NO, NO, 17, 18, NO, 19, 20, 21, 22, 44, 23, 24, 25, NO, 42, 26,
+    27, 28, NO, NO, 29, 30, NO,
 ];

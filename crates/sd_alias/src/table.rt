@@ -1,5 +1,7 @@
 //! The two-letter names of SIDs (MS-DTYP 2.5.1.1), and what they mean (2.4.2.4).
 
+ghost use Rattle.std.specs.Prelude.{◌≡◌, take};
+
 /// The sub-authorities that the SID of a name has at most.
 pub const MOST_KNOWN: usize = 6;
 
@@ -12,6 +14,16 @@ pub struct WellKnown {
     /// The first `count` are its sub-authorities.
     pub subs: [u32; MOST_KNOWN],
     pub count: usize,
+}
+
+impl WellKnown {
+    /// The sub-authorities of its SID.
+    #[inline(always)]
+    pub fn sub_authorities(&self) -> &[u32]
+        ensures { result.now ≡ take self.now.count self.now.subs }
+    {
+        &self.subs[..self.count.min(MOST_KNOWN)]
+    }
 }
 
 /// A name, and the last sub-authority of the SID that it means in a domain.

@@ -35,7 +35,7 @@ use sd_text::print_hex;
 use sd_token::Token;
 use sd_view::{SdView, view_written};
 
-/// What an answer is made in: the bytes of the descriptor that is printed, and a piece of the text that spells them.
+/// What an answer is made in: a layout that has to be written, and a piece of the text that spells it.
 #[derive(Drop)]
 pub struct Stores {
     pub written: SdBuf,

@@ -88,7 +88,7 @@ pub static USUAL_FLAG_VALUES: [u8; USUAL_ROWS] = [
     0x0, 0x5, 0x0, 0x9, 0x0, 0x0, 0x42, 0xc0, 0x11, 0x0,
 ];
 
-/// The text of each flags below 0x20, in cells that have blanks behind it.
+/// The text of the flags of each number below 0x20, in cells that have blanks behind it.
 pub static PRINTED_FLAG_TEXTS: [[u8; FRONT]; FLAG_ROWS] = [
     *b"                ",
     *b"OI              ",

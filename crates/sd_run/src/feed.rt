@@ -20,7 +20,7 @@ use sd_sink::SinkFault;
 use sd_token::Token;
 use std::simd::prelude::*;
 
-/// The bytes that are passed over at once where no LF is among them. Long lines are passed faster than in blocks of 64.
+/// The bytes that are passed over at once where no LF is among them. On long lines that is faster than 64.
 const PASSED: usize = 128;
 
 /// The bytes in which the first LF is found at once.

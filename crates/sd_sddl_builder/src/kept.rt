@@ -21,8 +21,7 @@ const TOLD: usize = 17;
 const SPREAD: u64 = 0x9e37_79b9_7f4a_7c15;
 
 /// Up to 32 domains, each in the slot of its place. A place gets the next slot where a domain of it is noted first. So
-/// the first 32 domains have slots of their own, unless two have one place. Most files have accounts of two or three
-/// domains in turn.
+/// the first 32 domains have slots of their own, unless two have one place.
 #[derive(Drop)]
 pub struct KeptDomains {
     slots: [KeptDomain; SLOTS],

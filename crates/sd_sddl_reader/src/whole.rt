@@ -40,7 +40,7 @@ impl SddlReader {
         self.whole_aces(buf, rest)
     }
 
-    // Takes a head, outside of a part.
+    // Takes a head before the first part, or after an ACE.
     #[inline(always)]
     fn whole_head<'a>(&mut self, buf: &mut SdBuf, text: &'a [u8]) -> &'a [u8]
         requires { IsReader self.old buf.old }

@@ -5,27 +5,15 @@ ghost use Rattle.std.specs.Char.{is_ascii_uppercase, to_ascii_uppercase};
 ghost use Rattle.std.specs.List.{find, list_all};
 ghost use Rattle.std.specs.Option.{option_copied};
 ghost use Rattle.sd_alias.specs.AliasValues.{KnownAliases, RelativeAliases};
+ghost use Rattle.sd_alias.specs.Names.{last_of};
 ghost use Rattle.sd_sid.specs.SidText.{alias_of, known_alias, known_sid, letters_read, relative_alias, same_sid};
 ghost use Rattle.sd_sid.specs.SidText.{sid_reads, usable};
 ghost use Rattle.sd_sid.specs.Inner.Read.{IsRead};
 
 use crate::sid::Sid;
 use crate::sid_text::SidFault;
-use sd_alias::{
-    BUILTIN_NAMES, BUILTIN_NAMES_END, CREATOR_NAMES, CREATOR_NAMES_END, DOMAIN_RELATIVE,
-    DomainRelative, MOST_KNOWN, NT_NAMES, NT_NAMES_END, WELL_KNOWN, WellKnown, named_known,
-    named_relative,
-};
+use sd_alias::{DOMAIN_RELATIVE, DomainRelative, WellKnown, name_for, named_known, named_relative};
 use sd_text::MOST_SUBS;
-
-/// The authority of Windows itself, `S-1-5`.
-const NT: u64 = 5;
-
-/// The first sub-authority of the groups that each machine has.
-const BUILTIN: u32 = 32;
-
-/// The authority of creators, `S-1-3`.
-const CREATOR: u64 = 3;
 
 impl Sid {
     /// The two letters that name it, everywhere or in the domain. A domain of 15 sub-authorities has no aliases.
@@ -72,55 +60,31 @@ pub fn usable(domain: Option<&Sid>) -> Option<&Sid>
     }
 }
 
-/// The alias that the SID of these parts has everywhere.
-#[inline(always)]
-pub fn find_named(authority: u64, subs: &[u32]) -> Option<[u8; 2]>
+// The alias that the SID of these parts has everywhere.
+fn find_named(authority: u64, subs: &[u32]) -> Option<[u8; 2]>
     ensures { result ≡ known_alias (record { authority = authority; subs = subs.now }) }
 {
-    let entry = known_entry(authority, subs)?;
+    let entry = name_for(authority, last_of(subs))?;
+    if !is_known(entry, authority, subs) {
+        return None;
+    }
     Some([entry.first, entry.second])
 }
 
-fn known_entry(authority: u64, subs: &[u32]) -> Option<WellKnown>
-    ensures { result ≡ find (λ e. same_sid (known_sid e) (record { authority = authority; subs = subs.now })) WELL_KNOWN }
+// The last sub-authority, or 0 where there is none.
+fn last_of(subs: &[u32]) -> u32
+    ensures { result ≡ last_of subs.now }
 {
-    match (authority, subs) {
-        (CREATOR, [sub]) => find_known_at(0, *sub, &WELL_KNOWN[CREATOR_NAMES..CREATOR_NAMES_END]),
-        (NT, [sub]) => find_known_at(0, *sub, &WELL_KNOWN[NT_NAMES..NT_NAMES_END]),
-        (NT, [BUILTIN, sub]) => find_known_at(
-            1,
-            *sub,
-            &WELL_KNOWN[BUILTIN_NAMES..BUILTIN_NAMES_END],
-        ),
-        _ => find_known(&WELL_KNOWN, authority, subs),
+    match subs.last() {
+        Some(last) => *last,
+        None => 0,
     }
-}
-
-// The entry that has this sub-authority at a place.
-fn find_known_at(at: usize, sub: u32, table: &[WellKnown]) -> Option<WellKnown>
-    requires { at < 6 }
-    ensures { result ≡ find (λ e. slice_index e.subs at == sub) table.now }
-{
-    table.iter().copied().find(|entry| entry.subs[at] == sub)
-}
-
-#[inline(never)]
-fn find_known(table: &[WellKnown], authority: u64, subs: &[u32]) -> Option<WellKnown>
-    ensures { result ≡ find (λ e. same_sid (known_sid e) (record { authority = authority; subs = subs.now })) table.now }
-{
-    for entry in table {
-        if is_known(entry, authority, subs) {
-            return Some(*entry);
-        }
-    }
-    None
 }
 
 fn is_known(entry: &WellKnown, authority: u64, subs: &[u32]) -> bool
     ensures { result ≡ same_sid (known_sid entry.now) (record { authority = authority; subs = subs.now }) }
 {
-    let count = entry.count.min(MOST_KNOWN);
-    u64::from(entry.authority) == authority && &entry.subs[..count] == subs
+    u64::from(entry.authority) == authority && entry.sub_authorities() == subs
 }
 
 /// The alias that a SID has in a domain.
@@ -154,8 +118,7 @@ pub(crate) fn read_letters(
     ensures { IsRead (letters_read first second (option_copied domain.entry)) result sid.new }
 {
     if let Some(entry) = named_known(first, second) {
-        let count = entry.count.min(MOST_KNOWN);
-        sid.set(u64::from(entry.authority), &entry.subs[..count]);
+        sid.set(u64::from(entry.authority), entry.sub_authorities());
         return Ok(());
     }
     let Some(entry) = named_relative(first, second) else {

@@ -14,5 +14,5 @@ pub use sid::Sid;
 pub use sid_text::SidFault;
 
 // For `sd_sid_view` alone, which prints and names SIDs where they are read.
-pub use alias::{find_named, relative_alias, usable};
+pub use alias::{relative_alias, usable};
 pub use sid_text::print_authority;

@@ -1,3 +1,4 @@
 mod KnownCounts
+mod KnownNames
 mod RelativeNumbers
 pub mod ViewLemmas

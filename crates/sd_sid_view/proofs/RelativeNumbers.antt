@@ -1,10 +1,11 @@
 -- Which SIDs may have a name in a domain, by their last sub-authority.
-use Rattle.std.proofs.Common.{◌≡◌, ℕ, zero, suc, ◌-◌, Bool, true, false, ◌&&◌, List, [], ◌∷◌, ◌++◌, length, slice_index}
+use Rattle.std.proofs.Common.{◌≡◌, ℕ, suc, ◌-◌, Bool, true, false, ◌&&◌, List, [], ◌∷◌, ◌++◌, length, slice_index}
 use Rattle.std.proofs.Common.{Option, Some, None, refl, sym, ap, ◌∙◌, true≢false, arith}
 use Rattle.std.specs.Prelude.{nat_le}
 use Rattle.std.specs.List.{find, list_all}
 use Rattle.sd_text.proofs.laws.Tables.{find-passes}
 use Rattle.sd_sid.specs.Sid.{SecurityId}
+use Rattle.sd_alias.specs.Names.{last_of}
 use Rattle.sd_alias.specs.declared.table.DomainRelative.{DomainRelative}
 use Rattle.sd_alias.specs.declared.table.TheConstants.{DOMAIN_RELATIVE}
 use Rattle.sd_sid.specs.SidText.{same_sid, sid_in}
@@ -19,10 +20,6 @@ entry_may e = may_be_relative e.last
 entries_may : list_all entry_may DOMAIN_RELATIVE ≡ true
 unfolding entry_may
 entries_may = refl
-
--- the last number of a list
-abbrev pub last_of : List ℕ → ℕ
-last_of xs = slice_index xs (length xs - 1)
 
 last_of-push : (xs : List ℕ) (x : ℕ) → last_of (xs ++ x ∷ []) ≡ x
 last_of-push [] x = refl

@@ -11,8 +11,8 @@ ghost use Rattle.sd_sid.specs.Naming.{alias_by};
 ghost use Rattle.sd_text.specs.Limits.{most_subs};
 
 use byteorder::{BigEndian, ByteOrder, LittleEndian};
-use sd_alias::MOST_KNOWN;
-use sd_sid::{Naming, Sid, find_named, print_authority, relative_alias, usable};
+use sd_alias::{MOST_KNOWN, name_for};
+use sd_sid::{Naming, Sid, print_authority, relative_alias, usable};
 use sd_sink::Print;
 use sd_text::print_decimal_behind;
 use std::marker::Model;
@@ -203,8 +203,7 @@ impl<'a> SidView<'a> {
         }
     }
 
-    // Most SIDs have more sub-authorities than those with a name. So the test for these is inlined, and the search is
-    // a call.
+    // Most SIDs have more sub-authorities than those with a name, so this is tested first.
     #[inline(always)]
     fn known_alias(&self) -> Option<[u8; 2]>
         ensures { result ≡ known_alias self.now }
@@ -225,19 +224,15 @@ impl<'a> SidView<'a> {
         count == 1 || count == 2 || count == MOST_KNOWN && self.sub(0) == USER_MODE_DRIVERS
     }
 
-    #[inline(never)]
+    #[inline(always)]
     fn find_alias(&self) -> Option<[u8; 2]>
         ensures { result ≡ known_alias self.now }
     {
-        // Nearly all of the names have one sub-authority or two.
-        match self.count() {
-            1 => find_named(self.authority(), &[self.sub(0)]),
-            2 => find_named(self.authority(), &[self.sub(0), self.sub(1)]),
-            _ => {
-                let sid = self.sid();
-                find_named(sid.authority(), sid.subs())
-            }
+        let entry = name_for(self.authority(), self.last())?;
+        if !self.is(u64::from(entry.authority), entry.sub_authorities()) {
+            return None;
         }
+        Some([entry.first, entry.second])
     }
 
     // Most accounts have a higher number than those with a name in their domain. So the test for these is inlined, and the

@@ -18,7 +18,7 @@ pub record Holder : Type 0 where
 
 pub record TokenShown : Type 0 where
   pub holder : Holder
-  -- how often an entry was looked at
+  -- how often an entry was compared
   pub compared : ℕ
   -- how many entries have memory
   pub room : ℕ
@@ -35,7 +35,7 @@ entry_meets s deny e = same_sid e.0 s && (is_enabled e.1 || deny)
 abbrev pub meets : SecurityId → Bool → List Entry → Bool
 meets s deny entries = list_any (entry_meets s deny) entries
 
--- how many entries are looked at, from the first on, until one meets the SID
+-- how many entries are compared, from the first on, until one meets the SID
 abbrev pub looks : SecurityId → Bool → List Entry → ℕ
 looks s deny [] = 0
 looks s deny (e ∷ entries) = if entry_meets s deny e then 1 else suc (looks s deny entries)
@@ -64,7 +64,7 @@ pub record Compares (token token' : TokenShown) (n : ℕ) : Type 0 where
   pub goes_on : token.compared ≤ token'.compared
   pub at_most : token'.compared ≤ token.compared + n
 
--- the holder stays, and each entry is looked at n times at most
+-- the holder stays, and each entry is compared n times at most
 pub record Asks (token token' : TokenShown) (n : ℕ) : Type 0 where
   pub holder : token'.holder ≡ token.holder
   pub compared : Compares token token' (n * length token.holder.entries)

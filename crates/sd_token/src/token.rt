@@ -33,8 +33,8 @@ pub enum EntryKind {
 /// level.
 ///
 /// A token counts how often an entry is compared. The call that compares one counts it, or counts 16 where it compares
-/// 16 keys in one step. No comparison goes uncounted, since no other call compares an entry, and a token can be neither
-/// cloned nor lent.
+/// 16 keys in one step. No comparison goes uncounted, since no other call compares an entry, and no call makes another
+/// token of a token.
 #[derive(Drop)]
 pub struct TokenIn<M: Memory> {
     entries: Entries<M>,
