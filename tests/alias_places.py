@@ -51,6 +51,8 @@ pub const SID_PLACES: [u8; {sid_cells}] = [
 def sid_places(known):
     """A factor that gives each SID a cell of its own, and the cells."""
     keys = [int(row[2]) + 32 * int(row[4].split(",")[int(row[3]) - 1]) for row in known]
+    if len(set(keys)) < len(keys):
+        sys.exit(f"{TABLES}: two names have the same authority and the same last sub-authority, so they share a cell")
     chance = random.Random(1)
     while True:
         spread = chance.getrandbits(64) | 1

@@ -27,7 +27,7 @@ OF_THE_LIBRARY = "sd_call"  # the crates whose names begin so: their definitions
 OF_TESTS = {"sd_tests", "sd_run_tests"}
 # Files of definitions that only other definitions or contracts between crates cite; DEFINITIONS names them.
 BETWEEN_CRATES = {"Usual.antt", "Held.antt", "FieldFronts.antt", "FieldReading.antt", "NamedSid.antt",
-                  "WholeAce.antt", "AclChecks.antt"}
+                  "WholeAce.antt", "AclChecks.antt", "NameOfSid.antt"}
 SECOND_FORM = {"FoldedReading.antt"}
 ALL = re.compile(r"(definitions of the program have )[\d,]+( lines, )[\d,]+( of them comments)")
 MORE = re.compile(r"(The library for C has )[\d,]+( more)")

@@ -10,7 +10,7 @@ use Rattle.std.proofs.lemmas.Slice.Eq.{bytes_eq-Decides}
 use Rattle.sd_text.specs.Names.{IsSameCapital}
 use Rattle.sd_text.proofs.laws.Capitals.{find-same}
 use Rattle.sd_alias.specs.Inner.Places.{place_of, sid_place}
-use Rattle.sd_alias.specs.Names.{is_name_of, last_of, passing}
+use Rattle.sd_alias.specs.NameOfSid.{is_name_of, last_of, passing}
 use Rattle.sd_alias.specs.declared.table.DomainRelative.{DomainRelative}
 use Rattle.sd_alias.specs.declared.table.TheConstants.{DOMAIN_RELATIVE, WELL_KNOWN}
 use Rattle.sd_alias.specs.declared.table.WellKnown.{WellKnown}

@@ -1,3 +1,4 @@
 pub mod AliasValues
 pub mod Inner
+pub mod NameOfSid
 pub mod Names

@@ -5,7 +5,7 @@ ghost use Rattle.std.specs.Char.{is_ascii_uppercase, to_ascii_uppercase};
 ghost use Rattle.std.specs.List.{find, list_all};
 ghost use Rattle.std.specs.Option.{option_copied};
 ghost use Rattle.sd_alias.specs.AliasValues.{KnownAliases, RelativeAliases};
-ghost use Rattle.sd_alias.specs.Names.{last_of};
+ghost use Rattle.sd_alias.specs.NameOfSid.{last_of};
 ghost use Rattle.sd_sid.specs.SidText.{alias_of, known_alias, known_sid, letters_read, relative_alias, same_sid};
 ghost use Rattle.sd_sid.specs.SidText.{sid_reads, usable};
 ghost use Rattle.sd_sid.specs.Inner.Read.{IsRead};

@@ -5,7 +5,7 @@ use Rattle.std.specs.List.{find}
 use Rattle.std.specs.Option.{option_map}
 use Rattle.std.proofs.lemmas.Bool.Decides.{nat_tests}
 use Rattle.std.proofs.lemmas.Slice.Eq.{bytes_eq-Decides}
-use Rattle.sd_alias.specs.Names.{is_name_of, passing}
+use Rattle.sd_alias.specs.NameOfSid.{is_name_of, passing}
 use Rattle.sd_alias.specs.declared.table.WellKnown.{WellKnown}
 use Rattle.sd_alias.specs.declared.table.TheConstants.{WELL_KNOWN}
 use Rattle.sd_sid.specs.Sid.{SecurityId}

@@ -5,7 +5,7 @@ use Rattle.std.specs.Prelude.{nat_le}
 use Rattle.std.specs.List.{find, list_all}
 use Rattle.sd_text.proofs.laws.Tables.{find-passes}
 use Rattle.sd_sid.specs.Sid.{SecurityId}
-use Rattle.sd_alias.specs.Names.{last_of}
+use Rattle.sd_alias.specs.NameOfSid.{last_of}
 use Rattle.sd_alias.specs.declared.table.DomainRelative.{DomainRelative}
 use Rattle.sd_alias.specs.declared.table.TheConstants.{DOMAIN_RELATIVE}
 use Rattle.sd_sid.specs.SidText.{same_sid, sid_in}
