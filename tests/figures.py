@@ -31,7 +31,7 @@ BETWEEN_CRATES = {"Usual.antt", "Held.antt", "FieldFronts.antt", "FieldReading.a
 SECOND_FORM = {"FoldedReading.antt"}
 ALL = re.compile(r"(definitions of the program have )[\d,]+( lines, )[\d,]+( of them comments)")
 MORE = re.compile(r"(The library for C has )[\d,]+( more)")
-BETWEEN = re.compile(r"(Seven files of `specs/` have )[\d,]+( more lines)")
+BETWEEN = re.compile(r"(files of `specs/` have )[\d,]+( more lines)")
 SECOND = re.compile(r"(`sd_sddl_builder/specs/FoldedReading.antt` has another )[\d,]+")
 IN_SOURCES = re.compile(r"(In `src`, )[\d,]+( more lines)")
 MODEL = re.compile(r"^ *ghost (?:Value|view) = \{.*?\};$", re.M | re.S)
@@ -92,6 +92,14 @@ def lines_in_sources():
     return sum(bool(line) and not line.startswith("//") for line in lines)
 
 
+def put(place, figures, document):
+    """The document with figures at their place, which has to be there once."""
+    written, count = place.subn(figures, document)
+    if count != 1:
+        sys.exit(f"a place of figures is in the document {count} times: {place.pattern}")
+    return written
+
+
 def counted(document):
     """docs/DEFINITIONS.md with the figures of today."""
     files = list(lines_of_definitions())
@@ -105,11 +113,11 @@ def counted(document):
         return f"`{found[1]}` {sum(count for crate, _, count, _ in main if crate == found[1]):,}"
 
     total, comments = (f"{sum(file[at] for file in main):,}" for at in (2, 3))
-    document = ALL.sub(rf"\g<1>{total}\g<2>{comments}\g<3>", document)
-    document = MORE.sub(rf"\g<1>{lines(lambda crate, name: crate.startswith(OF_THE_LIBRARY))}\g<2>", document)
-    document = BETWEEN.sub(rf"\g<1>{lines(lambda crate, name: name in BETWEEN_CRATES)}\g<2>", document)
-    document = SECOND.sub(rf"\g<1>{lines(lambda crate, name: name in SECOND_FORM)}", document)
-    document = IN_SOURCES.sub(rf"\g<1>{lines_in_sources():,}\g<2>", document)
+    document = put(ALL, rf"\g<1>{total}\g<2>{comments}\g<3>", document)
+    document = put(MORE, rf"\g<1>{lines(lambda crate, name: crate.startswith(OF_THE_LIBRARY))}\g<2>", document)
+    document = put(BETWEEN, rf"\g<1>{lines(lambda crate, name: name in BETWEEN_CRATES)}\g<2>", document)
+    document = put(SECOND, rf"\g<1>{lines(lambda crate, name: name in SECOND_FORM)}", document)
+    document = put(IN_SOURCES, rf"\g<1>{lines_in_sources():,}\g<2>", document)
     return ROWS.sub(lambda table: ROW_OF_A_CRATE.sub(of_crate, table[0]), document)
 
 

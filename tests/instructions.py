@@ -95,6 +95,10 @@ PATHS = {
         ([*TO_SDDL, *make_inputs.ONE_DOMAIN.split()], "D:" + f"(A;;FA;;;{ACCOUNT})" * 8),
     **{f"an ACE with flags {flags} and rights {rights} to SDDL": (TO_SDDL, "D:" + f"(A;{flags};{rights};;;BU)" * 8)
        for flags, rights in (("", "FA"), ("OICIIO", "0x1301bf"), ("OICINPIOID", "LCSW"))},
+    # Names from the end of the table, and SIDs of one or two numbers that have no name.
+    "ACEs for SIDs with a name to SDDL": (TO_SDDL, "D:" + "".join(f"(A;;FA;;;{name})" for name in ("RM", "AA", "AC", "SI"))),
+    "ACEs for SIDs without a name to SDDL":
+        (TO_SDDL, "D:" + "".join(f"(A;;FA;;;S-1-{rest})" for rest in ("5-32-581", "5-34", "16-1", "18-3"))),
     "a line far too long": (TO_HEX, "D:" + "(A;;FA;;;WD)" * 90_000),
     # Each byte may begin a whole field, and is looked at no further than a field goes.
     "an owner behind a wrong byte": (TO_HEX, "<O:" + ">" * 8_000),
