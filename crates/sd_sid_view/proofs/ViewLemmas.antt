@@ -1,9 +1,11 @@
 -- The parts of a SID in its bytes.
 use Rattle.std.proofs.Common.{◌≡◌, ◌≤◌, ◌<◌, ℕ, zero, suc, ◌+◌, ◌-◌, ◌*◌, Bool, true, false, ◌&&◌, refl, sym, ap, ◌∙◌}
-use Rattle.std.proofs.Common.{List, [], ◌∷◌, ◌++◌, slice_index, codes, drop, take, length, arith}
+use Rattle.std.proofs.Common.{List, [], ◌∷◌, ◌++◌, slice_index, codes, drop, take, length, arith, true≢false}
 use Rattle.std.specs.Prelude.{◌==◌, nat_le}
 use Rattle.std.proofs.lemmas.Bool.Decides.{nat_tests}
-use Rattle.std.proofs.lemmas.List.{drop-drop}
+use Rattle.std.proofs.lemmas.Bool.{and_parts}
+use Rattle.std.proofs.lemmas.List.{drop-drop, length-drop, take_all}
+use Rattle.std.proofs.lemmas.Slice.Eq.{bytes_eq-Decides}
 use Rattle.std.specs.List.{flat_map}
 use Rattle.std.specs.Fmt.{digits}
 use Rattle.std.specs.Str.{bytes_eq}
@@ -68,3 +70,50 @@ rest_decides (suc n) (x ∷ xs) [] long equal = absurd (omega (arith, long))
 rest_decides (suc n) (x ∷ xs) (y ∷ ys) long equal =
     then_rest (x == y) (bytes_eq (take n xs) (take n ys)) (bytes_eq xs ys) (bytes_eq (drop n xs) (drop n ys)) equal
     (rest_decides n xs ys (omega (arith, long)))
+
+-- Equal fronts and windows of two lists.
+
+pub shorter_front : (p n : ℕ) (xs ys : List ℕ) → p ≤ n → bytes_eq (take n xs) (take n ys) ≡ true
+    → bytes_eq (take p xs) (take p ys) ≡ true
+shorter_front zero n xs ys within equal = refl
+shorter_front (suc p) zero xs ys within equal = absurd (omega (arith, within))
+shorter_front (suc p) (suc n) [] [] within equal = refl
+shorter_front (suc p) (suc n) [] (y ∷ ys) within equal = absurd cc
+shorter_front (suc p) (suc n) (x ∷ xs) [] within equal = absurd cc
+shorter_front (suc p) (suc n) (x ∷ xs) (y ∷ ys) within equal =
+    let parts = and_parts (x == y) _ equal in
+    rw (parts.0, shorter_front p n xs ys (omega (arith, within)) parts.1) refl
+
+pub joined_fronts : (n m k : ℕ) (xs ys : List ℕ) → k ≡ n + m → bytes_eq (take n xs) (take n ys) ≡ true
+    → bytes_eq (take m (drop n xs)) (take m (drop n ys)) ≡ true → bytes_eq (take k xs) (take k ys) ≡ true
+joined_fronts zero m k xs ys sum front window = let is : m ≡ k = omega (arith, sum) in rw is at window
+joined_fronts (suc n) m zero xs ys sum front window = absurd (omega (arith, sum))
+joined_fronts (suc n) m (suc k) [] [] sum front window = refl
+joined_fronts (suc n) m (suc k) [] (y ∷ ys) sum front window = absurd cc
+joined_fronts (suc n) m (suc k) (x ∷ xs) [] sum front window = absurd cc
+joined_fronts (suc n) m (suc k) (x ∷ xs) (y ∷ ys) sum front window =
+    let parts = and_parts (x == y) _ front in
+    rw (parts.0, joined_fronts n m k xs ys (omega (arith, sum)) parts.1 window) refl
+
+-- a window that differs
+pub window_decides : (n m : ℕ) (xs ys : List ℕ) → bytes_eq (take m (drop n xs)) (take m (drop n ys)) ≡ false
+    → bytes_eq xs ys ≡ false
+window_decides n m xs ys other = by_test (bytes_eq xs ys) refl
+  where
+    by_test : (b : Bool) → bytes_eq xs ys ≡ b → bytes_eq xs ys ≡ false
+    by_test false e = e
+    by_test true e =
+        let same = (bytes_eq-Decides xs ys).0 e in
+        let window = (bytes_eq-Decides (take m (drop n xs)) (take m (drop n ys))).1
+        (ap (λ (zs : List ℕ). take m (drop n zs)) same) in
+        absurd (true≢false (sym window ∙ other))
+
+-- a front and the end behind it, which may begin in the front
+pub ends_decide : (n m p : ℕ) (xs ys : List ℕ) → length xs ≡ length ys → length ys ≡ p + m → p ≤ n → bytes_eq (take n xs) (take n ys) ≡ true
+    → bytes_eq (take m (drop p xs)) (take m (drop p ys)) ≡ true → bytes_eq xs ys ≡ true
+ends_decide n m p xs ys long size before front window =
+    let whole : (zs : List ℕ) → length zs ≡ p + m → take m (drop p zs) ≡ drop p zs =
+    λ zs is. take_all m (drop p zs) (omega (arith, is, length-drop p zs)) in
+    rest_decides p xs ys long (shorter_front p n xs ys before front)
+    ∙ sym (rw (whole xs (long ∙ size), whole ys size) refl)
+    ∙ window

@@ -110,20 +110,37 @@ impl<'a> SidView<'a> {
         self.count() == subs.len() && self.authority() == authority && self.has_subs(subs)
     }
 
-    // Whether these are the sub-authorities, where there are as many. Four are compared in one step.
+    // Whether these are the sub-authorities, where there are as many. Four are compared in one step, the last four first. So
+    // there are no steps for single numbers behind the others.
     #[inline(always)]
     fn has_subs(&self, subs: &[u32]) -> bool
         requires { length subs.now ≡ length self.now.subs }
         ensures { result ≡ bytes_eq self.now.subs subs.now }
     {
+        if subs.len() < 4 {
+            return self.has_few(subs);
+        }
+        let last = subs.len() - 4;
+        if !self.has_four(subs, last) {
+            return false;
+        }
         let mut at = 0;
-        while subs.len() - at >= 4 {
+        while at < last {
             if !self.has_four(subs, at) {
                 return false;
             }
             at += 4;
         }
-        for i in at..subs.len() {
+        true
+    }
+
+    // The same, one by one.
+    #[inline(always)]
+    fn has_few(&self, subs: &[u32]) -> bool
+        requires { length subs.now ≡ length self.now.subs }
+        ensures { result ≡ bytes_eq self.now.subs subs.now }
+    {
+        for i in 0..subs.len() {
             if self.sub(i) != subs[i] {
                 return false;
             }
