@@ -6,8 +6,8 @@ file LIBRARY (sdtool.mjs) and the file MODULE (sdtool.wasm), compressed and in b
 empty lines, most line ends and the blanks of the style, and changes nothing else but how a module gets what another exports: each
 becomes a function that is called once, in the order in which a browser would. The script is no module, since browsers refuse
 modules in workers of a page from a disk; so it has no import.meta. What the page never calls is left out: of the module by
-binaryen's wasm-metadce, of the library by name. Then binaryen's wasm-opt lets the module's functions share locals, and takes
-out what sets a local in vain. The page's policy allows this script and this style alone, by their hashes.
+binaryen's wasm-metadce, of the library by name. Then binaryen's wasm-opt keeps one of functions that are alike, joins
+blocks, lets the module's functions share locals, and takes out what sets a local or branches in vain. The page's policy allows this script and this style alone, by their hashes.
 """
 import argparse
 import base64
@@ -161,7 +161,7 @@ def policy(script, style):
 
 
 def reduced(module):
-    """The module with what the page calls, and no more, in functions that share locals and set none in vain."""
+    """The module with what the page calls, and no more, in functions that share locals and do nothing in vain."""
     names = [name for name in CALLED if name.encode() in module]
     graph = [{"name": "page", "root": True, "reaches": names}, *({"name": name, "export": name} for name in names)]
     with tempfile.TemporaryDirectory() as name:
@@ -170,7 +170,8 @@ def reduced(module):
         (folder / "module.wasm").write_bytes(module)
         words = ["wasm-metadce", *FEATURES, "module.wasm", "--graph-file=graph.json", "-o", "reduced.wasm"]
         subprocess.run(words, cwd=folder, check=True, stdout=subprocess.DEVNULL)
-        passes = ["--rse", "--vacuum", "--coalesce-locals", "--reorder-locals"]
+        passes = ["--duplicate-function-elimination", "--remove-unused-brs", "--merge-blocks"]
+        passes += ["--rse", "--vacuum", "--coalesce-locals", "--reorder-locals"]
         words = ["wasm-opt", *FEATURES, *passes, "reduced.wasm", "-o", "packed.wasm"]
         subprocess.run(words, cwd=folder, check=True)
         return (folder / "packed.wasm").read_bytes()
