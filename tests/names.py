@@ -5,8 +5,8 @@ Refuses a name in backticks, in the documents that describe the sources, that th
 occurs in no file of crates/, tests/, packaging/ or the Makefile beside comments, and a file that is not there. So a
 document cannot keep the name of what was moved or renamed. It also refuses a file of definitions that
 docs/DEFINITIONS.md does not name, a document that README does not list, a link of any document to a file or a heading
-that is not there, and a toolchain of docs/PROVED.md whose logic is not that of `rt version`, where there is rt. Kits of
-one logic prove the same, so it only says where their names differ. The last line is 'N passed, M failed'.
+that is not there, and a toolchain of docs/PROVED.md that is not the one of `rt version`, where there is rt. The last
+line is 'N passed, M failed'.
 """
 import pathlib
 import re
@@ -95,7 +95,7 @@ def judge_list(count):
 
 
 def judge_toolchain(count):
-    """The toolchain that PROVED names has the logic by which all is proved here."""
+    """The toolchain that PROVED names is the one that proves here."""
     text = (TOP / OF_TOOLCHAIN).read_text(encoding="utf-8")
     named = [span for _, span in spans_in(text) if span.startswith(IDENTITY)]
     count.add(len(named) == 1, f"{OF_TOOLCHAIN}: it names {len(named)} toolchains")
@@ -103,11 +103,7 @@ def judge_toolchain(count):
         print(f"the toolchain of {OF_TOOLCHAIN}: skipped, there is no command rt")
         return
     told = subprocess.run(["rt", "version"], stdout=subprocess.PIPE, check=True).stdout.decode().strip()
-    if named != [told]:
-        print(f"{OF_TOOLCHAIN} names {', '.join(named)}, and rt version prints {told}")
-    # The line is the name of the kit, the word "logic" and the sum of its logic.
-    is_same = told.startswith(IDENTITY) and [line.split()[1:] for line in named] == [told.split()[1:]]
-    count.add(is_same, f"{OF_TOOLCHAIN}: it names a toolchain of another logic")
+    count.add(named == [told], f"{OF_TOOLCHAIN}: it names {', '.join(named)}, and rt version prints {told}")
 
 
 def is_known(word, words):
