@@ -1,30 +1,14 @@
 -- The name of a SID, from the only entry that may name it.
-use Rattle.std.proofs.Common.{◌≡◌, Bool, true, false, List, ℕ, [], ◌∷◌, take, Option, Some, None, refl, sym, ap, ◌∙◌, true≢false, arith}
+use Rattle.std.proofs.Common.{◌≡◌, Bool, List, ℕ, [], ◌∷◌, take, Option, Some, None, sym, ap, ◌∙◌}
 use Rattle.std.specs.Prelude.{if◌then◌else◌}
 use Rattle.std.specs.List.{find}
 use Rattle.std.specs.Option.{option_map}
-use Rattle.std.proofs.lemmas.Bool.Decides.{nat_tests}
-use Rattle.std.proofs.lemmas.Slice.Eq.{bytes_eq-Decides}
 use Rattle.sd_alias.specs.NameOfSid.{is_name_of, passing}
 use Rattle.sd_alias.specs.declared.table.WellKnown.{WellKnown}
 use Rattle.sd_alias.specs.declared.table.TheConstants.{WELL_KNOWN}
 use Rattle.sd_sid.specs.Sid.{SecurityId}
 use Rattle.sd_sid.specs.SidText.{known_alias, known_sid, same_sid}
-use Rattle.sd_sid.proofs.laws.AliasLaws.{same_sid-eq}
-
-same_sid-refl : (s : SecurityId) → same_sid s s ≡ true
-same_sid-refl s =
-    let subs = (bytes_eq-Decides s.subs s.subs).1 refl in
-    rw subs grind (arith, nat_tests)
-
-same_sid-sym : (s t : SecurityId) → same_sid s t ≡ same_sid t s
-same_sid-sym s t = by_test (same_sid s t) (same_sid t s) refl refl
-  where
-    by_test : (b c : Bool) → same_sid s t ≡ b → same_sid t s ≡ c → b ≡ c
-    by_test true true h k = refl
-    by_test false false h k = refl
-    by_test true false h k = absurd (true≢false (sym (same_sid-refl t) ∙ ap (same_sid t) (sym (same_sid-eq s t h)) ∙ k))
-    by_test false true h k = absurd (true≢false (sym (same_sid-refl s) ∙ ap (same_sid s) (sym (same_sid-eq t s k)) ∙ h))
+use Rattle.sd_sid.proofs.laws.AliasLaws.{same_sid_comm}
 
 abbrev letters : WellKnown → List ℕ
 letters e = e.first ∷ e.second ∷ []
@@ -42,4 +26,4 @@ named s e a subs b r o authority numbers is only compared told =
     ∙ sym compared
     ∙ told in
     ap (option_map letters) (only ∙ ap (passing (is_name_of s.authority s.subs)) is
-    ∙ ap (λ (t : Bool). if t then Some e else None) (same_sid-sym (known_sid e) s ∙ same))
+    ∙ ap (λ (t : Bool). if t then Some e else None) (same_sid_comm (known_sid e) s ∙ same))

@@ -117,3 +117,15 @@ ends_decide n m p xs ys long size before front window =
     rest_decides p xs ys long (shorter_front p n xs ys before front)
     ∙ sym (rw (whole xs (long ∙ size), whole ys size) refl)
     ∙ window
+
+-- where the front and the end are equal, a block between decides, if it leaves nothing out
+pub block_decides : (n p : ℕ) (xs ys : List ℕ) → length xs ≡ length ys → length ys ≡ p + 4 → p ≤ n + 4
+    → bytes_eq (take n xs) (take n ys) ≡ true → bytes_eq (take 4 (drop p xs)) (take 4 (drop p ys)) ≡ true
+    → bytes_eq (take 4 (drop n xs)) (take 4 (drop n ys)) ≡ bytes_eq xs ys
+block_decides n p xs ys long size before front window = by_test (bytes_eq (take 4 (drop n xs)) (take 4 (drop n ys))) refl
+  where
+    by_test : (b : Bool) → bytes_eq (take 4 (drop n xs)) (take 4 (drop n ys)) ≡ b
+        → bytes_eq (take 4 (drop n xs)) (take 4 (drop n ys)) ≡ bytes_eq xs ys
+    by_test true e =
+        e ∙ sym (ends_decide (n + 4) 4 p xs ys long size before (joined_fronts n 4 (n + 4) xs ys refl front e) window)
+    by_test false e = e ∙ sym (window_decides n 4 xs ys e)

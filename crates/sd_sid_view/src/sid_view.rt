@@ -110,28 +110,30 @@ impl<'a> SidView<'a> {
         self.count() == subs.len() && self.authority() == authority && self.has_subs(subs)
     }
 
-    // Whether these are the sub-authorities, where there are as many. Four are compared in one step, the last four first. So
-    // there are no steps for single numbers behind the others.
+    // Whether these are the sub-authorities, where there are as many. From four on, the first four and the last four are
+    // compared in one step, which is all for up to eight, and those between in one or two more. So none are compared one
+    // by one, and no SID takes more than three steps.
     #[inline(always)]
     fn has_subs(&self, subs: &[u32]) -> bool
         requires { length subs.now ≡ length self.now.subs }
         ensures { result ≡ bytes_eq self.now.subs subs.now }
     {
-        if subs.len() < 4 {
+        let count = self.count();
+        if count < 4 {
             return self.has_few(subs);
         }
-        let last = subs.len() - 4;
-        if !self.has_four(subs, last) {
+        let last = count - 4;
+        if !(self.has_four(subs, 0) & self.has_four(subs, last)) {
             return false;
         }
-        let mut at = 0;
-        while at < last {
-            if !self.has_four(subs, at) {
-                return false;
-            }
-            at += 4;
+        if last <= 4 {
+            return true;
         }
-        true
+        if !self.has_four(subs, 4) {
+            return false;
+        }
+        // There are at most 15, so four more are all.
+        last <= 8 || self.has_four(subs, 8)
     }
 
     // The same, one by one.

@@ -128,7 +128,8 @@ const CAPITALS: &[u8; 66] = b"0123456789ABCDEFFEDCBA98765432100F1E2D3C4B5A697887
 const SPELLED: &[u8; 33] = b"\x01\x23\x45\x67\x89\xab\xcd\xef\xfe\xdc\xba\x98\x76\x54\x32\x10\
       \x0f\x1e\x2d\x3c\x4b\x5a\x69\x78\x87\x96\xa5\xb4\xc3\xd2\xe1\xf0\x3d";
 
-// The first of the digits, and the same with a wrong character at the ends of blocks of 32 and of vectors of 16.
+// The first of the digits, and the same with a character just outside of the digits at the ends of blocks of 32 and of
+// vectors of 16.
 fn expect_first_digits(rt: &impl Abort, buf: &mut SdBuf, count: usize)
     requires least { 1 ≤ count }
     requires most { count ≤ 66 }
@@ -147,10 +148,12 @@ fn expect_first_digits(rt: &impl Abort, buf: &mut SdBuf, count: usize)
         TextFault::HexDigit
     };
     for place in [0, 15, 16, 31, 32, count - 1] {
-        let mut text = *DIGITS;
-        if place < count {
-            text[place] = b'g';
-            expect_read(rt, buf, &text[..count], Err(fault), b"");
+        for wrong in *b"/:@G`g" {
+            let mut text = *DIGITS;
+            if place < count {
+                text[place] = wrong;
+                expect_read(rt, buf, &text[..count], Err(fault), b"");
+            }
         }
     }
 }

@@ -120,7 +120,9 @@ fn compares_as_often_as_it_needs(rt: HostRuntime) {
     }
 }
 
-const TRUSTEES: &str = "WD BA SY AU PS OW S-1-5-21-1-2-3-1001";
+// The last two have 9 and 15 numbers.
+const TRUSTEES: &str = "WD BA SY AU PS OW S-1-5-21-1-2-3-1001 S-1-5-11-12-13-14-15-16-17-18-19 \
+       S-1-5-21-22-23-24-25-26-27-28-29-30-31-32-33-34-35";
 
 const OF_DACLS: Words<'static> = Words {
     kinds: "A D A D OA OD AU ML",
@@ -163,10 +165,21 @@ fn some_line(rt: &(impl Abort + AllocGlobal), numbers: &mut Numbers) -> String {
     line
 }
 
-// SIDs that no ACE names. Each of the first seven has as many numbers as one of `TRUSTEES`, and the same last one, so
-// their keys in a token are equal.
+// SIDs that no ACE names. All but the last eight have as many numbers as one of `TRUSTEES`, and the same last one, so their
+// keys in a token are equal. Those of 9 and 15 numbers differ from it in one, each in another.
 const STRANGERS: &str =
-    "S-1-2-0 S-1-5-33-544 S-1-1-18 S-1-1-11 S-1-1-10 S-1-5-4 S-1-5-21-1-2-4-1001 LS NS NU SU BU BG CO CG";
+    "S-1-2-0 S-1-5-33-544 S-1-1-18 S-1-1-11 S-1-1-10 S-1-5-4 S-1-5-21-1-2-4-1001 \
+       S-1-5-7-12-13-14-15-16-17-18-19 S-1-5-11-7-13-14-15-16-17-18-19 S-1-5-11-12-7-14-15-16-17-18-19 \
+       S-1-5-11-12-13-7-15-16-17-18-19 S-1-5-11-12-13-14-7-16-17-18-19 S-1-5-11-12-13-14-15-7-17-18-19 \
+       S-1-5-11-12-13-14-15-16-7-18-19 S-1-5-11-12-13-14-15-16-17-7-19 \
+       S-1-5-7-22-23-24-25-26-27-28-29-30-31-32-33-34-35 S-1-5-21-7-23-24-25-26-27-28-29-30-31-32-33-34-35 \
+       S-1-5-21-22-7-24-25-26-27-28-29-30-31-32-33-34-35 S-1-5-21-22-23-7-25-26-27-28-29-30-31-32-33-34-35 \
+       S-1-5-21-22-23-24-7-26-27-28-29-30-31-32-33-34-35 S-1-5-21-22-23-24-25-7-27-28-29-30-31-32-33-34-35 \
+       S-1-5-21-22-23-24-25-26-7-28-29-30-31-32-33-34-35 S-1-5-21-22-23-24-25-26-27-7-29-30-31-32-33-34-35 \
+       S-1-5-21-22-23-24-25-26-27-28-7-30-31-32-33-34-35 S-1-5-21-22-23-24-25-26-27-28-29-7-31-32-33-34-35 \
+       S-1-5-21-22-23-24-25-26-27-28-29-30-7-32-33-34-35 S-1-5-21-22-23-24-25-26-27-28-29-30-31-7-33-34-35 \
+       S-1-5-21-22-23-24-25-26-27-28-29-30-31-32-7-34-35 S-1-5-21-22-23-24-25-26-27-28-29-30-31-32-33-7-35 \
+       LS NS NU SU BU BG CO CG";
 
 // The entries of a token; one in so many has a SID that ACEs name.
 fn some_entries(

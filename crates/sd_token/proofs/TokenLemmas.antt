@@ -5,8 +5,6 @@ use Rattle.std.proofs.lemmas.Bool.{and_left, and_parts, eq-eqb, ne_eqb}
 use Rattle.std.proofs.lemmas.List.{drop-append-le, drop-drop, length-drop, nil_from_length, take-append-le, take_all}
 use Rattle.std.specs.Cmp.Lexicographic.{same_text}
 use Rattle.std.specs.Prelude.{◌==◌}
-use Rattle.std.specs.Str.{bytes_eq}
-use Rattle.std.proofs.lemmas.Bool.Decides.{nat_tests}
 use Rattle.sd_sid.specs.Sid.{SecurityId}
 use Rattle.sd_sid.specs.SidText.{same_sid}
 use Rattle.sd_token.specs.Token.{Entry, entry_meets}
@@ -74,26 +72,9 @@ one_met s deny keys words i key e within small is =
     keyed_met s deny (get_or keys i 0) key _ small is
     ∙ ap (λ (found : Entry). entry_meets s deny found) (sym (entry_at keys words i 0 e within))
 
--- 4. Which of two SIDs comes first makes no difference.
+-- 4. Two questions, one after the other.
 
-eq_comm : (x y : ℕ) → (x == y) ≡ (y == x)
-eq_comm x y = grind (arith, nat_tests)
-
-both_equal : {a b c d : Bool} → a ≡ b → c ≡ d → (a && c) ≡ (b && d)
-both_equal h k = rw (h, k) refl
-
-bytes_eq_comm : (xs ys : List ℕ) → bytes_eq xs ys ≡ bytes_eq ys xs
-bytes_eq_comm [] [] = refl
-bytes_eq_comm [] (y ∷ ys) = refl
-bytes_eq_comm (x ∷ xs) [] = refl
-bytes_eq_comm (x ∷ xs) (y ∷ ys) = both_equal (eq_comm x y) (bytes_eq_comm xs ys)
-
-pub same_sid_comm : (s t : SecurityId) → same_sid s t ≡ same_sid t s
-same_sid_comm s t = both_equal (eq_comm s.authority t.authority) (bytes_eq_comm s.subs t.subs)
-
--- 5. Two questions, one after the other.
-
--- Nor does which of two that both have to be answered by "yes" is asked first.
+-- Which of two that both have to be answered by "yes" is asked first makes no difference.
 pub then_second : (first second : Bool) → first ≡ true → second ≡ (second && first)
 then_second true true is = refl
 then_second true false is = refl

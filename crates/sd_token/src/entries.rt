@@ -6,7 +6,7 @@ ghost use Rattle.std.specs.Prelude.{slice_index_or, IfOk, OnOk, OnErr, IsErr};
 ghost use Rattle.sd_sink.specs.Counts.{counted};
 ghost use Rattle.sd_token.specs.Limits.{most_entries};
 ghost use Rattle.sd_token.specs.Token.{counted_by, entry_meets, meets};
-ghost use Rattle.sd_token.specs.TokenWords.{entries_in, entries_of, entry_words, nobody, sid_key};
+ghost use Rattle.sd_token.specs.TokenWords.{entries_in, entries_of, entry_of, entry_words, nobody, sid_key};
 ghost use Rattle.sd_token.specs.Inner.Search.{AreBlocks, LacksKey, marked_meets, same_bits};
 
 use crate::memory::{Lent, Memory, Owned};
@@ -168,7 +168,7 @@ impl<M: Memory> Entries<M> {
     {
         let index = self.place;
         self.place = index + 1;
-        self.memory.keys()[index] == key && is_met(self.memory.words(), index, sid, deny)
+        self.memory.keys()[index] == key && one_is_met(self.memory.words(), index, sid, deny)
     }
 
     /// Compares blocks of 16 entries, up to the first that has the SID's key, or the last: the keys of a block in one
@@ -222,6 +222,17 @@ fn same_keys(keys: &[u32], at: usize, key: u32) -> u64
 {
     let block = u32x16::from_slice(&keys[at..]);
     block.simd_eq(u32x16::splat(key)).to_bitmask()
+}
+
+// Whether the entry at an index meets the SID. Few entries have the key. So this is a call, and the loop over the keys
+// behind the blocks stays small.
+#[inline(never)]
+fn one_is_met<S: Sought>(words: &[u32], index: usize, sid: &S, deny: bool) -> bool
+    requires { entry_words * (index + 1) ≤ length words.now }
+    ensures { result
+        ≡ entry_meets (S.sid sid.now) deny (entry_of (take entry_words (drop (entry_words * index) words.now))) }
+{
+    is_met(words, index, sid, deny)
 }
 
 // Whether one of the entries of a block whose bit is set meets the SID. The lowest bit stands for the first of them.

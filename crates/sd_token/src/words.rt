@@ -65,8 +65,8 @@ pub fn words_of(sid: &Sid, kind: EntryKind) -> [u32; ENTRY_WORDS]
 
 /// Whether the numbers of the entry at an index are those of one that meets a SID. Whether it may count is a cheaper
 /// question than whether it has the SID.
-// Not inlined: it is rare, and the loops over keys stay small.
-#[inline(never)]
+// Inlined, so that a loop over entries has what it needs of the SID in registers.
+#[inline(always)]
 #[tactic(auto, using(crate::proofs::TokenLemmas::not_first, crate::proofs::TokenLemmas::then_second))]
 pub(crate) fn is_met<S: Sought>(words: &[u32], index: usize, sid: &S, deny: bool) -> bool
     requires { entry_words * (index + 1) ≤ length words.now }
@@ -84,7 +84,7 @@ fn may_count(entry: &[u32], deny: bool) -> bool
     is_enabled(entry[3]) || deny
 }
 
-#[tactic(auto, using(crate::proofs::TokenLemmas::same_sid_comm))]
+#[tactic(auto, using(sd_sid::proofs::laws::AliasLaws::same_sid_comm))]
 fn is_same<S: Sought>(entry: &[u32], sid: &S) -> bool
     requires { length entry.now ≡ entry_words }
     ensures { result ≡ same_sid (entry_of entry.now).0 (S.sid sid.now) }

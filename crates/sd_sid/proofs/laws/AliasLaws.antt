@@ -1,6 +1,6 @@
 -- What an alias reads as, and that no SID has two aliases.
 use Rattle.std.proofs.Common.{◌≡◌, ℕ, Bool, true, false, ◌&&◌, List, [], ◌∷◌, ◌++◌, take, drop, Option}
-use Rattle.std.proofs.Common.{Some, None, IfSome, subst, Ok, Err, refl, sym, ap, ◌∙◌, arith}
+use Rattle.std.proofs.Common.{Some, None, IfSome, subst, Ok, Err, refl, sym, ap, ◌∙◌, arith, true≢false}
 use Rattle.std.specs.Prelude.{◌==◌, not, if◌then◌else◌}
 use Rattle.std.specs.Cmp.Lexicographic.{same_text}
 use Rattle.std.specs.Char.{is_ascii_alphabetic, is_ascii_uppercase, to_ascii_uppercase}
@@ -62,6 +62,21 @@ same_sid-eq s t e =
     let subs : s.subs ≡ t.subs = same_text s.subs t.subs (sym parts.1) in
     ap (λ (a : ℕ). record { authority = a; subs = s.subs }) authority
     ∙ ap (λ (xs : List ℕ). record { authority = t.authority; subs = xs }) subs
+
+same_sid-refl : (s : SecurityId) → same_sid s s ≡ true
+same_sid-refl s =
+    let subs = (bytes_eq-Decides s.subs s.subs).1 refl in
+    rw subs grind (arith, nat_tests)
+
+-- Which of two SIDs comes first makes no difference.
+pub same_sid_comm : (s t : SecurityId) → same_sid s t ≡ same_sid t s
+same_sid_comm s t = by_test (same_sid s t) (same_sid t s) refl refl
+  where
+    by_test : (b c : Bool) → same_sid s t ≡ b → same_sid t s ≡ c → b ≡ c
+    by_test true true h k = refl
+    by_test false false h k = refl
+    by_test true false h k = absurd (true≢false (sym (same_sid-refl t) ∙ ap (same_sid t) (sym (same_sid-eq s t h)) ∙ k))
+    by_test false true h k = absurd (true≢false (sym (same_sid-refl s) ∙ ap (same_sid s) (sym (same_sid-eq t s k)) ∙ h))
 
 two_read : (a b : ℕ) (domain : Option SecurityId) → are_both_letters a b ≡ true
     → sid_reads (a ∷ b ∷ []) domain ≡ letters_read a b domain

@@ -21,9 +21,9 @@ bounds-keys-index g c =
     let least = within g (goal.at.bounds-keys-index g c).After-keys in
     rw c.keys.ensures least
 
-pub is_met-requires : goal.is_met-requires
-is_met-requires g c =
-    let least = within g (goal.at.is_met-requires g c).After-keys in
+pub one_is_met-requires : goal.one_is_met-requires
+one_is_met-requires g c =
+    let least = within g (goal.at.one_is_met-requires g c).After-keys in
     rw c.words.ensures (omega (arith, least, c.self.invariant))
 
 pub invariant_of-self : goal.invariant_of-self
@@ -41,7 +41,7 @@ returns-clause-value g c =
     let key_is : get_or c.keys.result.now place 0 ≡ get_or numbers.keys place 0 = rw c.keys.ensures refl in
     rw (← c.self.view_is)
     (elim c.if-keys-index.branch [
-      | then-keys-index w ↦ w.result-is ∙ (rw w.words.ensures at w.is_met.ensures)
+      | then-keys-index w ↦ w.result-is ∙ (rw w.words.ensures at w.one_is_met.ensures)
           ∙ with_key (get_or numbers.keys place 0) c.args.key met (sym key_is ∙ w.if-keys-index.true)
       | else-keys-index w ↦ w.result-is ∙ ap (λ (k : ℕ). k == c.args.key) key_is
           ∙ without_key (get_or numbers.keys place 0) c.args.key met (λ same. w.if-keys-index.false (key_is ∙ same))
