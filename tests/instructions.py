@@ -89,6 +89,7 @@ PATHS = {
     "an ACE with an inherited GUID": aces(f"(OA;CIIO;RPWP;;{GUID};AU)"),
     "an ACE with two GUIDs": aces(f"(OA;CI;RPWP;{GUID};{GUID};AU)"),
     "blanks between parts and ACEs": (TO_HEX, "O:BA D:" + " (A;OICI;FA;;;BU)" * 8),
+    "blanks before an owner and an ACE": (TO_HEX, "O:" + " " * 40 + "BAD:" + " " * 40 + "(A;;FA;;;BU)"),
     "blanks behind an account": (TO_HEX, f"O:{ACCOUNT} G:{ACCOUNT} D:"),
     "an ACE for an account in small letters": aces(f"(A;;FA;;;{ACCOUNT.lower()})"),
     "an ACE for an account to SDDL, under its domain":

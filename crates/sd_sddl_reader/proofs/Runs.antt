@@ -1,28 +1,30 @@
 -- Bytes that only go onto the text of the field at hand, taken all at once.
 use Rattle.std.proofs.Common.{◌≡◌, ℕ, Bool, true, false, ◌||◌, List, [], ◌∷◌, ◌++◌, length, take, drop, refl, ap, sym}
-use Rattle.std.proofs.Common.{◌∙◌, arith, append_assoc, true≢false}
+use Rattle.std.proofs.Common.{◌∙◌, arith, append_assoc, eqb-true, true≢false}
 use Rattle.std.specs.Prelude.{◌==◌, not, if◌then◌else◌, Result, Option, Some, None}
 use Rattle.std.specs.List.{list_all}
 use Rattle.std.specs.Option.{is_none, is_some}
 use Rattle.std.proofs.lemmas.List.{take-append-drop}
+use Rattle.std.proofs.lemmas.Bool.Decides.{nat_tests}
 use Rattle.std.proofs.lemmas.Bool.{and_parts}
 use Rattle.sd_sid.specs.Sid.{SecurityId}
 use Rattle.sd_sddl_builder.specs.declared.fault.SddlFault.{SddlFault}
 use Rattle.sd_sddl_builder.specs.declared.slot.AceField.{AceField}
+use Rattle.sd_sddl_reader.specs.declared.line.State.{State}
 use Rattle.sd_sddl_reader.specs.declared.line.State.TheVariants as state
 use Rattle.sd_parts.specs.declared.part.SidPart.{SidPart}
-use Rattle.sd_sddl_fields.specs.Held.{Held, IsHeld, broken_text, held_run, held_with, is_plain_inside, is_plain_text}
+use Rattle.sd_sddl_fields.specs.Held.{Held, IsHeld, broken_text, held_run, held_with, is_plain_inside, is_plain_text, no_text}
 use Rattle.sd_sddl_reader.specs.Inner.Progress.{is_plain_outside}
-use Rattle.sd_sddl_builder.specs.Line.{head_of}
+use Rattle.sd_sddl_builder.specs.Line.{begins_with_colon, byte, head_at, head_of, pieces_from}
 use Rattle.sd_sddl_fields.specs.FieldTexts.{is_blank}
 use Rattle.sd_sddl_builder.specs.FoldedReading.{FieldsRead}
 use Rattle.sd_text.specs.Chains.{unless}
-use Rattle.sd_sddl_reader.specs.Inner.Progress.{Seen, rest_answer}
+use Rattle.sd_sddl_reader.specs.Inner.Progress.{Seen, is_inside, rest_answer}
 use Rattle.sd_sddl_reader.specs.Inner.Reads.{IsReader, Reads, answer_at}
 use Rattle.sd_sddl_reader.specs.declared.reader.SddlReader.{SddlReader}
-use Rattle.sd_sddl_reader.proofs.FieldTexts.{append_nothing, same_inner, same_text, with_held}
+use Rattle.sd_sddl_reader.proofs.FieldTexts.{append_nothing, same_blank, same_inner, same_text, with_held}
 use Rattle.sd_sddl_builder.proofs.laws.Heads.{no_head}
-use Rattle.sd_sddl_reader.proofs.Steps.{entry_text, sid_text}
+use Rattle.sd_sddl_reader.proofs.Steps.{before_blank, between_blank, control_text, entry_text, sid_text}
 
 -- 1. What is held stays clean.
 
@@ -110,7 +112,63 @@ module _ (dm : Option SecurityId) (so tw : Bool) (se : Seen) (r : Result FieldsR
       ∙ sid_text dm so tw se r b (bs ++ rest) l.opens l.closes (no_head _ _ o.2) p h (held_with h b) o.1
       (λ u. same_text h b u k l.blank)
 
--- 3. The reader after a run.
+-- 3. Blanks before a field or a head.
+
+pub nothing-held : IsHeld no_text
+nothing-held = record { clean = refl; fits = omega arith }
+
+-- a blank is no parenthesis, and no head
+pub blank-is : (b : ℕ) → is_blank b ≡ true
+    → ((b == 40) ≡ false) × ((b == 41) ≡ false) × ((b == 58) ≡ false) × (head_of b ≡ None)
+blank-is b e = by_byte (b == 32) refl
+  where
+    by_byte : (x : Bool) → (b == 32) ≡ x
+        → ((b == 40) ≡ false) × ((b == 41) ≡ false) × ((b == 58) ≡ false) × (head_of b ≡ None)
+    by_byte true f = let is : b ≡ 32 = eqb-true b 32 f in rw is (refl, refl, refl, refl)
+    by_byte false f = let is : b ≡ 9 = grind (arith, nat_tests) in rw is (refl, refl, refl, refl)
+
+blank-first : (dm : Option SecurityId) (so tw : Bool) (se : Seen) (r : Result FieldsRead SddlFault) (pl : State)
+    (b : ℕ) (bs : List ℕ) → is_inside pl ≡ false → is_blank b ≡ true
+    → rest_answer dm so tw se r pl no_text bs ≡ rest_answer dm so tw se r pl no_text (b ∷ bs)
+blank-first dm so tw se r pl b bs out blank = by_state pl out
+  where
+    is : ((b == 40) ≡ false) × ((b == 41) ≡ false) × ((b == 58) ≡ false) × (head_of b ≡ None)
+    is = blank-is b blank
+
+    none : head_at (byte b) (pieces_from false bs).after ≡ None
+    none = no_head (begins_with_colon (pieces_from false bs).after) (head_of b) is.3
+
+    by_state : (pl : State) → is_inside pl ≡ false
+        → rest_answer dm so tw se r pl no_text bs ≡ rest_answer dm so tw se r pl no_text (b ∷ bs)
+    by_state state.Before out = before_blank dm so tw se r b bs is.0 is.1 none no_text blank
+    by_state (state.Sid p) out =
+        sid_text dm so tw se r b bs is.0 is.1 none p no_text no_text is.2 (λ u. same_blank no_text b u nothing-held blank)
+    by_state (state.AclFlags w) out =
+        control_text dm so tw se r b bs is.0 is.1 none w no_text no_text is.2
+        (λ u. same_blank no_text b u nothing-held blank)
+    by_state state.AfterAce out = between_blank dm so tw se r b bs is.0 is.1 none no_text blank
+    by_state (state.Ace c) out = absurd cc
+
+blanks-first : (dm : Option SecurityId) (so tw : Bool) (se : Seen) (r : Result FieldsRead SddlFault) (pl : State)
+    (bs rest : List ℕ) → is_inside pl ≡ false → list_all is_blank bs ≡ true
+    → rest_answer dm so tw se r pl no_text rest ≡ rest_answer dm so tw se r pl no_text (bs ++ rest)
+blanks-first dm so tw se r pl [] rest out all = refl
+blanks-first dm so tw se r pl (b ∷ bs) rest out all =
+    let p = and_parts (is_blank b) (list_all is_blank bs) all in
+    blanks-first dm so tw se r pl bs rest out p.1 ∙ blank-first dm so tw se r pl b (bs ++ rest) out p.0
+
+pub blanks-go : (s : SddlReader) (bs buf : List ℕ) (domain : Option SecurityId) (before : List ℕ)
+    → is_inside s.state ≡ false → s.pending ≡ None → s.field ≡ no_text → list_all is_blank bs ≡ true
+    → Reads s buf domain before → Reads s buf domain (before ++ bs)
+blanks-go s bs buf domain before out none begins all h = (
+  h.0,
+  h.1,
+  λ rest. rw none
+      (rw begins (blanks-first s.fields.domain s.sound s.twice s.seen (unless s.fault h.0) s.state bs rest out all)
+      ∙ (rw none at h.2 (bs ++ rest)) ∙ rw append_assoc refl),
+)
+
+-- 4. The reader after a run.
 
 -- with a run on the text of the field at hand, it has read the run
 abbrev pub Goes : SddlReader → List ℕ → Type 0
@@ -164,7 +222,7 @@ outside-goes s p bs here none plain buf r = (
       (unless s.fault t) p s.field bs rest r.calm.held plain)) h,
 )
 
--- 4. A text fed in runs.
+-- 5. A text fed in runs.
 
 pub none-if : {X : Type 0} → (x : Option X) (b : Bool) → b ≡ true → is_some x ≡ not b → x ≡ None
 none-if None b e f = refl

@@ -1,9 +1,8 @@
 -- An ACE that stands whole in what comes, read where it stands.
 use Rattle.std.proofs.Common.{◌≡◌, ℕ, ◌≤◌, Bool, true, false, List, [], ◌∷◌, ◌++◌, length, Ok, Err, Some, None, refl}
-use Rattle.std.proofs.Common.{ap, sym, ◌∙◌, subst, arith, append_assoc, eqb-true}
-use Rattle.std.specs.Prelude.{◌==◌, Result, Option}
+use Rattle.std.proofs.Common.{ap, sym, ◌∙◌, subst, arith, append_assoc}
+use Rattle.std.specs.Prelude.{Result, Option}
 use Rattle.std.proofs.lemmas.Bool.{and_parts}
-use Rattle.std.proofs.lemmas.Bool.Decides.{nat_tests}
 use Rattle.std.specs.List.{list_all}
 use Rattle.sd_sid.specs.Sid.{SecurityId}
 use Rattle.sd_sddl_builder.specs.declared.fault.SddlFault.{SddlFault}
@@ -23,13 +22,10 @@ use Rattle.sd_sddl_builder.specs.WholeAce.{AceTexts, AreWhole, TakesAce, ace_bef
 use Rattle.sd_text.specs.Chains.{and_then, unless}
 use Rattle.sd_sddl_reader.proofs.FitLaws.{fits-field, fits-next}
 use Rattle.sd_sddl_fields.proofs.laws.HeldRuns.{run-fits}
-use Rattle.sd_sddl_reader.proofs.Runs.{inside-held, inside-run}
+use Rattle.sd_sddl_reader.proofs.Runs.{blank-is, inside-held, inside-run, nothing-held}
 use Rattle.sd_sddl_reader.proofs.Steps.{between_blank, close_last, cut, open_next}
 
 -- 1. The text of a field.
-
-pub nothing-held : IsHeld no_text
-nothing-held = record { clean = refl; fits = omega arith }
 
 pub whole-held : (t : List ℕ) → list_all is_plain_inside t ≡ true → length t ≤ 183
     → IsHeld (record { text = t; gap = false; broken = false })
@@ -154,16 +150,6 @@ reader-at s buf begins none t k = record {
   read = t;
   held = k;
 }
-
--- a blank is no parenthesis, and no head
-pub blank-is : (b : ℕ) → is_blank b ≡ true
-    → ((b == 40) ≡ false) × ((b == 41) ≡ false) × ((b == 58) ≡ false) × (head_of b ≡ None)
-blank-is b e = by_byte (b == 32) refl
-  where
-    by_byte : (x : Bool) → (b == 32) ≡ x
-        → ((b == 40) ≡ false) × ((b == 41) ≡ false) × ((b == 58) ≡ false) × (head_of b ≡ None)
-    by_byte true f = let is : b ≡ 32 = eqb-true b 32 f in rw is (refl, refl, refl, refl)
-    by_byte false f = let is : b ≡ 9 = grind (arith, nat_tests) in rw is (refl, refl, refl, refl)
 
 -- blanks after an ACE change nothing
 blanks-between : (dm : Option SecurityId) (so tw : Bool) (se : Seen) (r : Result FieldsRead SddlFault) (h : Held)

@@ -34,11 +34,11 @@ use Rattle.sd_sddl_reader.specs.declared.line.State.TheVariants as state
 use Rattle.sd_sddl_reader.specs.declared.reader.SddlReader.{SddlReader}
 use Rattle.sd_sddl_reader.proofs.FieldTexts.{same_blank, same_text, with_held}
 use Rattle.sd_sddl_reader.proofs.FitLaws.{fits-first, fits-head, lacks-ended, none-ended, unseen-head}
-use Rattle.sd_sddl_reader.proofs.Runs.{not_true, plain-is}
+use Rattle.sd_sddl_reader.proofs.Runs.{blank-is, not_true, nothing-held, plain-is}
 use Rattle.sd_sddl_builder.proofs.laws.Heads.{no-colon, not_letter}
 use Rattle.sd_sddl_builder.proofs.laws.Heads.{no_head as unheaded}
 use Rattle.sd_sddl_reader.proofs.Steps.{begin-noted, open_first, outside_text}
-use Rattle.sd_sddl_reader.proofs.WholeFields.{blank-is, fed-on, nothing-held, reader-at, whole-held}
+use Rattle.sd_sddl_reader.proofs.WholeFields.{fed-on, reader-at, whole-held}
 
 -- 1. The answer to a text outside parentheses.
 

@@ -141,9 +141,9 @@ pub fn front_head(text: &[u8]) -> Option<(u8, Head, &[u8])>
     Some((text[0], head, &text[2..]))
 }
 
-// How many bytes at the front are blanks.
+/// How many bytes at the front are blanks.
 #[inline(always)]
-fn blanks(text: &[u8]) -> usize
+pub fn blanks(text: &[u8]) -> usize
     ensures within { result ≤ length text.now }
     ensures blank { list_all is_blank (take result text.now) ≡ true }
     ensures ends { result < length text.now → is_blank (slice_index text.now result) ≡ false }

@@ -16,7 +16,7 @@ ghost use Rattle.sd_sddl_builder.specs.FieldReading.{CanTake, HasReadFields};
 ghost use Rattle.sd_sddl_reader.specs.Inner.WholePart.{IsPlainText};
 ghost use Rattle.sd_sddl_reader.specs.Inner.Progress.{ended_with, is_inside, is_seen, state_of, with_head};
 
-use crate::line::{State, head_of, next_field, plain_outside, state_of};
+use crate::line::{State, blanks, head_of, next_field, plain_outside, state_of};
 use sd_buffer::SdBuf;
 use sd_parts::Parts;
 use sd_sddl_builder::{AceField, FieldReader, Head, SddlFault, Slot, fault_of};
@@ -375,7 +375,7 @@ impl SddlReader {
     }
 
     // Appends the bytes at the front that belong to the current field, in one call, and returns their number. A field
-    // that has no byte yet may be whole in what follows.
+    // that has no byte yet may be whole in what follows, so of that only the blanks before it are taken.
     fn feed_run(&mut self, text: &[u8]) -> usize
         ensures within { result ≤ length text.now }
         ensures reader { (buf : List ℕ) → IsReader self.old buf → IsReader self.new buf }
@@ -384,7 +384,7 @@ impl SddlReader {
             → Reads self.new buf domain (before ++ take result text.now) }
     {
         if self.field.is_empty() {
-            return 0;
+            return self.blanks_before(text);
         }
         match self.state {
             State::Ace(_) => {
@@ -397,6 +397,20 @@ impl SddlReader {
                 self.field.push_run(&text[..count]);
                 count
             }
+            _ => 0,
+        }
+    }
+
+    // How many bytes at the front are blanks that change nothing. Outside parentheses that is so before a field or a head.
+    fn blanks_before(&self, text: &[u8]) -> usize
+        requires { self.now.field ≡ no_text }
+        ensures within { result ≤ length text.now }
+        ensures read { (buf : List ℕ) (domain : Option SecurityId) (before : List ℕ) → Reads self.now buf domain before
+            → Reads self.now buf domain (before ++ take result text.now) }
+    {
+        match self.state {
+            State::Ace(_) => 0,
+            _ if self.pending.is_none() => blanks(text),
             _ => 0,
         }
     }

@@ -107,7 +107,8 @@ impl<'a> SidView<'a> {
     pub fn is(&self, authority: u64, subs: &[u32]) -> bool
         ensures { result ≡ same_sid self.now (record { authority = authority; subs = subs.now }) }
     {
-        self.count() == subs.len() && self.authority() == authority && self.has_subs(subs)
+        // Most SIDs have one authority, so it is asked last.
+        self.count() == subs.len() && self.has_subs(subs) && self.authority() == authority
     }
 
     // Whether these are the sub-authorities, where there are as many. From four on, the first four and the last four are

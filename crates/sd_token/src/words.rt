@@ -77,6 +77,7 @@ pub(crate) fn is_met<S: Sought>(words: &[u32], index: usize, sid: &S, deny: bool
     may_count(entry, deny) && is_same(entry, sid)
 }
 
+#[inline(always)]
 fn may_count(entry: &[u32], deny: bool) -> bool
     requires { length entry.now ≡ entry_words }
     ensures { result ≡ (is_enabled (entry_of entry.now).1 || deny) }
@@ -84,6 +85,7 @@ fn may_count(entry: &[u32], deny: bool) -> bool
     is_enabled(entry[3]) || deny
 }
 
+#[inline(always)]
 #[tactic(auto, using(sd_sid::proofs::laws::AliasLaws::same_sid_comm))]
 fn is_same<S: Sought>(entry: &[u32], sid: &S) -> bool
     requires { length entry.now ≡ entry_words }
@@ -92,6 +94,7 @@ fn is_same<S: Sought>(entry: &[u32], sid: &S) -> bool
     sid.is(authority_of(entry), subs_of(entry))
 }
 
+#[inline(always)]
 fn authority_of(entry: &[u32]) -> u64
     requires { length entry.now ≡ entry_words }
     ensures { result ≡ (entry_of entry.now).0.authority }
@@ -99,6 +102,7 @@ fn authority_of(entry: &[u32]) -> u64
     (u64::from(entry[0]) << 32) + u64::from(entry[1])
 }
 
+#[inline(always)]
 fn subs_of(entry: &[u32]) -> &[u32]
     requires { length entry.now ≡ entry_words }
     ensures { result.now ≡ (entry_of entry.now).0.subs }
