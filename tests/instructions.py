@@ -101,7 +101,7 @@ PATHS = {
     "ACEs for SIDs without a name to SDDL":
         (TO_SDDL, "D:" + "".join(f"(A;;FA;;;S-1-{rest})" for rest in ("5-32-581", "5-34", "16-1", "18-3"))),
     "a line far too long": (TO_HEX, "D:" + "(A;;FA;;;WD)" * 90_000),
-    # Each byte may begin a whole field, and is looked at no further than a field goes.
+    # What follows a byte that breaks the shape is passed over.
     "an owner behind a wrong byte": (TO_HEX, "<O:" + ">" * 8_000),
     "flags behind a wrong byte": (TO_HEX, "<D:" + "A" * 8_000),
     "ACLs in their written form": (["convert", "--to", "hex"], WRITTEN),

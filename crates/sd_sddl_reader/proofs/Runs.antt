@@ -1,14 +1,15 @@
 -- Bytes that only go onto the text of the field at hand, taken all at once.
 use Rattle.std.proofs.Common.{◌≡◌, ℕ, Bool, true, false, ◌||◌, List, [], ◌∷◌, ◌++◌, length, take, drop, refl, ap, sym}
 use Rattle.std.proofs.Common.{◌∙◌, arith, append_assoc, eqb-true, true≢false}
-use Rattle.std.specs.Prelude.{◌==◌, not, if◌then◌else◌, Result, Option, Some, None}
+use Rattle.std.specs.Prelude.{◌==◌, not, if◌then◌else◌, Result, Err, Option, Some, None}
 use Rattle.std.specs.List.{list_all}
-use Rattle.std.specs.Option.{is_none, is_some}
+use Rattle.std.specs.Option.{is_none, is_some, option_to_list}
 use Rattle.std.proofs.lemmas.List.{take-append-drop}
 use Rattle.std.proofs.lemmas.Bool.Decides.{nat_tests}
 use Rattle.std.proofs.lemmas.Bool.{and_parts}
 use Rattle.sd_sid.specs.Sid.{SecurityId}
 use Rattle.sd_sddl_builder.specs.declared.fault.SddlFault.{SddlFault}
+use Rattle.sd_sddl_builder.specs.declared.fault.SddlFault.TheVariants as fault
 use Rattle.sd_sddl_builder.specs.declared.slot.AceField.{AceField}
 use Rattle.sd_sddl_reader.specs.declared.line.State.{State}
 use Rattle.sd_sddl_reader.specs.declared.line.State.TheVariants as state
@@ -24,7 +25,7 @@ use Rattle.sd_sddl_reader.specs.Inner.Reads.{IsReader, Reads, answer_at}
 use Rattle.sd_sddl_reader.specs.declared.reader.SddlReader.{SddlReader}
 use Rattle.sd_sddl_reader.proofs.FieldTexts.{append_nothing, same_blank, same_inner, same_text, with_held}
 use Rattle.sd_sddl_builder.proofs.laws.Heads.{no_head}
-use Rattle.sd_sddl_reader.proofs.Steps.{before_blank, between_blank, control_text, entry_text, sid_text}
+use Rattle.sd_sddl_reader.proofs.Steps.{before_blank, between_blank, control_text, entry_text, sid_text, unsound}
 
 -- 1. What is held stays clean.
 
@@ -221,6 +222,18 @@ outside-goes s p bs here none plain buf r = (
       (λ t rest. rw here (outside-run s.fields.domain s.sound s.twice s.seen
       (unless s.fault t) p s.field bs rest r.calm.held plain)) h,
 )
+
+-- a line whose shape is broken has its answer, whatever comes
+pub lost-goes : (s : SddlReader) (bs buf : List ℕ) (domain : Option SecurityId) (before : List ℕ) → s.sound ≡ false
+    → Reads s buf domain before → Reads s buf domain (before ++ bs)
+lost-goes s bs buf domain before lost h =
+    let all : (u : List ℕ) → answer_at s h.0 u ≡ Err fault.Shape = λ u. rw lost
+    (unsound s.fields.domain true s.twice s.seen (unless s.fault h.0) s.field u s.state) in (
+      h.0,
+      h.1,
+      λ rest. all (option_to_list s.pending ++ rest)
+          ∙ (sym (all (option_to_list s.pending ++ (bs ++ rest))) ∙ (h.2 (bs ++ rest) ∙ rw append_assoc refl)),
+    )
 
 -- 5. A text fed in runs.
 

@@ -375,7 +375,8 @@ impl SddlReader {
     }
 
     // Appends the bytes at the front that belong to the current field, in one call, and returns their number. A field
-    // that has no byte yet may be whole in what follows, so of that only the blanks before it are taken.
+    // that has no byte yet may be whole in what follows, so of that only the blanks before it are taken. Of a line whose
+    // shape is broken all is taken: it has its answer.
     fn feed_run(&mut self, text: &[u8]) -> usize
         ensures within { result ≤ length text.now }
         ensures reader { (buf : List ℕ) → IsReader self.old buf → IsReader self.new buf }
@@ -383,6 +384,9 @@ impl SddlReader {
             → Reads self.old buf domain before
             → Reads self.new buf domain (before ++ take result text.now) }
     {
+        if !self.sound {
+            return text.len();
+        }
         if self.field.is_empty() {
             return self.blanks_before(text);
         }

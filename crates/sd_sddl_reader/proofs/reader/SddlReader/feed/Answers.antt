@@ -1,26 +1,15 @@
-use Rattle.std.proofs.Common.{◌≡◌, ℕ, true, List, [], ◌∷◌, refl, ap, sym, ◌∙◌, ◌++◌, append_assoc, None, Err}
+use Rattle.std.proofs.Common.{◌≡◌, ℕ, List, [], ◌∷◌, refl, ap, ◌∙◌, ◌++◌, append_assoc, None}
 use Rattle.std.specs.Prelude.{Option}
 use Rattle.sd_sid.specs.Sid.{SecurityId}
-use Rattle.sd_sddl_builder.specs.declared.fault.SddlFault.TheVariants as fault
 use Rattle.sd_sddl_builder.specs.FoldedReading.{reads_as}
-use Rattle.sd_text.specs.Chains.{unless}
 use Rattle.std.specs.Option.{option_to_list}
 use Rattle.sd_sddl_reader.specs.Inner.Reads.{answer_at}
-use Rattle.sd_sddl_reader.proofs.Steps.{unsound}
+use Rattle.sd_sddl_reader.proofs.Runs.{lost-goes}
 use Rattle.sd_sddl_reader.proofs.reader.SddlReader.feed.Goals as goal
 
 pub returns-then-not-self-clause-read : goal.returns-then-not-self-clause-read
 returns-then-not-self-clause-read c = λ domain text h.
-    let s = c.args.self.now in
-    let lost : (u : List ℕ)
-    → answer_at s h.0 u ≡ Err fault.Shape = λ u. rw (c.if-not-self.true)
-    (unsound s.fields.domain true s.twice s.seen (unless s.fault h.0) s.field u s.state) in (
-      h.0,
-      h.1,
-      λ rest. lost (option_to_list s.pending ++ rest)
-          ∙ (sym (lost (option_to_list s.pending ++ c.args.byte ∷ rest))
-          ∙ (h.2 (c.args.byte ∷ rest) ∙ rw append_assoc refl)),
-    )
+    lost-goes c.args.self.now (c.args.byte ∷ []) c.args.buf.now domain text c.if-not-self.true h
 
 -- the line so far, with a byte more
 next : (d : Option SecurityId) (text rest : List ℕ) (b : ℕ)
