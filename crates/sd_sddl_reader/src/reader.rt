@@ -375,8 +375,8 @@ impl SddlReader {
     }
 
     // Appends the bytes at the front that belong to the current field, in one call, and returns their number. A field
-    // that has no byte yet may be whole in what follows, so of that only the blanks before it are taken. Of a line whose
-    // shape is broken all is taken: it has its answer.
+    // that has no byte yet may be whole in what follows, so of that only the blanks before it are taken. Once the shape of
+    // the line is broken, the error is known, and all bytes are taken.
     fn feed_run(&mut self, text: &[u8]) -> usize
         ensures within { result ≤ length text.now }
         ensures reader { (buf : List ℕ) → IsReader self.old buf → IsReader self.new buf }

@@ -34,9 +34,6 @@ impl SddlReader {
         requires { IsReader self.old buf.old }
         ensures { Feeds self.old buf.old text.now self.new buf.new result.now }
     {
-        if !self.is_fresh() {
-            return text;
-        }
         let rest = self.whole_head(buf, text);
         let rest = self.whole_sids(buf, rest);
         let rest = self.whole_flags(buf, rest);
