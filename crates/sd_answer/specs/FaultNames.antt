@@ -1,5 +1,5 @@
--- The names of all faults, by their numbers: those of lines (1 to 40), of requests (50 and 51) and of runs (60 to 62), and
--- those of the library for C alone (70 to 72).
+-- The names of all faults, by their numbers: those of lines (1 to 40), of requests (50 and 51) and of runs (60 to 62),
+-- and those of the library for C alone (70 to 72).
 use Rattle.std.specs.Prelude.{ℕ, List, [], if◌then◌else◌, nat_eq, codes}
 
 -- empty where no fault has the number

@@ -41,7 +41,7 @@ pub fn print_as_hex<P: Print>(bytes: &[u8], cells: &mut [u8; SPELLED], out: &mut
     }
 }
 
-/// Puts the bytes as lower-case hex, with an LF behind them, by way of the cells. The last piece leaves room for the LF.
+/// Puts the bytes as lower-case hex, with an LF behind them, by way of the cells. The last piece leaves room for it.
 pub fn put_as_hex<S: Sink>(
     bytes: &[u8],
     cells: &mut [u8; SPELLED],

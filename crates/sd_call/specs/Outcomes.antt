@@ -101,8 +101,8 @@ pub record Fills (n : ℕ) (bytes old new : List ℕ) : Type 0 where
 abbrev pub Refused : List ℕ → List ℕ → Outcome → Type 0
 Refused old new outcome = (outcome ≡ no_memory) × (new ≡ old)
 
--- The answer that is made of what some arguments were read as. A fault of theirs is told whether there is memory or not;
--- behind it memory may be refused for the answer.
+-- The answer that is made of what some arguments were read as. A fault of theirs is told whether there is memory or
+-- not; behind it memory may be refused for the answer.
 abbrev pub AnswersWithin : {A : Type 0} → Result A CallFault → Result (List ℕ) CallFault → List ℕ → List ℕ → Outcome
     → Type 0
 AnswersWithin (Ok value) answer old new outcome = Answers answer old new outcome ⊎ Refused old new outcome

@@ -24,8 +24,8 @@ abbrev pub many_bound : ℕ → List Bytes → ℕ
 many_bound entries [] = 0
 many_bound entries (descriptor ∷ others) = call_bound descriptor.bytes.now entries + many_bound entries others
 
--- The first verdicts are those of the descriptors, each as if it was checked by itself. After a fault of the token or of
--- what is asked nothing is written.
+-- The first verdicts are those of the descriptors, each as if it was checked by itself. After a fault of the token or
+-- of what is asked nothing is written.
 abbrev pub Judges : List Bytes → (Bytes → VerdictOutcome) → Result (Holder × Asked) CallFault → List VerdictOutcome
     → List VerdictOutcome → Outcome → Type 0
 Judges descriptors judge (Ok asker) old new outcome = (outcome ≡ done (length descriptors))

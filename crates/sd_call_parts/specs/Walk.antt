@@ -65,7 +65,8 @@ abbrev pub some_found : Result AceFound SdFault → Result (Option AceFound) SdF
 some_found (Ok ace) = Ok (Some ace)
 some_found (Err fault) = Err fault
 
--- The ACE that comes next, or none behind the last one. A fault is told as one of a DACL: an ACL by itself is in no part.
+-- The ACE that comes next, or none behind the last one. A fault is told as one of a DACL: an ACL by itself is in no
+-- part.
 unfoldable pub next : List ℕ → AceFound → Result (Option AceFound) SdFault
 next acl at =
     if not (begins_with_header acl) then Err (faults.Acl part.Dacl)

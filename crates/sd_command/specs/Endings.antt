@@ -69,7 +69,8 @@ EndsWithoutMemory = EndsIdle 4 (fault_line (codes "no memory"))
 abbrev pub EndsRefused : Told → Told → ℕ → Type 0
 EndsRefused = EndsIdle 2 (fault_line (codes "usage"))
 
--- the text was put, or a prefix of it where the drain failed, and then the drain was flushed, whether that failed or not
+-- the text was put, or a prefix of it where the drain failed, and then the drain was flushed, whether that failed or
+-- not
 pub record HandsOn (text : List ℕ) (drain drain' : DrainTold) : Type 0 where
   pub written : DrainTold
   pub says : Says text drain written

@@ -1,4 +1,5 @@
--- Where each ACE of the descriptor of a new object comes from. The lists are those that it is derived from (Derived.antt).
+-- Where each ACE of the descriptor of a new object comes from. The lists are those that it is derived from
+-- (Derived.antt).
 use Rattle.std.specs.Prelude.{ℕ, ◌+◌, nat_lt, Bool, true, false, ◌||◌, if◌then◌else◌, List, [], ◌∷◌, ◌++◌, length, map}
 use Rattle.std.specs.Prelude.{Option, Some, None, Result, Ok, Err}
 use Rattle.sd_ace.specs.Ace.{AccessControlEntry}

@@ -18,8 +18,8 @@ use sd_kinds::{INHERIT_ONLY, has_flag};
 use sd_parts::Which;
 use sd_view::SdView;
 
-/// Writes where each ACE of the descriptor that `derive` gives comes from. The origins stand at the front of the cells, in
-/// the order of the ACEs, and the answer is how many there are. After a fault the cells are unchanged.
+/// Writes where each ACE of the descriptor that `derive` gives comes from. The origins stand at the front of the cells,
+/// in the order of the ACEs, and the answer is how many there are. After a fault the cells are unchanged.
 ///
 /// ```
 /// let plan = Plan {

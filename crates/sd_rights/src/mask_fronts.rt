@@ -31,8 +31,8 @@ static VALUES: [u8; 256] = [
     16, 16, 16, 16, 16, 16, 16, 16, 16, 16, 16, 16, 16, 16,
 ];
 
-/// The access mask that a run of names, or `0x` and up to eight hex digits, give at the front of a text, and the size of
-/// that text (MS-DTYP 2.5.1.1). `None` means only that the general reader must decide.
+/// The access mask that a run of names, or `0x` and up to eight hex digits, give at the front of a text, and the size
+/// of that text (MS-DTYP 2.5.1.1). `None` means only that the general reader must decide.
 ///
 /// ```
 /// assert!(rt; front_mask(b"RCWD;;;WD") == Some((READ_CONTROL | WRITE_DAC, 4)));

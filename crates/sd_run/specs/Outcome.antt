@@ -86,7 +86,8 @@ pub record WriteFailed (most : ℕ) (task : Task) (old new : RunTold) : Type 0 w
   pub is_part : IsPrefix part (answers task old.token.holder broken)
   pub joined : written ≡ answers task old.token.holder whole ++ part
   pub compared : Compares old.token new.token (bounds task old.token.holder (whole ++ broken))
-  -- It ended at the first answers that did not go out: the lines that had ended before the last read are answered whole.
+  -- It ended at the first answers that did not go out: the lines that had ended before the last read are answered
+  -- whole.
   pub front : List ℕ
   pub last_read : List ℕ
   pub cut : got ≡ front ++ last_read

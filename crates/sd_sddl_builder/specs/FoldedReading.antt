@@ -1,6 +1,6 @@
 -- A second form of what a line means: field by field from the left, each onto what was read so far, which is kept as a
--- builder keeps it. Nobody has to believe it: `folded-means` (proofs/laws/FoldedMeaning.antt) proves that it is `means`.
--- Laws about printed lines cite it.
+-- builder keeps it. Nobody has to believe it: `folded-means` (proofs/laws/FoldedMeaning.antt) proves that it is
+-- `means`. Laws about printed lines cite it.
 use Rattle.std.specs.Prelude.{ℕ, ◌&&◌, Bool, true, false, nat_lt, if◌then◌else◌, List, [], ◌∷◌, ◌++◌, Option, Some}
 use Rattle.std.specs.Prelude.{None, Result, Ok, Err}
 use Rattle.std.specs.List.{flat_map}

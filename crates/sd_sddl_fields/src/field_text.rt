@@ -1,6 +1,6 @@
 //! The text of the field at hand, of at most MOST_FIELD_SIZE bytes.
 
-ghost use Rattle.std.specs.Prelude.{◌≡◌, ◌≤◌, ◌+◌, ◌++◌, length, take, true};
+ghost use Rattle.std.specs.Prelude.{◌≡◌, ◌≤◌, ◌+◌, ◌++◌, ◌||◌, ◌==◌, length, take, true};
 ghost use Rattle.sd_text.specs.Limits.{most_field};
 ghost use Rattle.sd_sddl_fields.specs.Held.{Held, no_text, broken_text, held_with, held_run, held_blank, outer_with};
 ghost use Rattle.sd_sddl_fields.specs.Held.{within_with};
@@ -44,6 +44,13 @@ impl FieldText {
         ensures { result ≡ true → self.now ≡ no_text }
     {
         self.len == 0 && !self.gap && !self.broken
+    }
+
+    /// Whether a blank more changes nothing, of a text whose blanks at the ends do not count.
+    pub fn ignores_blanks(&self) -> bool
+        ensures { result ≡ (self.now.broken || (self.now.gap || length self.now.text == 0)) }
+    {
+        self.broken || self.gap || self.len == 0
     }
 
     /// No byte any more.

@@ -1,6 +1,7 @@
 -- Bytes that only go onto the text of the field at hand, taken all at once.
 use Rattle.std.proofs.Common.{◌≡◌, ℕ, Bool, true, false, ◌||◌, List, [], ◌∷◌, ◌++◌, length, take, drop, refl, ap, sym}
-use Rattle.std.proofs.Common.{◌∙◌, arith, append_assoc, eqb-true, true≢false}
+use Rattle.std.proofs.Common.{◌∙◌, arith, append_assoc, eqb-true, true≢false, subst, ◌⊎◌, inl, inr}
+use Rattle.std.proofs.Math.Dec.{eqb-suc-zero}
 use Rattle.std.specs.Prelude.{◌==◌, not, if◌then◌else◌, Result, Err, Option, Some, None}
 use Rattle.std.specs.List.{list_all}
 use Rattle.std.specs.Option.{is_none, is_some, option_to_list}
@@ -14,18 +15,22 @@ use Rattle.sd_sddl_builder.specs.declared.slot.AceField.{AceField}
 use Rattle.sd_sddl_reader.specs.declared.line.State.{State}
 use Rattle.sd_sddl_reader.specs.declared.line.State.TheVariants as state
 use Rattle.sd_parts.specs.declared.part.SidPart.{SidPart}
-use Rattle.sd_sddl_fields.specs.Held.{Held, IsHeld, broken_text, held_run, held_with, is_plain_inside, is_plain_text, no_text}
+use Rattle.sd_parts.specs.declared.part.Which.{Which}
+use Rattle.sd_sddl_fields.specs.Held.{Held, IsHeld, broken_text, held_blank, held_run, held_with, is_plain_inside}
+use Rattle.sd_sddl_fields.specs.Held.{is_plain_text, no_text}
 use Rattle.sd_sddl_reader.specs.Inner.Progress.{is_plain_outside}
 use Rattle.sd_sddl_builder.specs.Line.{begins_with_colon, byte, head_at, head_of, pieces_from}
 use Rattle.sd_sddl_fields.specs.FieldTexts.{is_blank}
 use Rattle.sd_sddl_builder.specs.FoldedReading.{FieldsRead}
 use Rattle.sd_text.specs.Chains.{unless}
-use Rattle.sd_sddl_reader.specs.Inner.Progress.{Seen, is_inside, rest_answer}
+use Rattle.sd_sddl_reader.specs.Inner.Progress.{Seen, inner_with, is_inside, rest_answer, text_with}
 use Rattle.sd_sddl_reader.specs.Inner.Reads.{IsReader, Reads, answer_at}
 use Rattle.sd_sddl_reader.specs.declared.reader.SddlReader.{SddlReader}
-use Rattle.sd_sddl_reader.proofs.FieldTexts.{append_nothing, same_blank, same_inner, same_text, with_held}
+use Rattle.sd_sddl_reader.proofs.FieldTexts.{Same, append_nothing, same_blank, same_inner, same_refl, same_text}
+use Rattle.sd_sddl_reader.proofs.FieldTexts.{with_held}
 use Rattle.sd_sddl_builder.proofs.laws.Heads.{no_head}
-use Rattle.sd_sddl_reader.proofs.Steps.{before_blank, between_blank, control_text, entry_text, sid_text, unsound}
+use Rattle.sd_sddl_reader.proofs.Steps.{before_blank, between_blank, control_text, entry_text, outside_text, sid_text}
+use Rattle.sd_sddl_reader.proofs.Steps.{unsound}
 
 -- 1. What is held stays clean.
 
@@ -89,6 +94,10 @@ outside-held h (b ∷ bs) k e =
 
 -- 2. The answer to a run.
 
+-- in an owner or a group, or before the first ACE of an ACL
+abbrev pub TakesText : State → Type 0
+TakesText pl = ((p : SidPart) × (pl ≡ state.Sid p)) ⊎ ((w : Which) × (pl ≡ state.AclFlags w))
+
 module _ (dm : Option SecurityId) (so tw : Bool) (se : Seen) (r : Result FieldsRead SddlFault) where
   pub inside-run : (c : AceField) (h : Held) (bs rest : List ℕ) → IsHeld h → h.gap ≡ false
       → list_all is_plain_inside bs ≡ true
@@ -102,72 +111,89 @@ module _ (dm : Option SecurityId) (so tw : Bool) (se : Seen) (r : Result FieldsR
       ∙ entry_text dm so tw se r h (bs ++ rest) c (held_with h b) b l.opens l.closes l.cuts
       (λ u. same_inner h b u k n l.blank)
 
-  pub outside-run : (p : SidPart) (h : Held) (bs rest : List ℕ) → IsHeld h → list_all is_plain_outside bs ≡ true
-      → rest_answer dm so tw se r (state.Sid p) (held_run h bs) rest ≡ rest_answer dm so tw se r (state.Sid p) h
-      (bs ++ rest)
-  outside-run p h [] rest k e = refl
-  outside-run p h (b ∷ bs) rest k e =
+  pub outside-run : (pl : State) (h : Held) (bs rest : List ℕ) → TakesText pl → IsHeld h
+      → list_all is_plain_outside bs ≡ true
+      → rest_answer dm so tw se r pl (held_run h bs) rest ≡ rest_answer dm so tw se r pl h (bs ++ rest)
+  outside-run pl h [] rest takes k e = refl
+  outside-run pl h (b ∷ bs) rest takes k e =
       let o = outside_parts b bs e in
       let l = plain-is b o.0 in
-      outside-run p (held_with h b) bs rest (with_held h b k l.blank) o.3
-      ∙ sid_text dm so tw se r b (bs ++ rest) l.opens l.closes (no_head _ _ o.2) p h (held_with h b) o.1
-      (λ u. same_text h b u k l.blank)
+      outside-run pl (held_with h b) bs rest takes (with_held h b k l.blank) o.3
+      ∙ outside_text dm so tw se r h b (bs ++ rest) l.opens l.closes (no_head _ _ o.2) pl (held_with h b) o.1
+      (λ u. same_text h b u k l.blank) takes
 
--- 3. Blanks before a field or a head.
+text_outside : (pl : State) → TakesText pl → is_inside pl ≡ false
+text_outside pl (inl w) = rw (w.1) refl
+text_outside pl (inr w) = rw (w.1) refl
+
+-- 3. Blanks that change nothing.
 
 pub nothing-held : IsHeld no_text
 nothing-held = record { clean = refl; fits = omega arith }
 
--- a blank is no parenthesis, and no head
+-- a blank is no parenthesis, no colon, no head and no semicolon
 pub blank-is : (b : ℕ) → is_blank b ≡ true
-    → ((b == 40) ≡ false) × ((b == 41) ≡ false) × ((b == 58) ≡ false) × (head_of b ≡ None)
+    → ((b == 40) ≡ false) × ((b == 41) ≡ false) × ((b == 58) ≡ false) × (head_of b ≡ None) × ((b == 59) ≡ false)
 blank-is b e = by_byte (b == 32) refl
   where
     by_byte : (x : Bool) → (b == 32) ≡ x
-        → ((b == 40) ≡ false) × ((b == 41) ≡ false) × ((b == 58) ≡ false) × (head_of b ≡ None)
-    by_byte true f = let is : b ≡ 32 = eqb-true b 32 f in rw is (refl, refl, refl, refl)
-    by_byte false f = let is : b ≡ 9 = grind (arith, nat_tests) in rw is (refl, refl, refl, refl)
+        → ((b == 40) ≡ false) × ((b == 41) ≡ false) × ((b == 58) ≡ false) × (head_of b ≡ None) × ((b == 59) ≡ false)
+    by_byte true f = let is : b ≡ 32 = eqb-true b 32 f in rw is (refl, refl, refl, refl, refl)
+    by_byte false f = let is : b ≡ 9 = grind (arith, nat_tests) in rw is (refl, refl, refl, refl, refl)
 
-blank-first : (dm : Option SecurityId) (so tw : Bool) (se : Seen) (r : Result FieldsRead SddlFault) (pl : State)
-    (b : ℕ) (bs : List ℕ) → is_inside pl ≡ false → is_blank b ≡ true
-    → rest_answer dm so tw se r pl no_text bs ≡ rest_answer dm so tw se r pl no_text (b ∷ bs)
-blank-first dm so tw se r pl b bs out blank = by_state pl out
+-- no byte of the field came, or a blank came last, or the field can no longer read
+pub ignored : (h : Held) → (h.broken || (h.gap || length h.text == 0)) ≡ true → held_blank h ≡ h
+ignored h e = by_held h.text h.gap h.broken e
   where
-    is : ((b == 40) ≡ false) × ((b == 41) ≡ false) × ((b == 58) ≡ false) × (head_of b ≡ None)
-    is = blank-is b blank
+    by_held : (t : List ℕ) (g x : Bool) → (x || (g || length t == 0)) ≡ true
+        → held_blank (record { text = t; gap = g; broken = x }) ≡ record { text = t; gap = g; broken = x }
+    by_held t g true f = refl
+    by_held [] g false f = refl
+    by_held (c ∷ t) true false f = rw (eqb-suc-zero (length t)) refl
+    by_held (c ∷ t) false false f = absurd (true≢false (sym f ∙ eqb-suc-zero (length t)))
 
-    none : head_at (byte b) (pieces_from false bs).after ≡ None
-    none = no_head (begins_with_colon (pieces_from false bs).after) (head_of b) is.3
+still_broken : (h : Held) (b : ℕ) (bs : List ℕ) → h.broken ≡ true → Same (inner_with h (b ∷ bs)) (inner_with h bs)
+still_broken h b bs broken = rw broken (same_refl _)
 
-    by_state : (pl : State) → is_inside pl ≡ false
-        → rest_answer dm so tw se r pl no_text bs ≡ rest_answer dm so tw se r pl no_text (b ∷ bs)
-    by_state state.Before out = before_blank dm so tw se r b bs is.0 is.1 none no_text blank
-    by_state (state.Sid p) out =
-        sid_text dm so tw se r b bs is.0 is.1 none p no_text no_text is.2 (λ u. same_blank no_text b u nothing-held blank)
-    by_state (state.AclFlags w) out =
-        control_text dm so tw se r b bs is.0 is.1 none w no_text no_text is.2
-        (λ u. same_blank no_text b u nothing-held blank)
-    by_state state.AfterAce out = between_blank dm so tw se r b bs is.0 is.1 none no_text blank
-    by_state (state.Ace c) out = absurd cc
+module _ (dm : Option SecurityId) (so tw : Bool) (se : Seen) (r : Result FieldsRead SddlFault) where
+  blank-outside : (pl : State) (h : Held) (b : ℕ) (bs : List ℕ) → is_inside pl ≡ false → IsHeld h → held_blank h ≡ h
+      → is_blank b ≡ true → rest_answer dm so tw se r pl h bs ≡ rest_answer dm so tw se r pl h (b ∷ bs)
+  blank-outside pl h b bs out k same blank = by_state pl out
+    where
+      is : ((b == 40) ≡ false) × ((b == 41) ≡ false) × ((b == 58) ≡ false) × (head_of b ≡ None) × ((b == 59) ≡ false)
+      is = blank-is b blank
 
-blanks-first : (dm : Option SecurityId) (so tw : Bool) (se : Seen) (r : Result FieldsRead SddlFault) (pl : State)
-    (bs rest : List ℕ) → is_inside pl ≡ false → list_all is_blank bs ≡ true
-    → rest_answer dm so tw se r pl no_text rest ≡ rest_answer dm so tw se r pl no_text (bs ++ rest)
-blanks-first dm so tw se r pl [] rest out all = refl
-blanks-first dm so tw se r pl (b ∷ bs) rest out all =
-    let p = and_parts (is_blank b) (list_all is_blank bs) all in
-    blanks-first dm so tw se r pl bs rest out p.1 ∙ blank-first dm so tw se r pl b (bs ++ rest) out p.0
+      none : head_at (byte b) (pieces_from false bs).after ≡ None
+      none = no_head (begins_with_colon (pieces_from false bs).after) (head_of b) is.3
 
-pub blanks-go : (s : SddlReader) (bs buf : List ℕ) (domain : Option SecurityId) (before : List ℕ)
-    → is_inside s.state ≡ false → s.pending ≡ None → s.field ≡ no_text → list_all is_blank bs ≡ true
-    → Reads s buf domain before → Reads s buf domain (before ++ bs)
-blanks-go s bs buf domain before out none begins all h = (
-  h.0,
-  h.1,
-  λ rest. rw none
-      (rw begins (blanks-first s.fields.domain s.sound s.twice s.seen (unless s.fault h.0) s.state bs rest out all)
-      ∙ (rw none at h.2 (bs ++ rest)) ∙ rw append_assoc refl),
-)
+      reads : (u : List ℕ) → Same (text_with h (b ∷ u)) (text_with h u)
+      reads u = subst (λ (x : Held). Same (text_with h (b ∷ u)) (text_with x u)) same (same_blank h b u k blank)
+
+      by_state : (pl : State) → is_inside pl ≡ false
+          → rest_answer dm so tw se r pl h bs ≡ rest_answer dm so tw se r pl h (b ∷ bs)
+      by_state state.Before out = before_blank dm so tw se r b bs is.0 is.1 none h blank
+      by_state (state.Sid p) out = sid_text dm so tw se r b bs is.0 is.1 none p h h is.2 reads
+      by_state (state.AclFlags w) out = control_text dm so tw se r b bs is.0 is.1 none w h h is.2 reads
+      by_state state.AfterAce out = between_blank dm so tw se r b bs is.0 is.1 none h blank
+      by_state (state.Ace c) out = absurd cc
+
+  pub blanks-outside : (pl : State) (h : Held) (bs rest : List ℕ) → is_inside pl ≡ false → IsHeld h → held_blank h ≡ h
+      → list_all is_blank bs ≡ true
+      → rest_answer dm so tw se r pl h rest ≡ rest_answer dm so tw se r pl h (bs ++ rest)
+  blanks-outside pl h [] rest out k same all = refl
+  blanks-outside pl h (b ∷ bs) rest out k same all =
+      let p = and_parts (is_blank b) (list_all is_blank bs) all in
+      blanks-outside pl h bs rest out k same p.1 ∙ blank-outside pl h b (bs ++ rest) out k same p.0
+
+  -- inside parentheses, in a field that can no longer read
+  pub blanks-inside : (c : AceField) (h : Held) (bs rest : List ℕ) → h.broken ≡ true → list_all is_blank bs ≡ true
+      → rest_answer dm so tw se r (state.Ace c) h rest ≡ rest_answer dm so tw se r (state.Ace c) h (bs ++ rest)
+  blanks-inside c h [] rest broken all = refl
+  blanks-inside c h (b ∷ bs) rest broken all =
+      let p = and_parts (is_blank b) (list_all is_blank bs) all in
+      let is = blank-is b p.0 in
+      blanks-inside c h bs rest broken p.1
+      ∙ entry_text dm so tw se r h (bs ++ rest) c h b is.0 is.1 is.4 (λ u. still_broken h b u broken)
 
 -- 4. The reader after a run.
 
@@ -176,6 +202,16 @@ abbrev pub Goes : SddlReader → List ℕ → Type 0
 Goes s bs = (buf : List ℕ) → IsReader s buf → IsReader (record s { field = held_run s.field bs }) buf
     × ((domain : Option SecurityId) (before : List ℕ) → Reads s buf domain before
     → Reads (record s { field = held_run s.field bs }) buf domain (before ++ bs))
+
+-- bytes that change nothing, where no byte waits
+pub idle-goes : (s : SddlReader) (bs buf : List ℕ) (domain : Option SecurityId) (before : List ℕ) → s.pending ≡ None
+    → ((t : FieldsRead) (rest : List ℕ) → answer_at s t rest ≡ answer_at s t (bs ++ rest))
+    → Reads s buf domain before → Reads s buf domain (before ++ bs)
+idle-goes s bs buf domain before none step h = (
+  h.0,
+  h.1,
+  λ rest. rw none (step h.0 rest ∙ (rw none at h.2 (bs ++ rest)) ∙ rw append_assoc refl),
+)
 
 -- where no byte waits, and the answer to the run is that to what follows it
 goes-on : (s : SddlReader) (bs buf : List ℕ) (domain : Option SecurityId) (before : List ℕ) → s.pending ≡ None
@@ -204,14 +240,13 @@ inside-goes s c bs here plain buf r =
           (unless s.fault t) c s.field bs rest r.calm.held gap plain)) h,
     )
 
-pub outside-goes : (s : SddlReader) (p : SidPart) (bs : List ℕ) → s.state ≡ state.Sid p → s.pending ≡ None
+pub outside-goes : (s : SddlReader) (bs : List ℕ) → TakesText s.state → s.pending ≡ None
     → list_all is_plain_outside bs ≡ true → Goes s bs
-outside-goes s p bs here none plain buf r = (
+outside-goes s bs takes none plain buf r = (
   record {
     calm = record {
       held = outside-held s.field bs r.calm.held plain;
-      gap =
-          λ is. absurd (true≢false (sym is ∙ rw here refl));
+      gap = λ is. absurd (true≢false (sym is ∙ text_outside s.state takes));
     };
     still = r.still;
     letter = r.letter;
@@ -219,8 +254,8 @@ outside-goes s p bs here none plain buf r = (
     held = record { fields = r.held.fields; fits = r.held.fits };
   },
   λ domain before h. goes-on s bs buf domain before none
-      (λ t rest. rw here (outside-run s.fields.domain s.sound s.twice s.seen
-      (unless s.fault t) p s.field bs rest r.calm.held plain)) h,
+      (λ t rest. outside-run s.fields.domain s.sound s.twice s.seen (unless s.fault t) s.state s.field bs rest takes
+      r.calm.held plain) h,
 )
 
 -- a line whose shape is broken has its answer, whatever comes

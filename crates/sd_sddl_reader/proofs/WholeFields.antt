@@ -2,7 +2,6 @@
 use Rattle.std.proofs.Common.{◌≡◌, ℕ, ◌≤◌, Bool, true, false, List, [], ◌∷◌, ◌++◌, length, Ok, Err, Some, None, refl}
 use Rattle.std.proofs.Common.{ap, sym, ◌∙◌, subst, arith, append_assoc}
 use Rattle.std.specs.Prelude.{Result, Option}
-use Rattle.std.proofs.lemmas.Bool.{and_parts}
 use Rattle.std.specs.List.{list_all}
 use Rattle.sd_sid.specs.Sid.{SecurityId}
 use Rattle.sd_sddl_builder.specs.declared.fault.SddlFault.{SddlFault}
@@ -11,10 +10,8 @@ use Rattle.sd_sddl_builder.specs.declared.slot.AceField.TheVariants as field
 use Rattle.sd_sddl_reader.specs.declared.line.State.TheVariants as state
 use Rattle.sd_sddl_builder.specs.declared.slot.Slot.TheVariants as slot
 use Rattle.sd_sddl_builder.specs.FoldedReading.{FieldsRead, take_field}
-use Rattle.sd_sddl_builder.specs.Line.{begins_with_colon, head_of, pieces_from}
-use Rattle.sd_sddl_builder.proofs.laws.Heads.{no_head}
 use Rattle.sd_sddl_fields.specs.FieldTexts.{is_blank}
-use Rattle.sd_sddl_fields.specs.Held.{Held, IsHeld, is_plain_inside, no_text}
+use Rattle.sd_sddl_fields.specs.Held.{IsHeld, is_plain_inside, no_text}
 use Rattle.sd_sddl_reader.specs.Inner.Progress.{Seen, rest_answer, end_of, state_after}
 use Rattle.sd_sddl_reader.specs.Inner.Reads.{FedTo, Feeds, Fits, IsReader, LineHasRead, Steps, answer_at}
 use Rattle.sd_sddl_reader.specs.declared.reader.SddlReader.{SddlReader}
@@ -22,8 +19,8 @@ use Rattle.sd_sddl_builder.specs.WholeAce.{AceTexts, AreWhole, TakesAce, ace_bef
 use Rattle.sd_text.specs.Chains.{and_then, unless}
 use Rattle.sd_sddl_reader.proofs.FitLaws.{fits-field, fits-next}
 use Rattle.sd_sddl_fields.proofs.laws.HeldRuns.{run-fits}
-use Rattle.sd_sddl_reader.proofs.Runs.{blank-is, inside-held, inside-run, nothing-held}
-use Rattle.sd_sddl_reader.proofs.Steps.{between_blank, close_last, cut, open_next}
+use Rattle.sd_sddl_reader.proofs.Runs.{blanks-outside, inside-held, inside-run, nothing-held}
+use Rattle.sd_sddl_reader.proofs.Steps.{close_last, cut, open_next}
 
 -- 1. The text of a field.
 
@@ -151,18 +148,6 @@ reader-at s buf begins none t k = record {
   held = k;
 }
 
--- blanks after an ACE change nothing
-blanks-between : (dm : Option SecurityId) (so tw : Bool) (se : Seen) (r : Result FieldsRead SddlFault) (h : Held)
-    (bs rest : List ℕ) → list_all is_blank bs ≡ true
-    → rest_answer dm so tw se r state.AfterAce h rest ≡ rest_answer dm so tw se r state.AfterAce h (bs ++ rest)
-blanks-between dm so tw se r h [] rest all = refl
-blanks-between dm so tw se r h (b ∷ bs) rest all =
-    let p = and_parts (is_blank b) (list_all is_blank bs) all in
-    let is = blank-is b p.0 in
-    blanks-between dm so tw se r h bs rest p.1
-    ∙ between_blank dm so tw se r b (bs ++ rest) is.0 is.1
-    (no_head (begins_with_colon (pieces_from false (bs ++ rest)).after) (head_of b) is.3) h p.0
-
 -- an ACE, and blanks behind it
 pub over-blanks : (s s' : SddlReader) (buf buf' text rest bs more : List ℕ) → StepsOver s buf text s' buf' rest
     → list_all is_blank bs ≡ true → rest ≡ bs ++ more → StepsOver s buf text s' buf' more
@@ -175,8 +160,9 @@ over-blanks s s' buf buf' text rest bs more over all is = record {
         e.1,
         λ after.
             let same : answer_at s' e.0 after ≡ answer_at s' e.0 (bs ++ after) =
-            rw (over.state)
-            (blanks-between s'.fields.domain s'.sound s'.twice s'.seen (unless s'.fault e.0) s'.field bs after all) in
+            rw (over.state, over.field)
+            (blanks-outside s'.fields.domain s'.sound s'.twice s'.seen (unless s'.fault e.0) state.AfterAce no_text bs
+            after refl nothing-held refl all) in
             same ∙ e.2 (bs ++ after) ∙ ap (answer_at s t) (sym (append_assoc over.bytes bs after)),
       );
   state = over.state;

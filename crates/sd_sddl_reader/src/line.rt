@@ -193,8 +193,8 @@ pub fn next_head(text: &[u8]) -> Option<(&[u8], Head, &[u8])>
     Some((&text[..end - 1], head, &text[end + 1..]))
 }
 
-/// The account of an owner or a group at the front of a text, the head behind it, and what follows its colon. Blanks may
-/// stand before the head. Where it is `None`, `next_head` decides. The numbers of a domain that is kept are not read again.
+/// The account of an owner or a group at the front of a text, the head behind it, and what follows its colon. Blanks
+/// may stand before the head. Where it is `None`, `next_head` decides. A domain that is kept is not read again.
 #[inline(always)]
 pub fn next_account<'a>(text: &'a [u8], kept: &KeptDomains) -> Option<(Account, Head, &'a [u8])>
     ensures { IfSome result (λ r. AccountBefore r.0 r.1 r.2.now text.now) }

@@ -361,6 +361,7 @@ impl SddlReader {
 
     /// Takes the first byte of the text, and after it those that belong to the current field. Answers what follows
     /// them.
+    #[inline(always)]
     pub(crate) fn feed_front<'a>(&mut self, buf: &mut SdBuf, text: &'a [u8]) -> &'a [u8]
         requires { IsReader self.old buf.old }
         ensures shorter { length result.now ≤ length text.now - 1 }
@@ -374,9 +375,9 @@ impl SddlReader {
         &after[run..]
     }
 
-    // Appends the bytes at the front that belong to the current field, in one call, and returns their number. A field
-    // that has no byte yet may be whole in what follows, so of that only the blanks before it are taken. Once the shape of
-    // the line is broken, the error is known, and all bytes are taken.
+    // Appends the bytes at the front that belong to the current field, in one call, and returns their number. Blanks
+    // that change nothing are taken first. A field that has no byte yet may be whole in what follows, so no more is
+    // taken of it. Once the shape of the line is broken, the error is known, and all bytes are taken.
     fn feed_run(&mut self, text: &[u8]) -> usize
         ensures within { result ≤ length text.now }
         ensures reader { (buf : List ℕ) → IsReader self.old buf → IsReader self.new buf }
@@ -387,8 +388,9 @@ impl SddlReader {
         if !self.sound {
             return text.len();
         }
-        if self.field.is_empty() {
-            return self.blanks_before(text);
+        let idle = self.idle_blanks(text);
+        if idle > 0 || self.field.is_empty() {
+            return idle;
         }
         match self.state {
             State::Ace(_) => {
@@ -396,7 +398,7 @@ impl SddlReader {
                 self.field.push_run(&text[..count]);
                 count
             }
-            State::Sid(_) if self.pending.is_none() => {
+            State::Sid(_) | State::AclFlags(_) if self.pending.is_none() => {
                 let count = plain_outside(text);
                 self.field.push_run(&text[..count]);
                 count
@@ -405,18 +407,23 @@ impl SddlReader {
         }
     }
 
-    // How many bytes at the front are blanks that change nothing. Outside parentheses that is so before a field or a head.
-    fn blanks_before(&self, text: &[u8]) -> usize
-        requires { self.now.field ≡ no_text }
+    // How many bytes at the front are blanks that change nothing. Outside parentheses that is so at the ends of a field.
+    // Inside, the first blank breaks a field, so it is so behind that one.
+    fn idle_blanks(&self, text: &[u8]) -> usize
         ensures within { result ≤ length text.now }
-        ensures read { (buf : List ℕ) (domain : Option SecurityId) (before : List ℕ) → Reads self.now buf domain before
-            → Reads self.now buf domain (before ++ take result text.now) }
+        ensures read { (buf : List ℕ) (domain : Option SecurityId) (before : List ℕ) → IsReader self.now buf
+            → Reads self.now buf domain before → Reads self.now buf domain (before ++ take result text.now) }
     {
-        match self.state {
-            State::Ace(_) => 0,
-            _ if self.pending.is_none() => blanks(text),
-            _ => 0,
+        if let State::Ace(_) = self.state {
+            if self.field.is_broken() {
+                return blanks(text);
+            }
+            return 0;
         }
+        if self.pending.is_none() && self.field.ignores_blanks() {
+            return blanks(text);
+        }
+        0
     }
 
     /// Ends the line. The buffer then holds what the line means, or nothing if it has a fault. The reader can only be

@@ -92,7 +92,16 @@ impl SddlReader {
         if rest.len() < text.len() {
             return rest;
         }
-        self.feed_front(buf, rest)
+        self.feed_apart(buf, rest)
+    }
+
+    // As `feed_front`. Apart, since few lines of those that read come here.
+    #[inline(never)]
+    fn feed_apart<'a>(&mut self, buf: &mut SdBuf, text: &'a [u8]) -> &'a [u8]
+        requires { IsReader self.old buf.old }
+        ensures { Feeds self.old buf.old text.now self.new buf.new result.now }
+    {
+        self.feed_front(buf, text)
     }
 
     // Takes the flags of an ACL with its first parenthesis, after its head.
@@ -273,8 +282,8 @@ impl SddlReader {
         }
     }
 
-    // Takes the ACEs that are whole at the front of the text, from behind the first parenthesis of the first one, with the
-    // blanks behind each, and answers what follows them.
+    // Takes the ACEs that are whole at the front of the text, from behind the first parenthesis of the first one, with
+    // the blanks behind each, and answers what follows them.
     fn feed_aces<'a>(&mut self, buf: &mut SdBuf, text: &'a [u8]) -> &'a [u8]
         requires here { self.old.state ≡ State.Ace AceField.Kind }
         requires fresh { IsFresh self.old }

@@ -98,8 +98,8 @@ impl KeptDomain {
         }
     }
 
-    /// Notes an account that was read, with the text of its domain, or no text where its domain is kept. A domain with a
-    /// text of 32 bytes, as nearly all have, is kept once two accounts of it follow each other, since copying costs time.
+    /// Notes an account that was read, with the text of its domain, or no text where its domain is kept. A domain with
+    /// a text of 32 bytes, as nearly all have, is kept once two accounts of it follow each other: a copy costs time.
     #[inline(always)]
     pub fn note(&mut self, text: &[u8], account: Account)
         requires { IsKept text.now account }

@@ -107,13 +107,13 @@ impl<'a> SidView<'a> {
     pub fn is(&self, authority: u64, subs: &[u32]) -> bool
         ensures { result ≡ same_sid self.now (record { authority = authority; subs = subs.now }) }
     {
-        // Most SIDs have one authority, so it is asked last.
+        // Most SIDs have one authority, so it is compared last.
         self.count() == subs.len() && self.has_subs(subs) && self.authority() == authority
     }
 
-    // Whether these are the sub-authorities, where there are as many. From four on, the first four and the last four are
-    // compared in one step, which is all for up to eight, and those between in one or two more. So none are compared one
-    // by one, and no SID takes more than three steps.
+    // Whether these are the sub-authorities, where there are as many. Fewer than four are compared one by one. Else the
+    // first four and the last four are compared in one step, which is all for up to eight. Those between take one step
+    // more, or two.
     #[inline(always)]
     fn has_subs(&self, subs: &[u32]) -> bool
         requires { length subs.now ≡ length self.now.subs }
@@ -255,8 +255,8 @@ impl<'a> SidView<'a> {
         Some([entry.first, entry.second])
     }
 
-    // Most accounts have a higher number than those with a name in their domain. So the test for these is inlined, and the
-    // search is a call.
+    // Most accounts have a higher number than those with a name in their domain. So the test for these is inlined, and
+    // the search is a call.
     #[inline(always)]
     fn relative_alias(&self, domain: &Sid) -> Option<[u8; 2]>
         ensures { result ≡ relative_alias self.now domain.now }

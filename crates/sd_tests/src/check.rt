@@ -165,8 +165,8 @@ fn some_line(rt: &(impl Abort + AllocGlobal), numbers: &mut Numbers) -> String {
     line
 }
 
-// SIDs that no ACE names. All but the last eight have as many numbers as one of `TRUSTEES`, and the same last one, so their
-// keys in a token are equal. Those of 9 and 15 numbers differ from it in one, each in another.
+// SIDs that no ACE names. All but the last eight have as many numbers as one of `TRUSTEES`, and the same last one. So
+// their keys in a token are equal. Those of 9 and 15 numbers differ from it in one number, each in another.
 const STRANGERS: &str =
     "S-1-2-0 S-1-5-33-544 S-1-1-18 S-1-1-11 S-1-1-10 S-1-5-4 S-1-5-21-1-2-4-1001 \
        S-1-5-7-12-13-14-15-16-17-18-19 S-1-5-11-7-13-14-15-16-17-18-19 S-1-5-11-12-7-14-15-16-17-18-19 \

@@ -48,8 +48,8 @@ block = 16
 abbrev pub in_blocks : ℕ → ℕ
 in_blocks n = (n + (block - 1)) / block * block
 
--- how many entries a search compares: whole blocks, up to the one with the first entry that meets the SID, or one by one
--- where the entries end before such a block does
+-- how many entries a search compares: whole blocks, up to the one with the first entry that meets the SID, or one by
+-- one where the entries end before such a block does
 abbrev pub searched : SecurityId → Bool → List Entry → ℕ
 searched s deny entries =
     if nat_le (in_blocks (looks s deny entries)) (length entries) then in_blocks (looks s deny entries)

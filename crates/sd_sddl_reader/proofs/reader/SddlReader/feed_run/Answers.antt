@@ -18,13 +18,13 @@ returns-in-Ace-clause-read c = λ buf domain before r.
 pub returns-in-Sid-clause-reader : goal.returns-in-Sid-clause-reader
 returns-in-Sid-clause-reader c = λ buf r.
     rw (c.push_run-in-Sid.ensures)
-    ((outside-goes c.args.self.now c.in-Sid.«field-0» (take c.plain_outside-count.result c.args.text.now) c.in-Sid.is
+    ((outside-goes c.args.self.now (take c.plain_outside-count.result c.args.text.now) c.in-Sid.is
     (none-if _ _ c.if-is_none.true c.is_none.ensures) c.plain_outside-count.ensures.plain buf r).0)
 
 pub returns-in-Sid-clause-read : goal.returns-in-Sid-clause-read
 returns-in-Sid-clause-read c = λ buf domain before r.
     rw (c.push_run-in-Sid.ensures)
-    ((outside-goes c.args.self.now c.in-Sid.«field-0» (take c.plain_outside-count.result c.args.text.now) c.in-Sid.is
+    ((outside-goes c.args.self.now (take c.plain_outside-count.result c.args.text.now) c.in-Sid.is
     (none-if _ _ c.if-is_none.true c.is_none.ensures) c.plain_outside-count.ensures.plain buf r).1 domain before)
 
 pub returns-then-not-self-clause-read : goal.returns-then-not-self-clause-read
