@@ -104,6 +104,11 @@ PATHS = {
     # What follows a byte that breaks the shape is passed over.
     "an owner behind a wrong byte": (TO_HEX, "<O:" + ">" * 8_000),
     "flags behind a wrong byte": (TO_HEX, "<D:" + "A" * 8_000),
+    # So are blanks that change nothing, and the fields of an ACE behind one that doesn't read.
+    "blanks in an ACE": (TO_HEX, "D:(A;;" + " " * 8_000 + "FA;;;WD)"),
+    "blanks behind flags": (TO_HEX, "D:P" + " " * 8_000 + "(A;;FA;;;WD)"),
+    "letters of flags": (TO_HEX, "D:" + "A" * 8_000 + "(A;;FA;;;WD)"),
+    "ACEs behind one that doesn't read": (TO_HEX, "D:(A;;FA;;;QQ)" + "(A;;FA;;;WD)" * 500),
     "ACLs in their written form": (["convert", "--to", "hex"], WRITTEN),
 }
 

@@ -2,7 +2,7 @@
 use Rattle.std.proofs.Common.{◌≡◌, ℕ, Bool, true, false, ◌||◌, List, [], ◌∷◌, ◌++◌, length, take, drop, refl, ap, sym}
 use Rattle.std.proofs.Common.{◌∙◌, arith, append_assoc, eqb-true, true≢false, subst, ◌⊎◌, inl, inr}
 use Rattle.std.proofs.Math.Dec.{eqb-suc-zero}
-use Rattle.std.specs.Prelude.{◌==◌, not, if◌then◌else◌, Result, Err, Option, Some, None}
+use Rattle.std.specs.Prelude.{◌==◌, not, if◌then◌else◌, Result, Ok, Err, Option, Some, None}
 use Rattle.std.specs.List.{list_all}
 use Rattle.std.specs.Option.{is_none, is_some, option_to_list}
 use Rattle.std.proofs.lemmas.List.{take-append-drop}
@@ -23,7 +23,7 @@ use Rattle.sd_sddl_builder.specs.Line.{begins_with_colon, byte, head_at, head_of
 use Rattle.sd_sddl_fields.specs.FieldTexts.{is_blank}
 use Rattle.sd_sddl_builder.specs.FoldedReading.{FieldsRead}
 use Rattle.sd_text.specs.Chains.{unless}
-use Rattle.sd_sddl_reader.specs.Inner.Progress.{Seen, inner_with, is_inside, rest_answer, text_with}
+use Rattle.sd_sddl_reader.specs.Inner.Progress.{Seen, inner_with, is_in_field, is_inside, judged, rest_answer, text_with}
 use Rattle.sd_sddl_reader.specs.Inner.Reads.{IsReader, Reads, answer_at}
 use Rattle.sd_sddl_reader.specs.declared.reader.SddlReader.{SddlReader}
 use Rattle.sd_sddl_reader.proofs.FieldTexts.{Same, append_nothing, same_blank, same_inner, same_refl, same_text}
@@ -131,15 +131,15 @@ text_outside pl (inr w) = rw (w.1) refl
 pub nothing-held : IsHeld no_text
 nothing-held = record { clean = refl; fits = omega arith }
 
--- a blank is no parenthesis, no colon, no head and no semicolon
+-- a blank is no parenthesis, and no head
 pub blank-is : (b : ℕ) → is_blank b ≡ true
-    → ((b == 40) ≡ false) × ((b == 41) ≡ false) × ((b == 58) ≡ false) × (head_of b ≡ None) × ((b == 59) ≡ false)
+    → ((b == 40) ≡ false) × ((b == 41) ≡ false) × ((b == 58) ≡ false) × (head_of b ≡ None)
 blank-is b e = by_byte (b == 32) refl
   where
     by_byte : (x : Bool) → (b == 32) ≡ x
-        → ((b == 40) ≡ false) × ((b == 41) ≡ false) × ((b == 58) ≡ false) × (head_of b ≡ None) × ((b == 59) ≡ false)
-    by_byte true f = let is : b ≡ 32 = eqb-true b 32 f in rw is (refl, refl, refl, refl, refl)
-    by_byte false f = let is : b ≡ 9 = grind (arith, nat_tests) in rw is (refl, refl, refl, refl, refl)
+        → ((b == 40) ≡ false) × ((b == 41) ≡ false) × ((b == 58) ≡ false) × (head_of b ≡ None)
+    by_byte true f = let is : b ≡ 32 = eqb-true b 32 f in rw is (refl, refl, refl, refl)
+    by_byte false f = let is : b ≡ 9 = grind (arith, nat_tests) in rw is (refl, refl, refl, refl)
 
 -- no byte of the field came, or a blank came last, or the field can no longer read
 pub ignored : (h : Held) → (h.broken || (h.gap || length h.text == 0)) ≡ true → held_blank h ≡ h
@@ -152,6 +152,12 @@ ignored h e = by_held h.text h.gap h.broken e
     by_held (c ∷ t) true false f = rw (eqb-suc-zero (length t)) refl
     by_held (c ∷ t) false false f = absurd (true≢false (sym f ∙ eqb-suc-zero (length t)))
 
+in-field-is : (x y z : Bool) → not (x || (y || z)) ≡ true → (x ≡ false) × (y ≡ false) × (z ≡ false)
+in-field-is true y z e = absurd cc
+in-field-is false true z e = absurd cc
+in-field-is false false true e = absurd cc
+in-field-is false false false e = (refl, refl, refl)
+
 still_broken : (h : Held) (b : ℕ) (bs : List ℕ) → h.broken ≡ true → Same (inner_with h (b ∷ bs)) (inner_with h bs)
 still_broken h b bs broken = rw broken (same_refl _)
 
@@ -160,7 +166,7 @@ module _ (dm : Option SecurityId) (so tw : Bool) (se : Seen) (r : Result FieldsR
       → is_blank b ≡ true → rest_answer dm so tw se r pl h bs ≡ rest_answer dm so tw se r pl h (b ∷ bs)
   blank-outside pl h b bs out k same blank = by_state pl out
     where
-      is : ((b == 40) ≡ false) × ((b == 41) ≡ false) × ((b == 58) ≡ false) × (head_of b ≡ None) × ((b == 59) ≡ false)
+      is : ((b == 40) ≡ false) × ((b == 41) ≡ false) × ((b == 58) ≡ false) × (head_of b ≡ None)
       is = blank-is b blank
 
       none : head_at (byte b) (pieces_from false bs).after ≡ None
@@ -186,14 +192,30 @@ module _ (dm : Option SecurityId) (so tw : Bool) (se : Seen) (r : Result FieldsR
       blanks-outside pl h bs rest out k same p.1 ∙ blank-outside pl h b (bs ++ rest) out k same p.0
 
   -- inside parentheses, in a field that can no longer read
-  pub blanks-inside : (c : AceField) (h : Held) (bs rest : List ℕ) → h.broken ≡ true → list_all is_blank bs ≡ true
+  broken-idle : (c : AceField) (h : Held) (bs rest : List ℕ) → h.broken ≡ true → list_all is_in_field bs ≡ true
       → rest_answer dm so tw se r (state.Ace c) h rest ≡ rest_answer dm so tw se r (state.Ace c) h (bs ++ rest)
-  blanks-inside c h [] rest broken all = refl
-  blanks-inside c h (b ∷ bs) rest broken all =
-      let p = and_parts (is_blank b) (list_all is_blank bs) all in
-      let is = blank-is b p.0 in
-      blanks-inside c h bs rest broken p.1
-      ∙ entry_text dm so tw se r h (bs ++ rest) c h b is.0 is.1 is.4 (λ u. still_broken h b u broken)
+  broken-idle c h [] rest broken all = refl
+  broken-idle c h (b ∷ bs) rest broken all =
+      let p = and_parts (is_in_field b) (list_all is_in_field bs) all in
+      let is = in-field-is (b == 40) (b == 41) (b == 59) p.0 in
+      broken-idle c h bs rest broken p.1
+      ∙ entry_text dm so tw se r h (bs ++ rest) c h b is.0 is.1 is.2 (λ u. still_broken h b u broken)
+
+module _ (dm : Option SecurityId) (so tw : Bool) (se : Seen) where
+  -- behind a fault the text of a field says nothing
+  any-text : (e : SddlFault) (c : AceField) (h g : Held) (bs : List ℕ)
+      → rest_answer dm so tw se (Err e) (state.Ace c) h bs ≡ rest_answer dm so tw se (Err e) (state.Ace c) g bs
+  unfolding rest_answer judged
+  any-text e c h g bs = refl
+
+  pub lost-field : (f : Option SddlFault) (t : FieldsRead) (c : AceField) (h : Held) (bs rest : List ℕ)
+      → (is_some f || h.broken) ≡ true → list_all is_in_field bs ≡ true
+      → rest_answer dm so tw se (unless f t) (state.Ace c) h rest
+      ≡ rest_answer dm so tw se (unless f t) (state.Ace c) h (bs ++ rest)
+  lost-field None t c h bs rest lost all = broken-idle dm so tw se (Ok t) c h bs rest lost all
+  lost-field (Some e) t c h bs rest lost all =
+      any-text e c h broken_text rest
+      ∙ (broken-idle dm so tw se (Err e) c broken_text bs rest refl all ∙ any-text e c broken_text h (bs ++ rest))
 
 -- 4. The reader after a run.
 

@@ -4,7 +4,7 @@ ghost use Rattle.std.specs.Prelude.{◌≡◌, ◌≤◌, ◌<◌, ◌∷◌, �
 ghost use Rattle.std.specs.Str.{byte as char};
 ghost use Rattle.std.specs.List.{list_all};
 ghost use Rattle.sd_sddl_fields.specs.Held.{is_plain_text};
-ghost use Rattle.sd_sddl_reader.specs.Inner.Progress.{is_plain_outside};
+ghost use Rattle.sd_sddl_reader.specs.Inner.Progress.{is_in_field, is_plain_outside};
 ghost use Rattle.sd_sddl_fields.specs.FieldTexts.{is_blank};
 ghost use Rattle.sd_sddl_reader.specs.Inner.WholePart.{AccountBefore, FrontBefore, HeadAfter, IsBehindBlanks, IsPlainText};
 ghost use Rattle.sd_sddl_reader.specs.Inner.WholePart.{NamedBefore};
@@ -150,6 +150,28 @@ pub fn blanks(text: &[u8]) -> usize
 {
     for (i, byte) in text.iter().enumerate() {
         if !is_blank(*byte) {
+            return i;
+        }
+    }
+    text.len()
+}
+
+/// A byte inside parentheses that ends no field.
+fn is_in_field(byte: u8) -> bool
+    ensures { result ≡ is_in_field byte }
+{
+    byte != b'(' && byte != b')' && byte != b';'
+}
+
+/// How many bytes at the front are in one field, for a text inside parentheses: all up to the first that ends it.
+#[inline(always)]
+pub fn in_field(text: &[u8]) -> usize
+    ensures within { result ≤ length text.now }
+    ensures inside { list_all is_in_field (take result text.now) ≡ true }
+    ensures ends { result < length text.now → is_in_field (slice_index text.now result) ≡ false }
+{
+    for (i, byte) in text.iter().enumerate() {
+        if !is_in_field(*byte) {
             return i;
         }
     }

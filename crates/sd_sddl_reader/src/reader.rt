@@ -3,7 +3,7 @@
 ghost use Rattle.std.specs.Prelude.{◌≡◌, ◌≤◌, ◌-◌, ℕ, List, [], ◌∷◌, ◌++◌, codes, length, take, ◌||◌, if◌then◌else◌};
 ghost use Rattle.std.specs.Prelude.{true, false, Option, Some, None, Ok, Err, IfOk, IfSome, OnErr, OnOk, MatchOption};
 ghost use Rattle.std.specs.Prelude.{MatchResult};
-ghost use Rattle.std.specs.Option.{option_copied};
+ghost use Rattle.std.specs.Option.{is_some, option_copied};
 ghost use Rattle.sd_sid.specs.Sid.{IsSid, SecurityId};
 ghost use Rattle.sd_view.specs.Descriptor.{IsDescriptor, Shows};
 ghost use Rattle.sd_view.specs.WrittenForm.{IsWritten, IsWrittenForm};
@@ -16,7 +16,7 @@ ghost use Rattle.sd_sddl_builder.specs.FieldReading.{CanTake, HasReadFields};
 ghost use Rattle.sd_sddl_reader.specs.Inner.WholePart.{IsPlainText};
 ghost use Rattle.sd_sddl_reader.specs.Inner.Progress.{ended_with, is_inside, is_seen, state_of, with_head};
 
-use crate::line::{State, blanks, head_of, next_field, plain_outside, state_of};
+use crate::line::{State, blanks, head_of, in_field, next_field, plain_outside, state_of};
 use sd_buffer::SdBuf;
 use sd_parts::Parts;
 use sd_sddl_builder::{AceField, FieldReader, Head, SddlFault, Slot, fault_of};
@@ -345,7 +345,8 @@ impl SddlReader {
         }
     }
 
-    // Takes what is whole at the front of the text, or else its first byte, and answers what follows.
+    // Takes what is whole at the front of the text, and answers what follows. If a field comes next that isn't whole, or
+    // if nothing was taken, it also takes the first byte, so that the field isn't tried again.
     #[inline(always)]
     fn feed_next<'a>(&mut self, buf: &mut SdBuf, text: &'a [u8]) -> &'a [u8]
         requires { IsReader self.old buf.old }
@@ -353,16 +354,15 @@ impl SddlReader {
         ensures fed { Feeds self.old buf.old text.now self.new buf.new result.now }
     {
         let left = self.feed_whole(buf, text);
-        if left.len() < text.len() {
+        if left.len() < text.len() && !self.is_before_field() {
             return left;
         }
         self.feed_front(buf, left)
     }
 
-    /// Takes the first byte of the text, and after it those that belong to the current field. Answers what follows
-    /// them.
+    // Takes the first byte of the text, and after it those that belong to the current field. Answers what follows them.
     #[inline(always)]
-    pub(crate) fn feed_front<'a>(&mut self, buf: &mut SdBuf, text: &'a [u8]) -> &'a [u8]
+    fn feed_front<'a>(&mut self, buf: &mut SdBuf, text: &'a [u8]) -> &'a [u8]
         requires { IsReader self.old buf.old }
         ensures shorter { length result.now ≤ length text.now - 1 }
         ensures fed { Feeds self.old buf.old text.now self.new buf.new result.now }
@@ -375,7 +375,7 @@ impl SddlReader {
         &after[run..]
     }
 
-    // Appends the bytes at the front that belong to the current field, in one call, and returns their number. Blanks
+    // Appends the bytes at the front that belong to the current field, in one call, and returns their number. Bytes
     // that change nothing are taken first. A field that has no byte yet may be whole in what follows, so no more is
     // taken of it. Once the shape of the line is broken, the error is known, and all bytes are taken.
     fn feed_run(&mut self, text: &[u8]) -> usize
@@ -388,7 +388,7 @@ impl SddlReader {
         if !self.sound {
             return text.len();
         }
-        let idle = self.idle_blanks(text);
+        let idle = self.idle_bytes(text);
         if idle > 0 || self.field.is_empty() {
             return idle;
         }
@@ -407,16 +407,16 @@ impl SddlReader {
         }
     }
 
-    // How many bytes at the front are blanks that change nothing. Outside parentheses that is so at the ends of a field.
-    // Inside, the first blank breaks a field, so it is so behind that one.
-    fn idle_blanks(&self, text: &[u8]) -> usize
+    // How many bytes at the front change nothing. Outside parentheses that is so for blanks at the ends of a field.
+    // Inside, it is so for all bytes of a field that is lost.
+    fn idle_bytes(&self, text: &[u8]) -> usize
         ensures within { result ≤ length text.now }
         ensures read { (buf : List ℕ) (domain : Option SecurityId) (before : List ℕ) → IsReader self.now buf
             → Reads self.now buf domain before → Reads self.now buf domain (before ++ take result text.now) }
     {
         if let State::Ace(_) = self.state {
-            if self.field.is_broken() {
-                return blanks(text);
+            if self.is_lost() {
+                return in_field(text);
             }
             return 0;
         }
@@ -424,6 +424,13 @@ impl SddlReader {
             return blanks(text);
         }
         0
+    }
+
+    // Whether it is known that the field at hand, or one before it, doesn't read.
+    fn is_lost(&self) -> bool
+        ensures { result ≡ (is_some self.now.fault || self.now.field.broken) }
+    {
+        self.fault.is_some() || self.field.is_broken()
     }
 
     /// Ends the line. The buffer then holds what the line means, or nothing if it has a fault. The reader can only be

@@ -26,10 +26,20 @@ impl SddlReader {
         self.pending.is_none() && self.fault.is_none() && self.field.is_empty()
     }
 
+    /// Whether a field comes next that `feed_whole` tries, and none before it was wrong.
+    #[inline(always)]
+    pub(crate) fn is_before_field(&self) -> bool
+        ensures { result ≡ true → IsFresh self.now }
+    {
+        match self.state {
+            State::Before | State::AfterAce => false,
+            _ => self.is_fresh(),
+        }
+    }
+
     /// Takes what is whole at the front of the text, and answers what follows it. Most lines have an owner and a group,
     /// then an ACL, so each is tried in turn: a `match` over the states became a jump through a table, which is hard to
     /// predict.
-    /// Where a field is not whole, its first byte is taken, so that it isn't tried again.
     pub(crate) fn feed_whole<'a>(&mut self, buf: &mut SdBuf, text: &'a [u8]) -> &'a [u8]
         requires { IsReader self.old buf.old }
         ensures { Feeds self.old buf.old text.now self.new buf.new result.now }
@@ -62,7 +72,10 @@ impl SddlReader {
         ensures { Feeds self.old buf.old text.now self.new buf.new result.now }
     {
         let rest = self.whole_sid(buf, text);
-        self.whole_sid(buf, rest)
+        if rest.len() < text.len() {
+            return self.whole_sid(buf, rest);
+        }
+        rest
     }
 
     // Takes an owner or a group with the next head, after its own.
@@ -75,33 +88,9 @@ impl SddlReader {
             return text;
         }
         match self.state {
-            State::Sid(part) => {
-                let rest = self.feed_sid(buf, part, text);
-                self.feed_unless_fed(buf, text, rest)
-            }
+            State::Sid(part) => self.feed_sid(buf, part, text),
             _ => text,
         }
-    }
-
-    // Takes the first byte of what is left of a text, and the run of its field, if nothing was taken of that text.
-    #[inline(always)]
-    fn feed_unless_fed<'a>(&mut self, buf: &mut SdBuf, text: &[u8], rest: &'a [u8]) -> &'a [u8]
-        requires { IsReader self.old buf.old }
-        ensures { Feeds self.old buf.old rest.now self.new buf.new result.now }
-    {
-        if rest.len() < text.len() {
-            return rest;
-        }
-        self.feed_apart(buf, rest)
-    }
-
-    // As `feed_front`. Apart, since few lines of those that read come here.
-    #[inline(never)]
-    fn feed_apart<'a>(&mut self, buf: &mut SdBuf, text: &'a [u8]) -> &'a [u8]
-        requires { IsReader self.old buf.old }
-        ensures { Feeds self.old buf.old text.now self.new buf.new result.now }
-    {
-        self.feed_front(buf, text)
     }
 
     // Takes the flags of an ACL with its first parenthesis, after its head.
@@ -114,10 +103,7 @@ impl SddlReader {
             return text;
         }
         match self.state {
-            State::AclFlags(which) => {
-                let rest = self.feed_flags(buf, which, text);
-                self.feed_unless_fed(buf, text, rest)
-            }
+            State::AclFlags(which) => self.feed_flags(buf, which, text),
             _ => text,
         }
     }
@@ -132,10 +118,7 @@ impl SddlReader {
             return text;
         }
         match self.state {
-            State::Ace(AceField::Kind) => {
-                let rest = self.feed_aces(buf, text);
-                self.feed_unless_fed(buf, text, rest)
-            }
+            State::Ace(AceField::Kind) => self.feed_aces(buf, text),
             _ => text,
         }
     }

@@ -1,5 +1,5 @@
 -- A reader in the middle of a line: what it answers if the line goes on by a text and ends there.
-use Rattle.std.specs.Prelude.{ℕ, Bool, true, false, ◌&&◌, ◌||◌, ◌==◌, if◌then◌else◌, List, [], ◌∷◌, ◌++◌, codes}
+use Rattle.std.specs.Prelude.{ℕ, Bool, true, false, ◌&&◌, ◌||◌, ◌==◌, not, if◌then◌else◌, List, [], ◌∷◌, ◌++◌, codes}
 use Rattle.std.specs.Prelude.{length, Option, Result}
 use Rattle.std.specs.List.{list_all, flat_map}
 use Rattle.std.specs.Option.{is_none}
@@ -131,6 +131,10 @@ ended_with domain (state.Sid p) h r = and_then r (λ b. take_field domain b (slo
 ended_with domain (state.AclFlags w) h r = and_then r (λ b. take_field domain b (slot.AclFlags w false) (held_text h))
 ended_with domain state.AfterAce h r = r
 ended_with domain (state.Ace f) h r = r
+
+-- a byte inside parentheses that ends no field
+abbrev pub is_in_field : ℕ → Bool
+is_in_field b = not (b == char "(" || (b == char ")" || b == char ";"))
 
 -- a byte that only goes onto the text of a field outside parentheses
 abbrev pub is_plain_outside : ℕ → Bool
