@@ -3,9 +3,10 @@
 use Rattle.std.proofs.Common.{◌≡◌, ◌<◌, ◌≤◌, ◌+◌, ◌-◌, ◌*◌, ◌/◌, ◌%◌, ◌^◌, ℕ, suc, zero, Bool, true, false, ◌||◌}
 use Rattle.std.proofs.Common.{if◌then◌else◌, List, [], ◌∷◌, length, take, drop, map, ap, refl, sym, ◌∙◌, arith}
 use Rattle.std.specs.Prelude.{◌==◌}
-use Rattle.std.proofs.Math.Nat.{div-div-eq-div-mul, pow-succ'}
+use Rattle.std.proofs.Math.Nat.{pow-succ'}
 use Rattle.std.proofs.lemmas.List.{drop-drop, length-map}
 use Rattle.std.proofs.lemmas.Simd.{length-chunk, mask_l-lt}
+use Rattle.std.specs.Int.Bits.{and_self, and_step, bit_and}
 use Rattle.std.specs.Int.Count.{count_trailing_zeros, under}
 use Rattle.std.specs.Simd.Lanes.{chunk, mask_l}
 use Rattle.sd_sid.specs.Sid.{SecurityId}
@@ -96,58 +97,53 @@ lacks_more keys key from at low room none before s deny words small is =
 
 -- 3. Else the first whose bit is set meets it, or one behind that.
 
-pub record Passes (s : SecurityId) (deny : Bool) (n bits : ℕ) (words : List ℕ) (k : ℕ) : Type 0 where
+-- a number without its lowest bit
+abbrev pub cleared : ℕ → ℕ
+cleared bits = bit_and bits (bits - 1)
+
+pub record Looks (s : SecurityId) (deny : Bool) (n bits : ℕ) (words : List ℕ) (k : ℕ) : Type 0 where
   pub within : k < n
-  pub less : bits / 2 ^ (k + 1) < 2 ^ (n - (k + 1))
   pub either : marked_meets s deny n bits words
-      ≡ (entry_meets s deny (entry_of (take 19 (drop (19 * k) words)))
-      || marked_meets s deny (n - (k + 1)) (bits / 2 ^ (k + 1)) (drop (19 * (k + 1)) words))
+      ≡ (entry_meets s deny (entry_of (take 19 (drop (19 * k) words))) || marked_meets s deny n (cleared bits) words)
 
 -- the lowest bit is set
-here : (s : SecurityId) (deny : Bool) (n bits : ℕ) (words : List ℕ) → bits % 2 ≡ 1 → bits < 2 ^ suc n
-    → Passes s deny (suc n) bits words 0
+here : (s : SecurityId) (deny : Bool) (n bits : ℕ) (words : List ℕ) → bits % 2 ≡ 1 → Looks s deny (suc n) bits words 0
 unfolding marked_meets
-here s deny n bits words set less =
-    let room : 2 ^ suc n ≡ 2 * 2 ^ n = pow-succ' 2 n in
-    let more : suc n - (0 + 1) ≡ n = omega arith in
-    let half : bits / 2 < 2 ^ n = omega (arith, less, room) in
-    record {
-      within = omega arith;
-      less = rw more half;
-      either = rw (set, more) refl;
-    }
+here s deny n bits words set =
+    let low : (bits - 1) % 2 ≡ 0 = omega (arith, set) in
+    let half : (bits - 1) / 2 ≡ bits / 2 = omega (arith, set) in
+    let rest : cleared bits ≡ bits / 2 * 2 = and_step bits (bits - 1) ∙ rw (half, set, low, and_self (bits / 2)) (omega arith) in
+    let even : cleared bits % 2 ≡ 0 = omega (arith, rest) in
+    let more : cleared bits / 2 ≡ bits / 2 = omega (arith, rest) in
+    record { within = omega arith; either = rw (set, even, more) refl }
 
 -- or the first that is set is behind it
-behind : (s : SecurityId) (deny : Bool) (n bits : ℕ) (words : List ℕ) (k : ℕ) → bits % 2 ≡ 0
-    → Passes s deny n (bits / 2) (drop 19 words) k → Passes s deny (suc n) bits words (suc k)
+behind : (s : SecurityId) (deny : Bool) (n bits : ℕ) (words : List ℕ) (k : ℕ) → bits % 2 ≡ 0 → 0 < bits
+    → Looks s deny n (bits / 2) (drop 19 words) k → Looks s deny (suc n) bits words (suc k)
 unfolding marked_meets
-behind s deny n bits words k clear later =
-    let half : bits / 2 / 2 ^ (k + 1) ≡ bits / 2 ^ (suc k + 1) = div-div-eq-div-mul bits 2 (2 ^ (k + 1))
-    ∙ ap (λ (p : ℕ). bits / p) (sym (pow-succ' 2 (k + 1))) ∙ ap (λ (m : ℕ). bits / 2 ^ m) (omega arith) in
-    let fewer : n - (k + 1) ≡ suc n - (suc k + 1) = omega arith in
+behind s deny n bits words k clear some later =
+    let low : (bits - 1) % 2 ≡ 1 = omega (arith, clear, some) in
+    let half : (bits - 1) / 2 ≡ bits / 2 - 1 = omega (arith, clear, some) in
+    let rest : cleared bits ≡ cleared (bits / 2) * 2 = and_step bits (bits - 1) ∙ rw (half, clear, low) (omega arith) in
+    let even : cleared bits % 2 ≡ 0 = omega (arith, rest) in
+    let more : cleared bits / 2 ≡ cleared (bits / 2) = omega (arith, rest) in
     let here : drop (19 * k) (drop 19 words) ≡ drop (19 * suc k) words = drop-drop (19 * k) 19 words
     ∙ ap (λ (m : ℕ). drop m words) (omega arith) in
-    let rest : drop (19 * (k + 1)) (drop 19 words) ≡ drop (19 * (suc k + 1)) words = drop-drop (19 * (k + 1)) 19 words
-    ∙ ap (λ (m : ℕ). drop m words) (omega arith) in
-    record {
-      within = omega (arith, later.within);
-      less = rw (← half, ← fewer) later.less;
-      either = rw (clear, ← half, ← here, ← rest, ← fewer) later.either;
-    }
+    record { within = omega (arith, later.within); either = rw (clear, even, more, ← here) later.either }
 
-by_bit : (s : SecurityId) (deny : Bool) (n bits : ℕ) (words : List ℕ) (k r : ℕ) → bits % 2 ≡ r → bits < 2 ^ suc n
-    → (r ≡ 0 → Passes s deny n (bits / 2) (drop 19 words) k) → Passes s deny (suc n) bits words (under r k)
-by_bit s deny n bits words k zero is less later = behind s deny n bits words k is (later refl)
-by_bit s deny n bits words k (suc zero) is less later = here s deny n bits words is less
-by_bit s deny n bits words k (suc (suc r)) is less later = absurd (omega (arith, is))
+by_bit : (s : SecurityId) (deny : Bool) (n bits : ℕ) (words : List ℕ) (k r : ℕ) → bits % 2 ≡ r → 0 < bits
+    → (r ≡ 0 → Looks s deny n (bits / 2) (drop 19 words) k) → Looks s deny (suc n) bits words (under r k)
+by_bit s deny n bits words k zero is some later = behind s deny n bits words k is some (later refl)
+by_bit s deny n bits words k (suc zero) is some later = here s deny n bits words is
+by_bit s deny n bits words k (suc (suc r)) is some later = absurd (omega (arith, is))
 
-pub passes : (s : SecurityId) (deny : Bool) (n width bits : ℕ) (words : List ℕ) → n ≤ width → 0 < bits → bits < 2 ^ n
-    → Passes s deny n bits words (count_trailing_zeros width bits)
+pub looks_at : (s : SecurityId) (deny : Bool) (n width bits : ℕ) (words : List ℕ) → n ≤ width → 0 < bits → bits < 2 ^ n
+    → Looks s deny n bits words (count_trailing_zeros width bits)
 unfolding count_trailing_zeros
-passes s deny zero width bits words few some less = absurd (omega (arith, some, less))
-passes s deny (suc n) zero bits words few some less = absurd (omega (arith, few))
-passes s deny (suc n) (suc width) bits words few some less =
+looks_at s deny zero width bits words few some less = absurd (omega (arith, some, less))
+looks_at s deny (suc n) zero bits words few some less = absurd (omega (arith, few))
+looks_at s deny (suc n) (suc width) bits words few some less =
     let room : 2 ^ suc n ≡ 2 * 2 ^ n = pow-succ' 2 n in
-    by_bit s deny n bits words (count_trailing_zeros width (bits / 2)) (bits % 2) refl less
-    (λ clear. passes s deny n width (bits / 2) (drop 19 words) (omega (arith, few)) (omega (arith, some, clear))
+    by_bit s deny n bits words (count_trailing_zeros width (bits / 2)) (bits % 2) refl some
+    (λ clear. looks_at s deny n width (bits / 2) (drop 19 words) (omega (arith, few)) (omega (arith, some, clear))
     (omega (arith, less, room)))

@@ -245,17 +245,14 @@ fn some_is_met<S: Sought>(words: &[u32], at: usize, same: u64, sid: &S, deny: bo
     requires few { at ≤ most_entries }
     ensures { result ≡ marked_meets (S.sid sid.now) deny 16 same (drop (entry_words * at) words.now) }
 {
-    // The bits from `from` on.
-    let mut from = at;
     let mut left = same;
     while left != 0 {
-        let passed = left.trailing_zeros() as usize;
-        from += passed;
-        if is_met(words, from, sid, deny) {
+        let place = left.trailing_zeros() as usize;
+        if is_met(words, at + place, sid, deny) {
             return true;
         }
-        left >>= passed + 1;
-        from += 1;
+        // The lowest bit is cleared. A shift by its place would have to wait for the place.
+        left &= left - 1;
     }
     false
 }
