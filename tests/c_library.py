@@ -116,9 +116,16 @@ def random_lines(lines, count, change, choices):
     return sorted(line for line in changed if line and len(line) < 100_000 and not set("\r\n") & set(line))
 
 
+def with_input(words, data, **others):
+    """A run whose input is a file. A program that wine fails to start is known by what is unread of it (systems.py)."""
+    with tempfile.TemporaryFile() as given:
+        given.write(data)
+        given.seek(0)
+        return subprocess.run(words, stdin=given, capture_output=True, timeout=SECONDS, check=False, **others)
+
+
 def ran(words, text, **others):
-    return subprocess.run(words, input=text.encode("latin-1"), stdout=subprocess.PIPE, stderr=subprocess.PIPE,
-                          timeout=SECONDS, check=False, **others)
+    return with_input(words, text.encode("latin-1"), **others)
 
 
 def without_name(answers):
@@ -356,7 +363,7 @@ def rows_in_memory():
 
 def of_program(words, data, **others):
     """A run of the program, or of a test in C: what it prints, and its exit status."""
-    ended = subprocess.run(words, input=data, capture_output=True, timeout=SECONDS, check=False, **others)
+    ended = with_input(words, data, **others)
     return ended.stdout, ended.stderr, ended.returncode
 
 

@@ -102,7 +102,11 @@ def edited(text, folder):
             now = texts.get(path) or (folder / path).read_text(encoding="utf-8")
             if now.count(old) != 1:
                 raise WrongEdit(f"an old text is in {path} {now.count(old)} times, and not once")
+            if old == rest:
+                raise WrongEdit("a new text is the old one")
             texts[path], old = now.replace(old, rest), None
+        elif line:
+            raise WrongEdit(f"a line is no file, old text or new text: {line}")
     if not texts:
         raise WrongEdit("it has no pair of texts")
     return texts
