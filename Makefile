@@ -13,7 +13,6 @@ LIBRARY := out/lib/libsdtool.so
 VERSION := $(shell sed -n 's/^Version: //p' packaging/control)
 # Programs that link to the library look for it by this name.
 SONAME := libsdtool.so.$(shell sed -n 's/^major=//p' packaging/library.sh)
-EXAMPLES := examples/descriptors.hex
 SOURCES := crates.txt $(shell find crates -path '*/out' -prune -o -path '*/must-fail' -prune -o -type f -print)
 
 SYSTEMS := linux-x86_64 linux-aarch64 windows-x86_64 wasm
@@ -23,6 +22,7 @@ COMPILED := out/systems/compiled
 TOOLS_linux-aarch64 := aarch64-linux-gnu-gcc
 TOOLS_windows-x86_64 := x86_64-w64-mingw32-gcc
 TOOLS_wasm := wasm-opt
+TOOLS_page := esbuild
 missing_tools = $(strip $(foreach tool,$(TOOLS_$(1)),$(if $(shell command -v $(tool)),,$(tool))))
 
 # Scripts that call make use this one. A recipe that named it would run even with -n.
@@ -30,22 +30,24 @@ export MAKE
 
 need_toolchain = $(if $(shell command -v rt 2>&1),,$(error the Rattle toolchain is missing: there is no command 'rt' on the PATH))
 
-.PHONY: help program library run quick check rows test edits figures bench bench-library install uninstall systems $(SYSTEMS) deb dist page clean
+.PHONY: help program library run quick check rows format lint test edits figures bench bench-library install uninstall systems $(SYSTEMS) deb dist page clean
 
 # The first target, so `make` alone lists the targets.
 help:
-	@echo 'make run               builds the program and shows the examples, each with its answer (10 to 20 minutes, then seconds)'
+	@echo 'make run               builds the program, and shows questions with its answers (half an hour, then seconds)'
 	@echo 'make program           builds the program alone: crates/sdtool/out/sdtool'
 	@echo 'make library           builds the library for C and Python: out/lib/libsdtool.a and out/lib/libsdtool.so'
-	@echo 'make quick             builds the program without a proof, and tries it on rows and random lines (a minute)'
+	@echo 'make quick             tries what needs no proof: lints, Python, JavaScript and the page by what was built once (2 minutes)'
 	@echo 'make check CRATE=NAME  proves a crate, reusing the work of earlier checks (seconds to 2 minutes)'
 	@echo 'make rows ID=WORD      runs the rows whose names contain WORD on the built program (seconds; ID= for all)'
 	@echo 'make test              runs the gate and all tests of the built program (about an hour); ends with N passed, M failed'
 	@echo 'make edits             tries every edit that the check must refuse, also those that the gate leaves out (an hour or two);'
 	@echo '                       CRATE=NAME tries those of a crate, EDIT=WORD those with WORD in their names (10 to 30 seconds each)'
-	@echo 'make figures           rewrites what is written by scripts: the figures in docs/GATE.md and docs/DEFINITIONS.md, the places'
-	@echo '                       of aliases in sd_alias, the cells of names and the usual texts in sd_kinds and sd_rights, the'
-	@echo '                       completions of three shells, and what is written from windows/ (seconds)'
+	@echo 'make format            formats Python, JavaScript and C (half a minute)'
+	@echo 'make lint              says what make format would change, and what linters find (half a minute)'
+	@echo 'make figures           rewrites what is written by scripts: the places of aliases in sd_alias, the cells of names and the'
+	@echo '                       usual texts in sd_kinds and sd_rights, the completions of three shells, the list of tests, and'
+	@echo '                       what is written from windows/; then prints the size of each crate (seconds)'
 	@echo 'make bench             measures the program against a plain one in Rust, and cat (8 minutes)'
 	@echo 'make bench-library     measures calls of the library beside those of Samba, from C and Python (a minute)'
 	@echo 'make install           installs the program, its man page, documents and completions below PREFIX ($(PREFIX)),'
@@ -65,25 +67,22 @@ program: $(PROGRAM)
 # if nothing changed that 'rt' sees, so touch marks the file as up to date.
 $(PROGRAM): $(SOURCES)
 	$(need_toolchain)
-	cd crates/sdtool && rt run -- convert < /dev/null
+	@tools/prove.py sdtool run -- convert
 	@touch $@
 
 library: $(LIBRARY)
 
 $(LIBRARY): $(SOURCES) packaging/library.sh packaging/library.map
 	$(need_toolchain)
-	cd crates/sdtool_c && rt lib
+	@tools/prove.py sdtool_c lib
 	packaging/library.sh
 	@touch $@
 
-# The program's status is 1 if a line has an error. Here that is an answer and not a failure.
 run: program
-	@$(PROGRAM) convert < $(EXAMPLES) | paste -d '\n' $(EXAMPLES) - | sed -e 'n;s/^/    /'
+	@sh examples/answers.sh $(PROGRAM)
 
 quick:
-	$(need_toolchain)
-	tests/quick.py
-	tests/audit_package.py --static
+	tests/run --quick
 
 check:
 	$(need_toolchain)
@@ -91,7 +90,7 @@ check:
 	cd crates/$(CRATE) && rt check
 
 rows: program
-	tests/run_rows.py $(PROGRAM) $(if $(ID),--only $(ID))
+	tests/run run_rows $(if $(ID),--only $(ID))
 
 test:
 	$(need_toolchain)
@@ -99,15 +98,22 @@ test:
 
 edits:
 	$(need_toolchain)
-	tests/edits.py $(if $(EDIT),--edit '$(EDIT)') $(CRATE)
+	tools/edits.py $(if $(EDIT),--edit '$(EDIT)') $(CRATE)
+
+format:
+	@tools/lint --write
+
+lint:
+	@tools/lint
 
 figures:
 	windows/write.py
-	tests/alias_places.py
-	tests/name_cells.py
-	tests/usual_texts.py
+	tools/alias_places.py
+	tools/name_cells.py
+	tools/usual_texts.py
 	packaging/completions.py
-	tests/figures.py
+	tools/contents.py
+	tools/figures.py
 
 bench: program
 	bench/run.py $(PROGRAM)
@@ -182,14 +188,14 @@ PAGE_MODULE := out/systems/wasm/sdtool.wasm
 
 page: $(filter wasm,$(SYSTEMS))
 	$(if $(wildcard $(PAGE_MODULE) $(filter wasm,$(SYSTEMS))),,$(error the page needs $(PAGE_MODULE)))
-	web/build.py $(PAGE_MODULE) javascript/sdtool.mjs out/sdtool.html
+	web/build.py $(PAGE_MODULE) out/sdtool.html
 
 # Package the tree that install makes.
 deb: program library
 	packaging/deb.sh
 
 # Each archive has the page where it can be built.
-dist: systems $(if $(call missing_tools,wasm),,page)
+dist: systems $(if $(call missing_tools,wasm)$(call missing_tools,page),,page)
 	packaging/dist.sh
 
 clean:

@@ -1,21 +1,22 @@
 #!/usr/bin/env python3
 """audit.py [--objects N] [--distinct PERCENT,..] [--jobs N] [--rounds N] [--no-database]
 
-Makes exports of a file share and measures sdtool-audit on them: 'risks' from CSV for each share of distinct descriptors, and
-for the first of them also 'risks --into', and 'who permissions' of the database that it made. Reports are CSV that goes to
-/dev/null, and the table of the second question. Each report has to count the objects that the export has.
+Makes exports of a file share and measures sdtool-audit on them: 'risks' from CSV for each share of distinct
+descriptors, and for the first of them also 'risks --into', and 'who permissions' of the database that it made. Reports
+are CSV that goes to /dev/null, and the table of the second question. Each report has to count the objects that the
+export has.
 
-An export is a table as Export-Csv writes it: Path and Sddl, all fields quoted, CR LF. A descriptor has four or five ACEs,
-and one of them has a SID that no other descriptor has. Up to 20 neighbours have the same descriptor, as those of a folder do,
-and where it comes again that is far away. One name in a hundred is odd: with commas, quotation marks, letters of other
-scripts, bytes that aren't UTF-8, like an option or a formula; one in 100,000 has a line end in it. Exports are kept in the
-folder sdtool-bench among the temporary files.
+An export is a table as Export-Csv writes it: Path and Sddl, all fields quoted, CR LF. A descriptor has four or five
+ACEs, and one of them has a SID that no other descriptor has. Up to 20 neighbours have the same descriptor, as those of
+a folder do, and where it comes again that is far away. One name in a hundred is odd: with commas, quotation marks,
+letters of other scripts, bytes that aren't UTF-8, like an option or a formula; one in 100,000 has a line end in it.
+Exports are kept in the folder sdtool-bench among the temporary files.
 
-Time is wall clock, the median of the rounds, and beside it the microseconds of a processor for each object, in all processes
-together; databases are made and asked once. Memory is the most that all processes of a
-run had together, looked at every half second; a page that several of them share counts once (PSS of Linux). With
---objects 10000000 the exports have 3.1 GB each. It needs Python with click and rich (Debian: python3-click, python3-rich),
-and the library in out/lib, or the one that SDTOOL_LIBRARY names.
+Time is wall clock, the median of the rounds, and beside it the microseconds of a processor for each object, in all
+processes together; databases are made and asked once. Memory is the most that all processes of a run had together,
+looked at every half second; a page that several of them share counts once (PSS of Linux). With --objects 10000000 the
+exports have 3.1 GB each. It needs Python with click and rich (Debian: python3-click, python3-rich), and the library in
+out/lib, or the one that SDTOOL_LIBRARY names.
 """
 import argparse
 import os
@@ -85,13 +86,15 @@ def memory_of(group):
 
 
 class Run:
-    """A run of sdtool-audit: its seconds, those of processors, the most memory of all its processes, and what it counted."""
+    """A run of sdtool-audit: its seconds, those of processors, the most memory of all its processes, and what it
+    counted."""
 
     def __init__(self, python, words):
         environment = {**os.environ, "PYTHONPATH": str(TOP / "python"), "SDTOOL_LIBRARY": LIBRARY}
         began, before = time.monotonic(), resource.getrusage(resource.RUSAGE_CHILDREN)
-        child = subprocess.Popen([python, "-m", "sdtool.audit", *map(str, words)], env=environment, stdin=subprocess.DEVNULL,
-                                 stdout=subprocess.PIPE, stderr=subprocess.PIPE, text=True, start_new_session=True)
+        child = subprocess.Popen([python, "-m", "sdtool.audit", *map(str, words)], env=environment,
+                                 stdin=subprocess.DEVNULL, stdout=subprocess.PIPE, stderr=subprocess.PIPE, text=True,
+                                 start_new_session=True)
         self.memory, self._ended = 0, threading.Event()
         looking = threading.Thread(target=self._look, args=(child.pid,))
         looking.start()
@@ -143,7 +146,8 @@ def main():
     folder = pathlib.Path(tempfile.gettempdir()) / "sdtool-bench"
     folder.mkdir(exist_ok=True)
     exports = {float(each): export_of(folder, wanted.objects, float(each)) for each in wanted.distinct.split(",")}
-    print(f"{wanted.objects:,} objects, {os.cpu_count()} processors, --jobs {wanted.jobs}, medians of {wanted.rounds} rounds")
+    print(f"{wanted.objects:,} objects, {os.cpu_count()} processors, --jobs {wanted.jobs}, medians of "
+          f"{wanted.rounds} rounds")
     jobs = ["--jobs", wanted.jobs]
     to_null = ["--to", "csv", "--out", "/dev/null"]
     for percent, path in exports.items():

@@ -6,11 +6,11 @@ parallel with --pipepart, and sdtool.distributed over a scheduler with one, two 
 127.0.0.1 with one thread each.
 
 The input is the mixture that generate.py makes, in hex, 1 GB of it, kept in the folder sdtool-bench among the temporary
-files. Each way writes its answers to a file there, which has to be equal to that of one program. Time is wall clock, the
-median of the rounds, in each of which all ways run once; the start of Python and the connection count. What Dask costs is
-the time of one worker beyond that of one program, as a share of the latter. Traffic is what goes through the loopback
-device in a run: between driver, scheduler and workers, and of other programs of this machine. --job takes only the commands
-that have the word.
+files. Each way writes its answers to a file there, which has to be equal to that of one program. Time is wall clock,
+the median of the rounds, in each of which all ways run once; the start of Python and the connection count. What Dask
+costs is the time of one worker beyond that of one program, as a share of the latter. Traffic is what goes through the
+loopback device in a run: between driver, scheduler and workers, and of other programs of this machine. --job takes only
+the commands that have the word.
 
 It needs parallel, and Python with dask, distributed and fsspec (Debian: parallel, python3-dask, python3-distributed,
 python3-fsspec). Figures may be compared within one run, on a machine that does nothing else.
@@ -73,7 +73,8 @@ class Ways:
         with open(path, "wb") as stdout:
             block = str(-(-self.given.stat().st_size // BLOCKS))
             command = ["parallel", "--will-cite", "--pipepart", "--keep-order", "--block", block, "-a", self.given]
-            subprocess.run([*command, shlex.join([self.program, *words])], env=self.processes.environment, stdout=stdout)
+            subprocess.run([*command, shlex.join([self.program, *words])], env=self.processes.environment,
+                           stdout=stdout)
         return path
 
     def distributed(self, workers, words):

@@ -24,7 +24,8 @@ import struct
 import sys
 
 sys.dont_write_bytecode = True
-sys.path.append(str(pathlib.Path(__file__).resolve().parent.parent / "tests"))
+sys.path.append(str(pathlib.Path(__file__).resolve().parent.parent / "tests/shared"))
+import preload  # noqa: E402, F401  (which finds the tests)
 import reference  # noqa: E402  (what SDDL a descriptor has)
 
 # A line that is too long, and its chance: it is rare here, since it has the size of hundreds of others.
@@ -63,7 +64,8 @@ def ace(ace_type, flags, mask, body):
 
 
 # In an ACE of SDDL: the place of a field, and a text that does not read in it.
-FAULTY_FIELDS = [(0, "XA"), (0, "RA"), (1, "CIX"), (1, "TP"), (2, "0x"), (2, "GA1"), (2, "4294967296"), (3, "{}"), (4, "x"),
+FAULTY_FIELDS = [(0, "XA"), (0, "RA"), (1, "CIX"), (1, "TP"), (2, "0x"), (2, "GA1"), (2, "4294967296"),
+                 (3, "{}"), (4, "x"),
                  (5, ""), (5, "ZZ"), (5, "S-1-5-21-"), (5, "S-1-5-21-4294967296")]
 PRINTING = reference.Settings(domain=reference.Sid(HOME[0], HOME[1:]))
 
@@ -146,7 +148,8 @@ class Generator:
         spare, order, gap = 0, (0, 1, 2, 3), 0
         if self.chance.random() < 0.125:
             # As Windows itself writes them, with the ACLs first; with gaps; or with room that an ACE has left.
-            spare, order = self.chance.choice([(0, (2, 3, 0, 1)), (SPARE_BYTES, (2, 3, 0, 1)), (SPARE_BYTES, order), (0, order)])
+            spare, order = self.chance.choice([(0, (2, 3, 0, 1)), (SPARE_BYTES, (2, 3, 0, 1)), (SPARE_BYTES, order),
+                                               (0, order)])
             gap = self.chance.choice([0, 0, 4, 8])
         sacl = self.acl(sacl_aces) if sacl_aces else b""
         return self.laid_out(owner, group, sacl, self.acl(aces, spare, of_directory), order, gap)
@@ -169,7 +172,8 @@ class Generator:
         return bytes(data)
 
     def bad_sid(self):
-        return self.laid_out(self.chance.choice((b"\2\1", b"\1\x10")) + self.some_sid()[2:], self.some_sid(), b"", self.acl([]))
+        return self.laid_out(self.chance.choice((b"\2\1", b"\1\x10")) + self.some_sid()[2:], self.some_sid(), b"",
+                             self.acl([]))
 
     def bad_acl(self):
         """Of revision 3, or longer than the descriptor is."""
@@ -238,7 +242,8 @@ class Generator:
         aces = re.findall(r"\([^()]*\)", line)
         ace_text = self.chance.choice(aces)
         if kind < 0.3:
-            return line.replace(ace_text, self.chance.choice([ace_text[:-1], ace_text.replace(";", "", 1), f"x{ace_text}", "()"]), 1)
+            return line.replace(ace_text, self.chance.choice([ace_text[:-1], ace_text.replace(";", "", 1),
+                                                              f"x{ace_text}", "()"]), 1)
         place, text = self.chance.choice(FAULTY_FIELDS)
         fields = ace_text[1:-1].split(";")
         fields[place] = text

@@ -7,8 +7,8 @@
  * time. Prints 'descriptors COUNT', and then for each round and call 'JOB LIBRARY NANOSECONDS'.
  *
  * Samba's calls use its own structure of a descriptor. 'samba' is the call alone; 'samba-bytes' also reads the
- * structure from bytes, or writes it to bytes. Its token is at hand in each check. Ours is read anew in each 'check', and was
- * read once before each 'check_with'.
+ * structure from bytes, or writes it to bytes. Its token is at hand in each check. Ours is read anew in each 'check',
+ * and was read once before each 'check_with'.
  *
  * Both libraries have to give the same answers. The status is 1 where they do not.
  */
@@ -34,7 +34,12 @@ struct dom_sid *dom_sid_parse_talloc(TALLOC_CTX *memory, const char *text);
 enum ndr_err_code ndr_push_security_descriptor(struct ndr_push *to, int flags, const struct security_descriptor *sd);
 enum ndr_err_code ndr_pull_security_descriptor(struct ndr_pull *from, int flags, struct security_descriptor *sd);
 
-enum { MOST_LINE = 1 << 20, MOST_SIDS = SDTOOL_MOST_SIDS, MOST_SID = 68, HEADER = 20 };
+enum {
+    MOST_LINE = 1 << 20,
+    MOST_SIDS = SDTOOL_MOST_SIDS,
+    MOST_SID = 68,
+    HEADER = 20
+};
 
 static const double LEAST_SECONDS = 0.2;
 

@@ -2,15 +2,15 @@
 """library.py [--descriptors N] [--rounds N] [--sids N]
 
 Measures one call at a time of libsdtool beside Samba's libraries, from C (library.c) and from Python, all in one run:
-SDDL to a descriptor, a descriptor to SDDL, an access check for a token of 20 SIDs (or of as many as --sids says) and, from
-Python, a walk of all ACEs that reads their fields. All have the same descriptors, those of a file server that generate.py
-makes, and have to give the same answers.
+SDDL to a descriptor, a descriptor to SDDL, an access check for a token of 20 SIDs (or of as many as --sids says) and,
+from Python, a walk of all ACEs that reads their fields. All have the same descriptors, those of a file server that
+generate.py makes, and have to give the same answers.
 
-Samba's checks have their token at hand. Ours are measured in both ways: with a token that each check reads anew, and with one
-that was read once, by sdtool_token_read or as a Token.
+Samba's checks have their token at hand. Ours are measured in both ways: with a token that each check reads anew, and
+with one that was read once, by sdtool_token_read or as a Token.
 
-Samba's calls work on a structure of its own. 'At hand' is what a call takes with that structure, or with the object of our
-Python module, at hand. 'With bytes' adds reading it from bytes, or writing it to bytes, as files and protocols have
+Samba's calls work on a structure of its own. 'At hand' is what a call takes with that structure, or with the object of
+our Python module, at hand. 'With bytes' adds reading it from bytes, or writing it to bytes, as files and protocols have
 descriptors. From C, libsdtool takes and gives nothing but bytes, so both columns have the same figure.
 
 Python's calls are also measured without the module's extension, by ctypes: `--ctypes`.
@@ -47,7 +47,8 @@ def token_of(count):
 
 WANTED = 0x120089  # FILE_GENERIC_READ
 GENERIC_RIGHTS = 0xf0000000
-JOBS = {"from_sddl": "from SDDL", "to_sddl": "to SDDL", "check": "check, token anew", "check_with": "check, token at hand",
+JOBS = {"from_sddl": "from SDDL", "to_sddl": "to SDDL", "check": "check, token anew",
+        "check_with": "check, token at hand",
         "walk": "walk of the ACEs"}
 LIBRARIES = ("sdtool", "sdtool-bytes", "samba", "samba-bytes")
 
@@ -107,7 +108,8 @@ class Calls:
         token.num_sids = len(sids)
         domain, domain_of_samba = sdtool.Sid(DOMAIN_TEXT), security.dom_sid(DOMAIN_TEXT)
         binary = [bytes(sdtool.Sid(sid)) for sid in sids]
-        of_samba, ours, check = security.descriptor, sdtool.SecurityDescriptor, sdtool.Checker(sdtool.Token(sids), WANTED)
+        of_samba, ours, check = security.descriptor, sdtool.SecurityDescriptor, sdtool.Checker(sdtool.Token(sids),
+                                                                                               WANTED)
 
         def is_granted(descriptor):
             try:
@@ -143,7 +145,8 @@ class Calls:
     def compare(self, items):
         """Both have to give the same verdicts and fields; library.c compares the rest."""
         for item in items:
-            for job, plain in (("check", bool), ("check_with", bool), ("walk", lambda fields: [(*map(int, one[:3]), str(one[3])) for one in fields])):
+            for job, plain in (("check", bool), ("check_with", bool),
+                               ("walk", lambda fields: [(*map(int, one[:3]), str(one[3])) for one in fields])):
                 answers = [plain(self.calls[job, library](item)) for library in LIBRARIES]
                 if any(answer != answers[0] for answer in answers):
                     sys.exit(f"bench: Python's answers differ on {item[1]}: {job} {answers}")
@@ -226,7 +229,8 @@ def main():
         taken = measure(program, given, calls, items, wanted.rounds)
     size = sum(len(data) for data, _ in pairs) / len(pairs)
     print(f"{len(pairs):,} descriptors of {size:.0f} bytes on average, a token of {len(token)} SIDs")
-    print(f"beside Samba {samba.version}, processor time of a call, medians of {wanted.rounds} rounds; the answers are equal")
+    print(f"beside Samba {samba.version}, processor time of a call, medians of {wanted.rounds} rounds; the answers "
+          "are equal")
     show(taken)
     return 0
 

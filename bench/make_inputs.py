@@ -65,7 +65,8 @@ class Shapes:
 
     def object_ace(self):
         """With two GUIDs."""
-        body = struct.pack("<I", 3) + self.chance.choice(self.generator.guids) + self.chance.choice(self.generator.guids)
+        body = struct.pack("<I",
+                           3) + self.chance.choice(self.generator.guids) + self.chance.choice(self.generator.guids)
         return ace(generate.OBJECT_ALLOW, self.chance.choice(generate.FOLDER_FLAGS),
                    self.chance.choice(generate.DIRECTORY_MASKS), body + self.some_sid())
 
@@ -134,7 +135,8 @@ class Shapes:
                 parts = [re.sub(r"(\([^;()]*;[^;()]*;)([^;()]*);", self.number, text)]
             else:
                 parts = [text.replace("FA;", "CCDCLCSWRPWPDTLOSDRCWDWO;")]
-        text = re.sub(r"(-21-\d+-\d+-\d+-[1-9])(\d+)", lambda match: match[1] + "%" * len(match[2]), "".join(parts), flags=re.I)
+        text = re.sub(r"(-21-\d+-\d+-\d+-[1-9])(\d+)", lambda match: match[1] + "%" * len(match[2]),
+                      "".join(parts), flags=re.I)
         return re.sub(r"(0x[0-9a-f]{3,})[0-9a-f](?=;)",
                       lambda match: match[1] + ("?" if self.chance.random() < 0.5 else "0"), text)
 
@@ -149,7 +151,8 @@ def section(count, words, patterns=()):
 
 
 def token(count, first=70_000):
-    """So many SIDs, as a user of a large organisation has them: the user, groups of the domain, and some that each has."""
+    """So many SIDs, as a user of a large organisation has them: the user, groups of the domain, and some that each
+    has."""
     usual = [USER, "S-1-1-0", "S-1-5-11", "S-1-5-15", "S-1-5-32-545", f"{DOMAIN_TEXT}-513"]
     groups = [f"{DOMAIN_TEXT}-{first + 3 * n}" for n in range(count - len(usual))]
     return ",".join((groups + usual)[:count])
@@ -194,7 +197,8 @@ def inherit(shapes):
     creator = f"--creator D:(A;OICI;FA;;;{USER})(A;;FR;;;SY)(D;CI;FW;;;BG)"
     return (section(150_000, f"derive --from sddl --kind file {ONE_DOMAIN} {plan}", map(shapes.sddl, data[:PATTERNS]))
             + section(150_000, f"derive --to hex --kind container {plan}", map(shapes.hex, data[PATTERNS:2 * PATTERNS]))
-            + section(90_000, f"derive --to hex --kind container {plan} {creator}", map(shapes.hex, data[2 * PATTERNS:])))
+            + section(90_000, f"derive --to hex --kind container {plan} {creator}",
+                      map(shapes.hex, data[2 * PATTERNS:])))
 
 
 def calls(shapes):
@@ -207,7 +211,8 @@ def awkward(shapes):
     large = shapes.descriptor(shapes.file_ace, 1_500)
     longest = shapes.hex(shapes.generator.longest_descriptor())[:-1] + "."
     return (section(6_000, "convert --to sddl", map(shapes.hex, objects))
-            + section(6_000, f"check --token {token(20)} --type ds --want CR --object bf967aba-0de6-11d0-a285-00aa003049e2")
+            + section(6_000,
+                      f"check --token {token(20)} --type ds --want CR --object bf967aba-0de6-11d0-a285-00aa003049e2")
             + section(4_000, f"convert --from sddl --to hex {ONE_DOMAIN}", map(shapes.sddl, objects))
             + section(700, f"convert --from sddl --to sddl {ONE_DOMAIN}", [shapes.sddl(large)])
             + section(1_000, "convert --to hex", [shapes.hex(large)])

@@ -1,9 +1,9 @@
 #!/usr/bin/env python3
 """node.py PROGRAM PROGRAM .. [--rounds N] [--megabytes N] [--only WORD]
 
-Compares builds of the program for WASI (out/systems/wasm/sdtool-wasi.wasm) in Node: they answer lines of generate.py by turns
-in one process. Answers have to be the same. It prints the medians of the rounds, in milliseconds of processor time, and of
-the first program's time over the last one's the median of the rounds and the quartiles.
+Compares builds of the program for WASI (out/systems/wasm/sdtool-wasi.wasm) in Node: they answer lines of generate.py by
+turns in one process. Answers have to be the same. It prints the medians of the rounds, in milliseconds of processor
+time, and of the first program's time over the last one's the median of the rounds and the quartiles.
 """
 import argparse
 import json
@@ -19,7 +19,8 @@ import run  # noqa: E402
 
 TURNS = pathlib.Path(__file__).with_name("wasi_turns.mjs")
 ONE_DOMAIN = make_inputs.ONE_DOMAIN.split()
-CHECKS = {f"checked, a token of {count:,}": ("hex", False, ["check", "--want", "FR", "--token", make_inputs.token(count)])
+CHECKS = {f"checked, a token of {count:,}": ("hex", False,
+                                             ["check", "--want", "FR", "--token", make_inputs.token(count)])
           for count in (20, 300, 1_000)}
 # The form of the lines, whether the last character of each is wrong, and what is asked.
 JOBS = {
@@ -52,7 +53,8 @@ def lines_of(folder, source, is_wrong, megabytes):
 
 def times_of(programs, rounds, file, words):
     """For each program the times of all rounds."""
-    told = subprocess.run(["node", TURNS, str(rounds), file, *programs, "--", *words], stdout=subprocess.PIPE, check=True).stdout
+    told = subprocess.run(["node", TURNS, str(rounds), file, *programs, "--", *words], stdout=subprocess.PIPE,
+                          check=True).stdout
     return [json.loads(line) for line in told.splitlines()]
 
 

@@ -42,7 +42,8 @@ def accounts(*numbers):
 # A user who is in groups that are met in descriptors, and one who is in very many of which none is.
 USUAL_TOKEN = ["WD", "AU", "IU", "BU", *accounts(1105, 513, *range(40_000, 40_014))]
 LARGEST_TOKEN = accounts(*range(40_000, 41_024))
-CHECKED, CHECKED_IN_VAIN = (["check", "--want", "FR", "--token", ",".join(token)] for token in (USUAL_TOKEN, LARGEST_TOKEN))
+CHECKED, CHECKED_IN_VAIN = (["check", "--want", "FR", "--token", ",".join(token)]
+                            for token in (USUAL_TOKEN, LARGEST_TOKEN))
 DERIVED = ["derive", "--kind", "container", "--owner", *accounts(1105), "--group", *accounts(513)]
 # A folder that its user creates with labels and ACEs of its own.
 CREATOR = f"D:(A;OICI;GA;;;CO)(A;OICI;0x1301bf;;;{DOMAIN_TEXT}-1105)(D;;WD;;;WD)S:(ML;OICI;NW;;;ME)"

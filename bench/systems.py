@@ -2,12 +2,13 @@
 """systems.py [PROGRAM] [--megabytes N] [--rounds N]
 
 Measures what 'make systems' built beside PROGRAM (crates/sdtool/out/sdtool where none is given), on the mixture that
-generate.py makes: converted from hex to SDDL and from SDDL to hex, explained, checked, and derived from. Each has to write
-the same bytes with the same status. They run in turn, and the medians are printed, in seconds and as a multiple of PROGRAM's.
+generate.py makes: converted from hex to SDDL and from SDDL to hex, explained, checked, and derived from. Each has to
+write the same bytes with the same status. They run in turn, and the medians are printed, in seconds and as a multiple
+of PROGRAM's.
 
-Time is processor time of the whole process, user and system, its start included; the last row is a run without input. That
-of wine's server is not in it. The input comes from a file, and the output goes to /dev/null. Then it prints the processor time
-of a call from C and of one from JavaScript.
+Time is processor time of the whole process, user and system, its start included; the last row is a run without input.
+That of wine's server is not in it. The input comes from a file, and the output goes to /dev/null. Then it prints the
+processor time of a call from C and of one from JavaScript.
 """
 import argparse
 import filecmp
@@ -24,7 +25,7 @@ import preload  # noqa: E402
 
 TOP = pathlib.Path(__file__).resolve().parent.parent
 BUILT = TOP / "out" / "systems"
-JAVASCRIPT = TOP / "tests" / "javascript"
+JAVASCRIPT = TOP / "tests/systems/javascript"
 # What is measured: the form of the lines, and what is asked.
 MEASURED = {
     "hex to SDDL": ("hex", run.TO_SDDL),
@@ -46,7 +47,8 @@ def programs(native):
         "module, Node": ["node", TOP / "bench/module.mjs", BUILT / "wasm"],
     }
     for name, words in list(found.items()):
-        missing = [word for word in words if isinstance(word, pathlib.Path) and not word.exists() or not shutil.which(words[0])]
+        missing = [word for word in words if isinstance(word, pathlib.Path) and not word.exists()
+                   or not shutil.which(words[0])]
         if missing:
             print(f"{name}: skipped, there is no {missing[0]}")
             del found[name]
@@ -70,16 +72,18 @@ def measured(folder, commands, given, rounds):
 def calls(folder):
     """Microseconds of the three calls of speed.c and of speed.mjs."""
     program = folder / "speed"
-    subprocess.run([*preload.compiler(), "-O2", f"-I{TOP / 'include'}", TOP / "tests/c/speed.c",
-        BUILT / "linux-x86_64/libsdtool.a",
+    subprocess.run([*preload.compiler(), "-O2", f"-I{TOP / 'include'}", TOP / "tests/library/c/speed.c",
+                    BUILT / "linux-x86_64/libsdtool.a",
                     "-o", program], check=True)
     for name, words in (("C", [program]), ("JavaScript", ["node", JAVASCRIPT / "speed.mjs", BUILT / "wasm"])):
-        taken = subprocess.run([*map(str, words), str(CALL_ROUNDS)], stdout=subprocess.PIPE, check=True).stdout.decode().strip()
+        taken = subprocess.run([*map(str, words), str(CALL_ROUNDS)], stdout=subprocess.PIPE,
+                               check=True).stdout.decode().strip()
         print(f"microseconds of a call from {name}, to SDDL, from SDDL, a check: {taken}", flush=True)
 
 
 def main():
-    parser = argparse.ArgumentParser(description="Measures the programs of 'make systems' beside the one of this system.")
+    parser = argparse.ArgumentParser(description="Measures the programs of 'make systems' beside the one of "
+                                     "this system.")
     parser.add_argument("program", nargs="?", default=run.PROGRAM, type=pathlib.Path)
     parser.add_argument("--megabytes", type=int, default=50, help="of each input (%(default)s)")
     parser.add_argument("--rounds", type=int, default=5, help="(%(default)s)")
@@ -87,8 +91,9 @@ def main():
     kept = pathlib.Path(tempfile.gettempdir()) / "sdtool-bench"
     kept.mkdir(exist_ok=True)
     starts = programs(given.program.resolve())
-    inputs = {source: run.input_file(kept, ["--form", source, "--megabytes", str(given.megabytes)]) for source in ("hex",
-        "sddl")}
+    inputs = {source: run.input_file(kept, ["--form", source, "--megabytes", str(given.megabytes)])
+              for source in ("hex",
+                             "sddl")}
     with tempfile.TemporaryDirectory() as name:
         folder = pathlib.Path(name)
         os.environ.update(WINEPREFIX=str(folder / "wine"), WINEDEBUG="-all")

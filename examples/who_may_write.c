@@ -5,9 +5,10 @@
  * attribute security.NTACL, as Samba keeps it, or system.ntfs_acl, as ntfs-3g shows it. ATTRIBUTE is another one, in
  * Samba's form if its name ends with NTACL. Files whose descriptor is missing or malformed are 'unknown'.
  *
- * To change is to write, to append, to write attributes, to delete, to delete what is in a folder, to change permissions
- * or to take ownership. Whoever has a printed SID may do one of these, unless an ACE denies it to another of their SIDs. Nobody
- * else may, privileges aside. The status is 0, 1 if a file is unknown, and 2 if the files cannot be listed.
+ * To change is to write, to append, to write attributes, to delete, to delete what is in a folder, to change
+ * permissions or to take ownership. Whoever has a printed SID may do one of these, unless an ACE denies it to another
+ * of their SIDs. Nobody else may, privileges aside. The status is 0, 1 if a file is unknown, and 2 if the files cannot
+ * be listed.
  *
  * cc who_may_write.c $(pkg-config --cflags --libs sdtool) -o who_may_write
  */
@@ -19,10 +20,16 @@
 
 #include <sdtool.h>
 
-/* FILE_WRITE_DATA, FILE_APPEND_DATA, FILE_WRITE_EA, FILE_DELETE_CHILD, FILE_WRITE_ATTRIBUTES, DELETE, WRITE_DAC, WRITE_OWNER */
+/* FILE_WRITE_DATA, FILE_APPEND_DATA, FILE_WRITE_EA, FILE_DELETE_CHILD, FILE_WRITE_ATTRIBUTES, DELETE, WRITE_DAC,
+ * WRITE_OWNER */
 #define CHANGES (0x2u | 0x4u | 0x10u | 0x40u | 0x100u | 0x10000u | 0x40000u | 0x80000u)
 
-enum { HEADER = 20, MOST_SID = 68, MOST_SID_TEXT = 200, MOST_ATTRIBUTE = 65536 };
+enum {
+    HEADER = 20,
+    MOST_SID = 68,
+    MOST_SID_TEXT = 200,
+    MOST_ATTRIBUTE = 65536
+};
 
 static const uint8_t everyone[] = {1, 1, 0, 0, 0, 0, 0, 1, 0, 0, 0, 0};
 static uint8_t attribute[MOST_ATTRIBUTE];

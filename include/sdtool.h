@@ -15,8 +15,11 @@
  * has to take a fault that it does not know as one, and never as an answer. A program that needs a function of a later
  * version can compare sdtool_version_number() with the SDTOOL_VERSION that it was compiled with.
  *
- * Sizes and lengths are in bytes. Texts are bytes without a final NUL. Input and output must not overlap. A pointer
- * may be null if its size is 0. What an output holds behind its answer is unspecified.
+ * Sizes and lengths are in bytes. Texts are bytes without a final NUL. A pointer may be null if its size is 0. What an
+ * output holds behind its answer is unspecified.
+ *
+ * An output must not overlap an input or another output. Until a call returns, no other thread may write to its inputs,
+ * or read or write its outputs. Else the call may answer anything, or end the process.
  */
 #ifndef SDTOOL_H
 #define SDTOOL_H
@@ -51,30 +54,35 @@ struct sdtool_outcome {
 };
 
 /*
- * Why a call has no answer. The numbers are those of the program's `error` lines and messages. Those from 70 on are of
- * this library alone.
+ * Why a call has no answer. The numbers are those of the program's `error` lines and messages. With 2 to 4 a line of
+ * sdtool_run spells no bytes, with 5 to 14 the bytes are no descriptor, with 20 to 30 the text is no SDDL. 60 to 62 say
+ * how a run of the program ends; of these sdtool_run has 61 alone, in its message. Those from 70 on are of this library
+ * alone. The list is written from windows/errors.toml.
  */
 enum sdtool_fault {
     SDTOOL_OK = 0,
     /* The input exceeds SDTOOL_MOST_BYTES or SDTOOL_MOST_TEXT. */
     SDTOOL_FAULT_TOO_LONG = 1,
-    /* 2 to 4: a line of sdtool_run is not hex digits, has an odd number of them, or is not base64. */
+    /* A character is not a hex digit. */
     SDTOOL_FAULT_HEX_DIGIT = 2,
+    /* The number of characters is odd. */
     SDTOOL_FAULT_HEX_ODD = 3,
+    /* The line is not base64. */
     SDTOOL_FAULT_BASE64 = 4,
-    /* 5 to 14: the bytes are no descriptor. There are fewer than 20. */
+    /* Fewer than 20 bytes. */
     SDTOOL_FAULT_SHORT = 5,
     /* The revision of the header is not 1. */
     SDTOOL_FAULT_REVISION = 6,
     /* Control bit 0x8000 is clear. */
     SDTOOL_FAULT_NOT_SELF_RELATIVE = 7,
-    /* The offset of a part is below 20, or fewer than 8 bytes follow it. */
+    /* The offset is below 20, or fewer than 8 bytes follow it. */
     SDTOOL_FAULT_OFFSET = 8,
     /* The revision of a SID is not 1, its count exceeds 15, or it passes the end of the bytes or of its ACE. */
     SDTOOL_FAULT_SID = 9,
-    /* The revision of an ACL is not 2 or 4, its size is below 8, or it passes the end of the bytes. */
+    /* The revision of the ACL is not 2 or 4, its size is below 8, or it passes the end of the bytes. */
     SDTOOL_FAULT_ACL = 10,
-    /* An ACE does not fit in its ACL, or its size is below 16, no multiple of 4, or too small for its fields. */
+    /* Fewer than 16 bytes of the ACL are left for an ACE; or its size is below 16, not a multiple of 4 or beyond the
+     * ACL; or its object fields and 8 bytes of a SID do not fit in it. */
     SDTOOL_FAULT_ACE_SIZE = 11,
     /* The type of an ACE is not supported, such as a callback ACE: what the descriptor grants is unknown. */
     SDTOOL_FAULT_ACE_TYPE = 12,
@@ -82,41 +90,43 @@ enum sdtool_fault {
     SDTOOL_FAULT_ACE_FLAGS = 13,
     /* Two parts share a byte. */
     SDTOOL_FAULT_OVERLAP = 14,
-    /* 20 to 30: the text is no SDDL. Parentheses, colons, fields or blanks are wrong. */
+    /* Parentheses, colons or the number of fields are wrong. */
     SDTOOL_FAULT_SHAPE = 20,
     /* Two parts have the same letter. */
     SDTOOL_FAULT_PART_TWICE = 21,
-    /* Two letters are no alias of a SID. */
+    /* Two letters that are not an alias. */
     SDTOOL_FAULT_ALIAS = 22,
     /* A relative alias, such as DA, stands in a text that is read without a domain, or under a full one. */
     SDTOOL_FAULT_NEEDS_DOMAIN = 23,
     /* A decimal number of a SID has more than ten digits, or is 2^32 or more. */
     SDTOOL_FAULT_NUMBER = 24,
-    /* Any other text that is no SID. */
+    /* Any other text that is not a SID. */
     SDTOOL_FAULT_SID_FORM = 25,
-    /* Flags of an ACL or an ACE that have no meaning there. */
+    /* Flags of an ACL or an ACE that are not in the tables. */
     SDTOOL_FAULT_FLAGS = 26,
-    /* Rights that have no name and are no number. */
+    /* Rights that are not in the tables. */
     SDTOOL_FAULT_RIGHTS = 27,
-    /* An object type is no GUID, or its ACE is of a kind without object types. */
+    /* An object type is not a GUID, or its ACE is of a kind without object types. */
     SDTOOL_FAULT_GUID = 28,
-    /* There is no such kind of ACE, or it is not supported, such as XA. */
+    /* No such kind of ACE, such as XA. */
     SDTOOL_FAULT_KIND = 29,
-    /* An ACL would exceed 65,535 bytes. */
+    /* The ACL would exceed 65,535 bytes; the first from the left. */
     SDTOOL_FAULT_ACL_TOO_LARGE = 30,
-    /* A derived ACL exceeds 65,535 bytes. */
+    /* A derived ACL exceeds 65,535 bytes; the SACL is checked first. */
     SDTOOL_FAULT_DERIVED_TOO_LARGE = 40,
-    /* An access check asks for no right. */
+    /* No right is asked for. */
     SDTOOL_FAULT_EMPTY_REQUEST = 50,
-    /* Bit 26 or 27 of the wanted rights is set. */
+    /* Bit 26 or 27 is set in the rights that are asked for. */
     SDTOOL_FAULT_RESERVED_BITS = 51,
-    /* 60 to 62: how a run of the program ends. Of these sdtool_run has 61 alone, in its message. */
+    /* A read failed; every line that had ended is answered. */
     SDTOOL_FAULT_READ = 60,
+    /* The output is a closed pipe or a full disk; nothing is written after it. */
     SDTOOL_FAULT_WRITE = 61,
+    /* 2^40 reads without an end. */
     SDTOOL_FAULT_TOO_MANY_READS = 62,
-    /* An argument beside the text or the descriptor is none that the call takes. */
+    /* An argument beside the descriptor or the text is invalid. */
     SDTOOL_ARGUMENT = 70,
-    /* The output is too small. What it holds is unspecified. */
+    /* The output is too small; the call says how many bytes it needs. What it holds is unspecified. */
     SDTOOL_TOO_SMALL = 71,
     /* malloc failed. */
     SDTOOL_NO_MEMORY = 72
@@ -299,8 +309,8 @@ struct sdtool_verdict {
  * SDTOOL_ARGUMENT comes first, then 50 and 51, then the faults of the descriptor. SDTOOL_ARGUMENT means that there are
  * more than SDTOOL_MOST_SIDS, that an entry or its SID is none of the above, that bytes are behind the last SID, or
  * that the mapping, OBJECT or PRINCIPAL_SELF is none of the above, in this order. Entries and SIDs are looked at in
- * pairs: the first pair with a fault counts, and in it the entry. It allocates less than 128 KiB. SDTOOL_NO_MEMORY comes
- * last, in place of a verdict alone.
+ * pairs: the first pair with a fault counts, and in it the entry. It allocates less than 128 KiB. SDTOOL_NO_MEMORY
+ * comes last, in place of a verdict alone.
  */
 struct sdtool_verdict sdtool_check(const uint8_t *descriptor, size_t descriptor_size, const uint8_t *sids,
                                    size_t sids_size, const uint8_t *entries, size_t sid_count, const uint8_t *object,
@@ -316,9 +326,9 @@ struct sdtool_verdict sdtool_check(const uint8_t *descriptor, size_t descriptor_
  * order; it comes first, and then the faults of PARENT. After these it allocates 131,226 bytes.
  */
 struct sdtool_outcome sdtool_derive(const uint8_t *parent, size_t parent_size, const uint8_t *creator,
-                                    size_t creator_size, const uint8_t *owner, size_t owner_size,
-                                    const uint8_t *group, size_t group_size, uint32_t kind, uint32_t mapping,
-                                    uint8_t *output, size_t output_size);
+                                    size_t creator_size, const uint8_t *owner, size_t owner_size, const uint8_t *group,
+                                    size_t group_size, uint32_t kind, uint32_t mapping, uint8_t *output,
+                                    size_t output_size);
 
 enum {
     /* No ACL of a descriptor that sdtool_derive gives has more ACEs. */
@@ -344,8 +354,8 @@ struct sdtool_origins {
     uint32_t argument;
     size_t entry;
     /*
-     * With SDTOOL_OK how many ACEs the SACL and the DACL have, and with SDTOOL_TOO_SMALL how many origins they need room
-     * for; else 0. An ACL that is null or absent has no ACEs.
+     * With SDTOOL_OK how many ACEs the SACL and the DACL have, and with SDTOOL_TOO_SMALL how many origins they need
+     * room for; else 0. An ACL that is null or absent has no ACEs.
      */
     size_t sacl_count;
     size_t dacl_count;
@@ -353,12 +363,15 @@ struct sdtool_origins {
 
 /*
  * Says of each ACE of the descriptor that sdtool_derive gives for the same arguments which ACE it was made of. SACL has
- * room for SACL_ROOM origins and DACL for DACL_ROOM; SDTOOL_MOST_DERIVED_ACES suffice for each. Origins are in the order
- * of the ACEs: first what is made of CREATOR's ACL and then what is made of PARENT's, by their places there. Where one
- * ACE gives two, the one for the object itself comes first.
+ * room for SACL_ROOM origins and DACL for DACL_ROOM; SDTOOL_MOST_DERIVED_ACES suffice for each. Origins are in the
+ * order of the ACEs: first what is made of CREATOR's ACL and then what is made of PARENT's, by their places there.
+ * Where one ACE gives two, the one for the object itself comes first.
  *
  * The faults are those of sdtool_derive, in the same order. SDTOOL_TOO_SMALL comes last, if there is less room. After
  * any of these no origin is written. It allocates no memory.
+ *
+ * It reads its inputs again after it has written origins. So a SACL or a DACL that overlaps PARENT, CREATOR, OWNER or
+ * GROUP may end the process.
  */
 struct sdtool_origins sdtool_derive_origins(const uint8_t *parent, size_t parent_size, const uint8_t *creator,
                                             size_t creator_size, const uint8_t *owner, size_t owner_size,
@@ -379,8 +392,8 @@ struct sdtool_outcome sdtool_sid_from_text(const uint8_t *text, size_t text_size
  * empty or a SID in binary whose relative aliases are used too. SDTOOL_MOST_SID_TEXT bytes always suffice.
  * SDTOOL_ARGUMENT means that SID, looked at first, or DOMAIN is no SID. It allocates no memory.
  */
-struct sdtool_outcome sdtool_sid_to_text(const uint8_t *sid, size_t sid_size, const uint8_t *domain,
-                                         size_t domain_size, bool numeric, uint8_t *text, size_t text_size);
+struct sdtool_outcome sdtool_sid_to_text(const uint8_t *sid, size_t sid_size, const uint8_t *domain, size_t domain_size,
+                                         bool numeric, uint8_t *text, size_t text_size);
 
 /*
  * How many bytes the SID at the front of some bytes has, such as one of several in a row. It is 0 if they begin with
@@ -470,10 +483,10 @@ struct sdtool_fault_place {
 /*
  * Says where the first fault of a descriptor is, after a call has refused it. All places are in DESCRIPTOR, and cut by
  * what holds them: of SDTOOL_FAULT_SHORT the end; of SDTOOL_FAULT_REVISION the first byte; of
- * SDTOOL_FAULT_NOT_SELF_RELATIVE the control word; of SDTOOL_FAULT_OFFSET the four bytes of the offset in the header; of
- * SDTOOL_FAULT_SID the SID, as long as its count says; of SDTOOL_FAULT_ACL the eight bytes of the ACL's header; of
- * another fault of an ACE its first four bytes; of SDTOOL_FAULT_OVERLAP the whole second part. SDTOOL_FAULT_TOO_LONG has
- * no place. It allocates no memory.
+ * SDTOOL_FAULT_NOT_SELF_RELATIVE the control word; of SDTOOL_FAULT_OFFSET the four bytes of the offset in the header;
+ * of SDTOOL_FAULT_SID the SID, as long as its count says; of SDTOOL_FAULT_ACL the eight bytes of the ACL's header; of
+ * another fault of an ACE its first four bytes; of SDTOOL_FAULT_OVERLAP the whole second part. SDTOOL_FAULT_TOO_LONG
+ * has no place. It allocates no memory.
  */
 struct sdtool_fault_place sdtool_place(const uint8_t *descriptor, size_t descriptor_size);
 
@@ -495,8 +508,8 @@ struct sdtool_fault_place sdtool_sddl_place(const uint8_t *text, size_t text_siz
  *
  *     error 27 rights: rights that are not in the tables, at byte 17, ACE 3 of the DACL, rights
  *
- * OUTCOME is what a call has answered. PLACE is what sdtool_place or sdtool_sddl_place has found, or all zeros; the place
- * of another fault counts as none. Bytes count from 0, and ACEs from 1. With SDTOOL_ARGUMENT the argument is in
+ * OUTCOME is what a call has answered. PLACE is what sdtool_place or sdtool_sddl_place has found, or all zeros; the
+ * place of another fault counts as none. Bytes count from 0, and ACEs from 1. With SDTOOL_ARGUMENT the argument is in
  * front: 'domain: '.
  *
  * SDTOOL_MOST_DESCRIPTION bytes always suffice. SDTOOL_ARGUMENT means that the fault of OUTCOME is none of enum
@@ -570,13 +583,14 @@ struct sdtool_outcome sdtool_check_many(const struct sdtool_bytes *descriptors, 
 
 /*
  * Reads a token into memory of the caller, for any number of checks by sdtool_check_with. SIDS and ENTRIES are those of
- * sdtool_check. TOKEN is TOKEN_WORDS numbers, of which SDTOOL_TOKEN_WORDS(SID_COUNT) suffice; LENGTH is how many numbers
- * it takes.
+ * sdtool_check. TOKEN is TOKEN_WORDS numbers, of which SDTOOL_TOKEN_WORDS(SID_COUNT) suffice; LENGTH is how many
+ * numbers it takes.
  *
  *     uint32_t token[SDTOOL_TOKEN_WORDS(SDTOOL_MOST_SIDS)];
  *
  * The numbers have no pointers, so they may be moved and copied. What they mean may change with each version of the
- * library: they stay in the process. While threads check with the token, nothing may write to it.
+ * library: they stay in the process. While a thread is in sdtool_check_with or sdtool_reasons_with with this TOKEN,
+ * nothing may write to it, and no other sdtool_token_read either: that may end the process.
  *
  * SDTOOL_ARGUMENT comes first if there are more than SDTOOL_MOST_SIDS, then SDTOOL_TOO_SMALL with the size that is
  * needed in LENGTH, then SDTOOL_ARGUMENT for an entry or a SID. After any of these TOKEN holds no token, not even an
@@ -590,8 +604,9 @@ struct sdtool_outcome sdtool_token_read(const uint8_t *sids, size_t sids_size, c
  * share it without a lock. TOKEN_WORDS may be more than the token takes.
  *
  * SDTOOL_ARGUMENT for TOKEN comes first: if TOKEN is zeros, if its reading failed, or if TOKEN_WORDS cuts it. Numbers
- * that something else has written are safe too, but they may be taken for a token of other SIDs. Else the faults are
- * those of sdtool_check, in the same order. It allocates no memory.
+ * that something else wrote before the call are safe too, but they may be taken for a token of other SIDs. Numbers that
+ * change during the call are not safe: it may end the process. Else the faults are those of sdtool_check, in the same
+ * order. It allocates no memory.
  */
 struct sdtool_verdict sdtool_check_with(const uint8_t *descriptor, size_t descriptor_size, const uint32_t *token,
                                         size_t token_words, const uint8_t *object, size_t object_size,
@@ -619,7 +634,8 @@ enum sdtool_reason_kind {
 };
 
 enum {
-    /* How many rights a mask has, at the places 0 to 24. The other bits are generic rights, reserved, or the maximum. */
+    /* How many rights a mask has, at the places 0 to 24. The other bits are generic rights, reserved, or the maximum.
+     */
     SDTOOL_RIGHTS = 25,
     /* No ACE has this place, 0xFFFF. */
     SDTOOL_NO_PLACE = 65535
@@ -698,8 +714,7 @@ struct sdtool_new_descriptor {
  * and DACL in this order, with the index of an ACE that can't be in ENTRY. Then SDTOOL_FAULT_ACL_TOO_LARGE with
  * SDTOOL_SACL or SDTOOL_DACL, if an ACL would exceed 65,535 bytes. It allocates no memory.
  */
-struct sdtool_outcome sdtool_build(const struct sdtool_new_descriptor *descriptor, uint8_t *output,
-                                   size_t output_size);
+struct sdtool_outcome sdtool_build(const struct sdtool_new_descriptor *descriptor, uint8_t *output, size_t output_size);
 
 /* How sdtool_run ends: the exit status of the program. */
 enum sdtool_status {

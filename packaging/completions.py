@@ -2,8 +2,8 @@
 """completions.py [--check]
 
 Writes the completions of three shells (packaging/completions/) from the program's table of options,
-crates/sd_command_line/src/options.rt. With --check it writes nothing, and fails if a file is stale; the last line is then
-'N passed, M failed'. tests/completions.py compares the files with the program's help.
+crates/sd_command_line/src/options.rt. With --check it writes nothing, and fails if a file is stale; the last line is
+then 'N passed, M failed'. tests/program/completions.py compares the files with the program's help.
 """
 import argparse
 import pathlib

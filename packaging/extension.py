@@ -1,9 +1,10 @@
 #!/usr/bin/env python3
 """extension.py SYSTEM FILE
 
-Compiles the extension of the Python module for a system, linux-x86_64, linux-aarch64 or windows-x86_64, with the headers of
-this Python or of another that is there. It is over the limited interface of Python, so it needs nothing else of the system's
-Python, and the same file serves each version from 3.8 on. The same sources and tools give the same bytes.
+Compiles the extension of the Python module for a system, linux-x86_64, linux-aarch64 or windows-x86_64, with the
+headers of this Python or of another that is there. It is over the limited interface of Python, so it needs nothing else
+of the system's Python, and the same file serves each version from 3.8 on. The same sources and tools give the same
+bytes.
 """
 import glob
 import os
@@ -27,7 +28,8 @@ LINUX = ["-fPIC", "-Wl,--build-id=none", "-Wl,-z,relro,-z,now"]
 COMPILERS = {
     "linux-x86_64": [os.environ.get("CC", "gcc"), *LINUX, '-DOLDEST_C_LIBRARY="GLIBC_2.2.5"'],
     "linux-aarch64": ["aarch64-linux-gnu-gcc", *LINUX, '-DOLDEST_C_LIBRARY="GLIBC_2.17"'],
-    "windows-x86_64": ["x86_64-w64-mingw32-gcc", "-static-libgcc", "-Wl,--no-insert-timestamp,--disable-auto-image-base"],
+    "windows-x86_64": ["x86_64-w64-mingw32-gcc", "-static-libgcc",
+                       "-Wl,--no-insert-timestamp,--disable-auto-image-base"],
 }
 FILES = {"linux-x86_64": "_native.abi3.so", "linux-aarch64": "_native.abi3.so", "windows-x86_64": "_native.pyd"}
 DLL = "python3.dll"  # which each version of Python for Windows has, with the limited interface
@@ -52,14 +54,16 @@ def compile_object(system, folder, target):
     shutil.copytree(headers(), include, ignore=shutil.ignore_patterns("internal", "pyconfig*.h"))
     shutil.copy(TOP / "packaging/pyconfig.h", include)
     compiler, *flags = COMPILERS[system]
-    words = [flag for flag in [*FLAGS, *flags] if not flag.startswith("-Wl,") and flag not in ("-shared", "-s", "-static-libgcc")]
+    words = [flag for flag in [*FLAGS, *flags] if not flag.startswith("-Wl,")
+             and flag not in ("-shared", "-s", "-static-libgcc")]
     subprocess.run([compiler, *words, f"-I{include}", f"-I{TOP / 'include'}", "-c", SOURCE, "-o", target], check=True)
 
 
 def import_library(folder, compiled):
     """What the linker has to know of python3.dll: the names that the object uses."""
     tools = COMPILERS["windows-x86_64"][0][:-len("gcc")]
-    symbols = subprocess.run([tools + "nm", "--undefined-only", compiled], stdout=subprocess.PIPE, check=True, text=True).stdout
+    symbols = subprocess.run([tools + "nm", "--undefined-only", compiled], stdout=subprocess.PIPE, check=True,
+                             text=True).stdout
     names = re.findall(r"__imp_(_?Py\w+)", symbols)
     data = [name for name in names if re.fullmatch(r"PyExc_\w+|Py\w+_Type|_Py_\w+Struct", name)]
     definition, library = folder / "python3.def", folder / "libpython3.a"

@@ -1,9 +1,9 @@
 #!/usr/bin/env python3
 """man_pages.py FOLDER
 
-Writes the man pages of the library (section 3) to FOLDER, from the comments and declarations of include/sdtool.h: a page
-for each function, and sdtool.h.3 for the structs, the numbers and what holds for all calls. With --list it prints their
-names instead, and FOLDER is left out.
+Writes the man pages of the library (section 3) to FOLDER, from the comments and declarations of include/sdtool.h: a
+page for each function, and sdtool.h.3 for the structs, the numbers and what holds for all calls. With --list it prints
+their names instead, and FOLDER is left out.
 """
 import pathlib
 import re
@@ -20,7 +20,8 @@ WHOLE = "sdtool.h"
 
 def escaped(text):
     """Text of a page: no character of it is a request or an escape."""
-    text = text.replace("\\", "\\e").replace("-", "\\-").replace("'", "\\(aq").replace("`", "\\(ga").replace("^", "\\(ha")
+    text = text.replace("\\", "\\e").replace("-", "\\-").replace("'", "\\(aq").replace("`",
+                                                                                       "\\(ga").replace("^", "\\(ha")
     return re.sub(r"(?m)^\.", r"\\&.", text)
 
 
@@ -32,7 +33,8 @@ def lines_of(comment):
 def paragraphs(comment):
     """A comment as paragraphs; what is indented in it is code."""
     for paragraph in PARAGRAPH.split(lines_of(comment)):
-        yield from ((".PP", ".EX", escaped(paragraph), ".EE") if paragraph.startswith("    ") else (".PP", escaped(paragraph)))
+        yield from ((".PP", ".EX", escaped(paragraph), ".EE") if paragraph.startswith("    ")
+                    else (".PP", escaped(paragraph)))
 
 
 def summary(comment):

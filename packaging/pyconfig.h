@@ -1,6 +1,6 @@
 /*
- * What Python.h has to know of a system for the limited interface, as the compiler tells it. So the extension is compiled
- * for each system with the headers of the Python at hand, and without those of a Python for that system.
+ * What Python.h has to know of a system for the limited interface, as the compiler tells it. So the extension is
+ * compiled for each system with the headers of the Python at hand, and without those of a Python for that system.
  */
 #ifndef Py_PYCONFIG_H
 #define Py_PYCONFIG_H

@@ -1,13 +1,13 @@
 #!/usr/bin/env python3
 """wheels.py SYSTEM..
 
-Makes a Python wheel for each system, with the library in it, in out/dist: it needs nothing else of the system. SYSTEM is
-linux-x86_64, linux-aarch64 or windows-x86_64, of which 'make systems' built the library. The tag of a wheel for Linux names
-the C library that it needs.
+Makes a Python wheel for each system, with the library in it, in out/dist: it needs nothing else of the system. SYSTEM
+is linux-x86_64, linux-aarch64 or windows-x86_64, of which 'make systems' built the library. The tag of a wheel for
+Linux names the C library that it needs.
 
 A wheel has the module's extension too, where a compiler for the system and Python.h are there. Its tag names no ABI of
-Python: an interpreter that cannot load the extension, such as PyPy, a CPython without a global lock, or one of several that have
-locks of their own, makes the same calls through ctypes.
+Python: an interpreter that cannot load the extension, such as PyPy, a CPython without a global lock, or one of several
+that have locks of their own, makes the same calls through ctypes.
 """
 import pathlib
 import re
@@ -54,9 +54,10 @@ def main():
         binaries = list(binaries_of(system))
         files = [(str(path.relative_to(build_wheel.HERE)), path.read_bytes()) for path in build_wheel.module_files()]
         # Reports of audits go into the page.
-        files += [("sdtool/audit/sdtool.html", page.read_bytes()) for page in (TOP / "out/sdtool.html",) if page.exists()]
-        print(folder / build_wheel.write_wheel(folder, [*files, *binaries],
-                                               f"py3-none-{platform_of(system, b''.join(data for _, data in binaries))}"))
+        files += [("sdtool/audit/sdtool.html", page.read_bytes()) for page in (TOP / "out/sdtool.html",)
+                  if page.exists()]
+        platform = platform_of(system, b"".join(data for _, data in binaries))
+        print(folder / build_wheel.write_wheel(folder, [*files, *binaries], f"py3-none-{platform}"))
 
 
 if __name__ == "__main__":

@@ -1,11 +1,11 @@
 """Builds what pip installs, with the standard library alone: so pip needs neither a network nor setuptools.
 
-pip calls build_wheel, or build_editable with its option -e, as PEP 517 and PEP 660 describe. `build_wheel.py --extension`
-builds the extension in place, beside the module's files.
+pip calls build_wheel, or build_editable with its option -e, as PEP 517 and PEP 660 describe. `build_wheel.py
+--extension` builds the extension in place, beside the module's files.
 
-The extension is one file of C over the limited interface of Python, so a wheel with it serves every Python from 3.8 on. It
-needs a C compiler, Python.h and sdtool.h. A wheel that is built without one of them works as well: its calls go through
-ctypes, which takes two to three microseconds more for each.
+The extension is one file of C over the limited interface of Python, so a wheel with it serves every Python from 3.8 on.
+It needs a C compiler, Python.h and sdtool.h. A wheel that is built without one of them works as well: its calls go
+through ctypes, which takes two to three microseconds more for each.
 """
 import base64
 import hashlib
@@ -48,7 +48,8 @@ FLAGS = ["-std=gnu11", "-O2", "-Wall", "-Wextra", "-Werror", "-shared", "-fPIC"]
 
 def module_files():
     """The files of the module that are the same everywhere."""
-    return sorted(path for path in MODULE.rglob("*") if path.suffix in (".py", ".pyi") or path.name in ("py.typed", "sdtool.html"))
+    return sorted(path for path in MODULE.rglob("*") if path.suffix in (".py", ".pyi")
+                  or path.name in ("py.typed", "sdtool.html"))
 
 
 def header_folder():
@@ -62,14 +63,15 @@ def compile_extension(target):
     if os.name != "posix" or not shutil.which(compiler[0]):
         return "there is no C compiler"
     folders = [sysconfig.get_paths()["include"], *([str(header_folder())] if header_folder() else [])]
-    ended = subprocess.run([*compiler, *FLAGS, *(f"-I{folder}" for folder in folders), str(SOURCE), "-o", str(target), "-ldl"],
+    ended = subprocess.run([*compiler, *FLAGS, *(f"-I{folder}" for folder in folders), str(SOURCE), "-o",
+                            str(target), "-ldl"],
                            stdout=subprocess.PIPE, stderr=subprocess.STDOUT, check=False)
     return None if ended.returncode == 0 else ended.stdout.decode("utf-8", "replace")
 
 
 def place(made, target):
-    """Puts a file at a place where other programs may look at any time: it is there as a whole or not at all, and a file
-    with the same bytes stays."""
+    """Puts a file at a place where other programs may look at any time: it is there as a whole or not at all, and a
+    file with the same bytes stays."""
     made, target = pathlib.Path(made), pathlib.Path(target)
     if target.exists() and target.read_bytes() == made.read_bytes():
         return
@@ -82,8 +84,8 @@ def place(made, target):
 
 
 def place_extension():
-    """Builds the extension beside the module's files, unless it is newer than what it is built from. Gives why it cannot,
-    or None."""
+    """Builds the extension beside the module's files, unless it is newer than what it is built from. Gives why it
+    cannot, or None."""
     target, folder = MODULE / EXTENSION, header_folder()
     sources = [SOURCE, pathlib.Path(__file__), *([folder / "sdtool.h"] if folder else [])]
     if target.exists() and all(target.stat().st_mtime > source.stat().st_mtime for source in sources):
@@ -116,7 +118,8 @@ def write_wheel(folder, files, tag=ANY):
     """A wheel of the files, each as a name and its bytes, for the systems of a tag."""
     purelib = "true" if tag == ANY else "false"
     wheel_file = f"Wheel-Version: 1.0\nGenerator: build_wheel.py\nRoot-Is-Purelib: {purelib}\nTag: {tag}\n"
-    files = [*files, (f"{NAME}.dist-info/METADATA", METADATA.encode()), (f"{NAME}.dist-info/WHEEL", wheel_file.encode())]
+    files = [*files, (f"{NAME}.dist-info/METADATA", METADATA.encode()),
+             (f"{NAME}.dist-info/WHEEL", wheel_file.encode())]
     record = ""
     wheel = f"{NAME}-{tag}.whl"
     with zipfile.ZipFile(pathlib.Path(folder, wheel), "w", zipfile.ZIP_DEFLATED) as archive:

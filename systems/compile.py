@@ -49,14 +49,16 @@ def words_for(crate):
     """The words that name the crate and what it is compiled with."""
     known = libraries()
     uses, is_static = known[crate]
-    words = ["--crate-name", crate, "src/lib.rt" if is_static else "src/main.rt", *["--crate-type", "staticlib"] * is_static]
+    words = ["--crate-name", crate, "src/lib.rt" if is_static else "src/main.rt",
+             *["--crate-type", "staticlib"] * is_static]
     place_of = {name: TOP / "crates" / name / "out" / "rlib" for name in below(crate, known)}
     for name in ["std", *uses]:
         words += ["--extern", f"{name}={place_of.get(name, KIT / 'rlibs') / name}.rlib"]
     for place in [KIT / "rlibs", *place_of.values()]:
         words += ["-L", f"dependency={place}"]
     return [*words, "--links", f"{crate}=", "--antt-project", KIT / "rattle/logic/antt-project.json",
-            "--logic-built", KIT / "logic_built", "--incremental", "out/incremental", "--jobs", "2", "--backend", "llvm"]
+            "--logic-built", KIT / "logic_built", "--incremental", "out/incremental", "--jobs", "2",
+            "--backend", "llvm"]
 
 
 def make_toolchain(folder, kept):
@@ -83,8 +85,8 @@ def main():
         kept, toolchain = folder / "module.bc", folder / "toolchain"
         toolchain.mkdir()
         make_toolchain(toolchain, kept)
-        words = [KIT / "bin/rattle", "build", *words_for(given.crate), "--target", given.target, "--toolchain", toolchain,
-                 "-o", given.file.resolve()]
+        words = [KIT / "bin/rattle", "build", *words_for(given.crate), "--target", given.target,
+                 "--toolchain", toolchain, "-o", given.file.resolve()]
         given.file.parent.mkdir(parents=True, exist_ok=True)
         ended = subprocess.run(words, cwd=TOP / "crates" / given.crate, stdin=subprocess.DEVNULL, check=False)
         if ended.returncode:

@@ -2,7 +2,8 @@
 """drop_table.py FROM TO
 
 Copies a WebAssembly module without its section of tables. The linker writes a table for indirect calls with 64-bit
-indices, which wasm-opt refuses; the proved code has no indirect call. A module that has elements for a table is refused.
+indices, which wasm-opt refuses; the proved code has no indirect call. A module that has elements for a table is
+refused.
 """
 import pathlib
 import sys

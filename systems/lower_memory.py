@@ -1,10 +1,10 @@
 #!/usr/bin/env python3
 """lower_memory.py FROM TO
 
-Lowers a WebAssembly module of a 64-bit memory to one of a 32-bit memory. The pass of wasm-opt does so, but for loads and
-stores that spread a value over a vector, widen it, or move one lane: it leaves their addresses at 64 bits. In the text of
-the module this script wraps the address of exactly those, their first operand, as the pass wraps the others. wasm-as
-makes a module of the text again, and refuses one whose types do not fit.
+Lowers a WebAssembly module of a 64-bit memory to one of a 32-bit memory. The pass of wasm-opt does so, but for loads
+and stores that spread a value over a vector, widen it, or move one lane: it leaves their addresses at 64 bits. In the
+text of the module this script wraps the address of exactly those, their first operand, as the pass wraps the others.
+wasm-as makes a module of the text again, and refuses one whose types do not fit.
 
 An instruction for memory that neither the pass nor this script is known to lower is refused.
 """
@@ -17,8 +17,10 @@ FEATURES = ["--enable-memory64", "--enable-sign-ext", "--enable-mutable-globals"
 WRAP = "i32.wrap_i64"
 TOKEN = re.compile(r'"(?:[^"\\]|\\.)*"|;;[^\n]*|[()]|[^\s()";]+')
 OF_MEMORY = re.compile(r"\w+\.\w*(load|store|atomic)[\w.]*|memory\.[\w.]+")
-OF_THE_PASS = re.compile(r"([if](32|64)|v128)\.(load|store)|[if](32|64)\.(load(8|16|32)_[su]|store(8|16|32))|memory\.(size|grow)")
-LEFT = re.compile(r"v128\.(load(8|16|32|64)_(splat|lane)|store(8|16|32|64)_lane|load(32|64)_zero|load(8x8|16x4|32x2)_[su])")
+OF_THE_PASS = re.compile(r"([if](32|64)|v128)\.(load|store)|[if](32|64)\.(load(8|16|32)_[su]|store(8|16|32))|"
+                         r"memory\.(size|grow)")
+LEFT = re.compile(r"v128\.(load(8|16|32|64)_(splat|lane)|store(8|16|32|64)_lane|load(32|64)_zero|load(8x8|16x4|"
+                  r"32x2)_[su])")
 
 
 def is_left(name):

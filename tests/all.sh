@@ -1,14 +1,17 @@
 #!/usr/bin/env bash
 # Tests of the sources, the gate, and then the tests of the built program. Each part ends with a line
 # 'N passed, M failed', and the last line of all is their sum. A part without such a line counts as one that failed.
+# At the end it says what was skipped, and which parts took longest. If RESULTS names a file, it gets the time of each part.
 set -u
 cd "$(dirname "$0")/.." || exit 2
-program=crates/sdtool/out/sdtool
+program=$PWD/crates/sdtool/out/sdtool
 passed=0
 failed=0
 library=
 watcher=
 lanes=()
+# No other program is tested.
+export SDTOOL_PROGRAM=$program
 # No lane writes into the tree what another one reads. So Python keeps nothing beside the modules that it imports.
 export PYTHONDONTWRITEBYTECODE=1
 logs=$(mktemp -d) || exit 2
@@ -63,9 +66,33 @@ add() {
 }
 
 count() {
+    local began=$SECONDS
     echo "== $*"
     "$@" 2>&1 | tee "$logs/part"
     add "$logs/part" "${PIPESTATUS[0]}"
+    note_part "$logs/part" $((SECONDS - began)) "$*"
+}
+
+# Keeps how long a part took, and what it skipped for want of a tool.
+note_part() {
+    echo "$2 $3" >>"$logs/times"
+    grep -ah 'skipped' "$1" >>"$logs/skipped"
+}
+
+# What was skipped, and which parts took longest.
+show_notes() {
+    if [[ -s $logs/skipped ]]; then
+        echo "Skipped; CONTRIBUTING.md lists the packages:"
+        sort -u "$logs/skipped" | sed -e 's/^ *//' -e 's/^/    /'
+    fi
+    echo "The longest parts, in seconds:"
+    sort -rn "$logs/times" | head -n 10 | sed 's/^/    /'
+    if [[ -n ${RESULTS-} ]]; then
+        {
+            echo "# Written by tests/all.sh at $(git rev-parse --short HEAD) on $(nproc) processors, after $((SECONDS / 60)) minutes."
+            sort -rn "$logs/times"
+        } >"$RESULTS"
+    fi
 }
 
 # Runs the parts of a lane one after the other. What a part prints comes out whole when it has ended, with its time, since
@@ -78,11 +105,12 @@ run_lane() {
         kill -0 $$ 2>/dev/null || return
         log=$folder/$((number += 1))
         began=$SECONDS
-        # Each part is a command and its words.
-        $part >"$log" 2>&1
+        # Each part is a test and its words.
+        tests/run $part >"$log" 2>&1
         echo $? >"$log.status"
         {
             flock 9
+            note_part "$log" $((SECONDS - began)) "$part"
             echo "== $part ($((SECONDS - began)) s)"
             cat "$log"
         } 9>"$logs/lock"
@@ -116,10 +144,11 @@ add_lanes() {
     done
 }
 
-# Builds the library, and all for other systems, in a copy of the tree, where the gate does not set aside what was proved.
+# Builds the library, and all for other systems, in a copy of the tree, where the gate does not set aside what was proved. It
+# has the work that `make run` kept.
 start_library() {
     mkdir "$copy" &&
-        tar --create --exclude=./.git --exclude=./out --exclude='./crates/*/out' . | tar --extract --directory "$copy"
+        tar --create --exclude=./.git --exclude=./out . | tar --extract --directory "$copy"
     SDTOOL_TESTS=$logs setsid nice "${MAKE:-make}" --no-print-directory --directory "$copy" library systems >"$logs/library" 2>&1 &
     library=$!
 }
@@ -137,9 +166,11 @@ take_systems() {
     "${MAKE:-make}" --no-print-directory --directory "$copy" systems && cp -r "$copy/out/systems" out
 }
 
-# The page has a module inside that is built for WebAssembly. Where that is there, so has to be the page.
+# The page has a module inside that is built for WebAssembly. Where that is there, so has to be the page, but for its tool.
 build_page() {
-    if [[ -f out/systems/wasm/sdtool.wasm ]] && ! "${MAKE:-make}" --no-print-directory --assume-old=wasm page; then
+    if ! command -v esbuild >/dev/null; then
+        echo "the page: skipped, there is no command esbuild (Debian: esbuild)" | tee -a "$logs/skipped"
+    elif [[ -f out/systems/wasm/sdtool.wasm ]] && ! "${MAKE:-make}" --no-print-directory --assume-old=wasm page; then
         echo "the page is not built"
         ((failed += 1))
     fi
@@ -153,55 +184,40 @@ build_extension() {
 # No older program, library or extension is to be tested where the gate stops before it has built one.
 start_watcher
 rm -rf "$program" out/lib out/sdtool.html out/systems python/sdtool/_native.abi3.so
-count tests/layers.py
-count tests/c_interface.py
-count tests/alias_places.py --check
-count tests/name_cells.py --check
-count tests/usual_texts.py --check
-count packaging/completions.py --check
-count tests/figures.py --check
-count windows/write.py --check
-count tests/names.py
-count tests/places.py
-count tests/edits.py --apply
-count tests/fault_words.py --sources
+count tests/run sources/
 # The gate keeps no work that the library could be built over, so its crates are proved once more. That takes the
 # processors that the gate leaves idle.
 start_library
 count rt ci
-count tests/run_rows.py --reference
+count tests/run run_rows --reference
 if "${MAKE:-make}" --no-print-directory program; then
-    # Seven lanes, none much longer than the others. What starts a browser or another system's programs is in one, so that
+    # Eight lanes, none much longer than the others. What starts a browser or another system's programs is in one, so that
     # no two of these wait for each other.
-    start_lane "tests/compare.py $program"
-    start_lane "tests/run_rows.py $program" "tests/run_rows.py $program --one-byte" \
-        "tests/refused_allocations.py $program" "tests/tables.py $program" "tests/neighbours.py $program" \
-        "tests/run_examples.py $program" "tests/hostile_lists.py $program" tests/door_examples.py \
-        "tests/completions.py $program" "tests/system_calls.py $program" "tests/memory.py $program" \
-        "tests/device_faults.py $program"
+    start_lane compare
+    start_lane run_rows "run_rows --one-byte" refused_allocations tables neighbours run_examples door_examples \
+        completions system_calls memory device_faults
     if take_library; then
         take_systems
         build_page
         build_extension
-        start_lane "tests/c_library.py $program" "tests/c_objects.py $program" tests/fault_places.py tests/fault_words.py tests/c_neighbours.py \
-            tests/c_comparisons.py tests/c_stacks.py tests/c_reasons.py tests/c_origins.py tests/c_install.py tests/c_examples.py \
-            "tests/instructions.py $program" tests/bench_run.py
-        start_lane "tests/python_calls.py $program" "tests/python_objects.py $program" tests/python_plain.py \
-            tests/python_lies.py tests/python_wheels.py
-        start_lane tests/audit.py tests/audit_sources.py tests/audit_reports.py tests/audit_reasons.py tests/audit_package.py \
-            tests/risk_rows.py
-        start_lane "tests/distributed.py $program" "tests/distributed_faults.py $program"
-        start_lane "tests/page.py $program" tests/page_schema.py tests/windows_headers.py tests/page_kinds.py tests/page_questions.py \
-            tests/page_units.py "tests/risk_rows.py --page" tests/lowering.py "tests/systems.py $program"
+        start_lane c_library c_objects fault_places fault_words c_neighbours c_comparisons c_stacks c_reasons \
+            c_origins c_install c_examples instructions bench_run
+        start_lane python_calls python_objects python_plain python_lies python_wheels
+        start_lane audit audit_sources audit_directory audit_reports audit_stopping audit_reasons audit_inherited \
+            audit_package
+        start_lane audit_forms hostile_lists audit_terminal audit_growth risk_rows abilities severities many_types
+        start_lane distributed distributed_faults
+        start_lane page page_kinds page_questions page_units "risk_rows --page" lowering systems
     else
         echo "the library is not built, so its tests have not run"
         ((failed += 1))
-        start_lane tests/page_units.py "tests/systems.py $program"
+        start_lane page_units systems
     fi
     add_lanes
 else
     echo "the program is not built, so its tests have not run"
     ((failed += 1))
 fi
+show_notes
 echo "$passed passed, $failed failed"
 ((failed == 0))

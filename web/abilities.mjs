@@ -7,34 +7,49 @@ const VALIDATED = 0x8;
 const WRITE = 0x20;
 const EXTENDED = 0x100;
 const TEMPLATE = "pKICertificateTemplate";
-const WIDEST = ["S-1-5-11", "S-1-5-32-545"];
-const OF_CHILDREN = 0x3; // rights whose object type is a class
-const CHANGING = 0x1 | 0x2 | VALIDATED | WRITE; // rights of an object type beside the extended ones
+const OF_CHILDREN = 0x3;                // rights whose object type is a class
+const CHANGING = 0x1 | 0x2 | VALIDATED; // rights of an object type beside the extended ones and those of properties
+const OF_TYPES = CHANGING | WRITE | EXTENDED; // what an object type can limit
 
-// The object types of abilities that need several rights together.
-export const WHOLE_TYPES = [...new Set(ABILITIES.filter(({all}) => all).flatMap(({types}) => types))];
-
-function isFor(ability, sid, domain) {
+// Whether it is a finding that a trustee has an ability. isTold says whether a rule for everybody tells of the trustee.
+function isFor(ability, sid, domain, isTold) {
     if ((isTrusted(sid, domain) && !ability.also.includes(sid)) || meaningOfSid(sid).who === "stand-in") {
         return false;
     }
-    return ability.only !== "anyone" || everybodyClass(sid) === "anyone" || WIDEST.includes(sid);
+    if (ability.only === "somebody" && isTold) {
+        return false;
+    }
+    return ability.only !== "everybody" || everybodyClass(sid) !== null;
 }
 
-const means = (ability, classes) => classes.length === 0 ?
-    !ability.known :
-    ability.on.length === 0 || ability.on.some((one) => classes.includes(one));
+const means = (ability, classes) =>
+    classes.length === 0 ? !ability.known : ability.on.length === 0 || ability.on.some((one) => classes.includes(one));
 
-const isBy = (ability, object) =>
-    ability.types.includes(object) || (ability.types.includes("*") && !HARMLESS.includes(object));
+// Whether all, or any, object types give an ability, or each that nothing names.
+const isOfAll = ({types}) => types.some(([type]) => type === "");
+const isOfAny = ({types}) => types.some(([type]) => type === "*");
+const isOfUnnamed = ({types}) => types.some(([type]) => type === "?");
+
+const isBy = (ability, object) => ability.types.some((path) => path.includes(object)) ||
+    (isOfAny(ability) && !HARMLESS.includes(object)) ||
+    (isOfUnnamed(ability) && object !== "" && guidNames(object).length === 0);
+
+// The object types that decide about an ability together, where it comes by one of them, or by one that has all.
+function pathsOf(ability, object) {
+    if (isOfAll(ability) || isOfAny(ability) || isOfUnnamed(ability)) {
+        return [[object]];
+    }
+    const own = ability.types.filter((path) => path.includes(object));
+    return own.length ? own : ability.types;
+}
 
 // Whether an object type is that of an object as a whole: none, or its own class, which is one of some, or isn't known.
-export const isOwn = (object, own) => object === "" || guidNames(object, OF_CHILDREN).some(
-    ({name, type}) => type === "class" && (own.length === 0 || own.includes(name)));
+export const isOwn = (object, own) => object === "" ||
+    guidNames(object, OF_CHILDREN).some(({name, type}) => type === "class" && (own.length === 0 || own.includes(name)));
 
 // Whether an ACE may give a trustee an ability.
 export const mayGive = (mask, object, sid, domain) => ABILITIES.some(
-    (one) => (mask & one.right) !== 0 && (isOwn(object, []) || isBy(one, object)) && isFor(one, sid, domain));
+    (one) => (mask & one.right) !== 0 && (isOwn(object, []) || isBy(one, object)) && isFor(one, sid, domain, false));
 
 // Whether an ACE gives a right alone that does nothing that counts.
 export const isHarmless = (mask, object) => HARMLESS.includes(object) && (mask & CHANGING) === 0;
@@ -42,59 +57,68 @@ export const isHarmless = (mask, object) => HARMLESS.includes(object) && (mask &
 // What a trustee gets, of the object as a whole first.
 export const partsOf = ({mask, typed}) => [{object: "", mask}, ...typed];
 
-function hasAll(ability, got, whole) {
-    const hasOne = partsOf(got).some(({object, mask}) =>
-        (object === "" || ability.types.includes(object)) && (mask & ability.right) !== 0);
-    return hasOne && ability.types.every((one) => ((whole.get(one) ?? 0) & ability.right) !== 0);
+const isTemplate = ({classes}) => classes.at(-1) === TEMPLATE;
+
+// One of the rights that an ability needs together has to be the trustee's own.
+function hasAll({types, right}, got, where, givesAll) {
+    const hasOne = partsOf(got).some(({object, mask}) => (mask & right) !== 0 &&
+            (types.some((path) => path.includes(object)) || isOwn(object, where.own)));
+    return hasOne && where.hasAccounts && types.every((path) => givesAll(right, path));
 }
 
-// The rights that may give an ability, with their object types. No ability is that of all validated writes, and whoever may write
-// all properties needs none.
-function waysOf(ability, got, classes, own) {
-    const isTemplate = classes.at(-1) === TEMPLATE && ability.right === EXTENDED;
+// The rights that may give an ability, with their object types. What is told of all object types isn't told of each,
+// and whoever may write all properties needs no validated writes.
+function waysOf(ability, got, where) {
+    const isEnrolling = ability.right === EXTENDED && isTemplate(where);
     const writing = ability.right === VALIDATED ? WRITE : 0;
-    const isWhole = ability.types.includes("") ?
-        !isTemplate :
-        writing !== 0 || (isTemplate && ability.on.includes(TEMPLATE));
+    const isWhole = isOfAll(ability) ? !isEnrolling : writing !== 0 || (isEnrolling && ability.on.includes(TEMPLATE));
     return partsOf(got).filter(({object, mask}) => (object !== "" && isBy(ability, object)) ||
-        (isWhole && ((got.mask | mask) & writing) === 0 && isOwn(object, own)));
+            (isWhole && ((got.mask | mask) & writing) === 0 && isOwn(object, where.own)));
 }
 
-// The abilities of a trustee, each once: {rule, mask, object, severity, says}. GOT has its rights, WHOLE those by the object
-// types of WHOLE_TYPES.
-export function abilitiesOf(sid, got, whole, classes, own, hasAccounts, domain) {
+// The abilities of a trustee, each once: {rule, mask, object, types, severity, says}. TYPES are all object types by
+// which it comes. GOT has its rights, and WHERE is the object, {classes, own, hasAccounts}. GIVES is asked about an
+// ability that some ACE gives, GIVES_ALL about one of several rights.
+export function abilitiesOf(sid, got, where, {gives, givesAll}, isTold, domain) {
     const found = new Map();
     for (const ability of ABILITIES) {
-        if (found.has(ability.name) || found.has(ability.unless) || !isFor(ability, sid, domain) || !means(ability, classes)) {
+        if (found.has(ability.name) || found.has(ability.unless) || !isFor(ability, sid, domain, isTold) ||
+            !means(ability, where.classes)) {
             continue;
         }
-        const told = {rule: ability.name, mask: ability.right, object: "", severity: ability.severity, says: ability.says};
+        const told = {
+            rule: ability.name,
+            mask: ability.right,
+            object: "",
+            types: ability.types.flat(),
+            severity: ability.severity,
+            says: ability.says,
+        };
         if (ability.all) {
-            if (hasAccounts && hasAll(ability, got, whole)) {
+            if (hasAll(ability, got, where, givesAll)) {
                 found.set(ability.name, told);
             }
             continue;
         }
-        const way = waysOf(ability, got, classes, own).find(({mask}) => (mask & ability.right) !== 0);
+        const way = waysOf(ability, got, where)
+                        .find(({object, mask}) => (mask & ability.right) !== 0 &&
+                                pathsOf(ability, object).some((path) => gives(ability.right, [...path, object])));
         if (way) {
-            found.set(ability.name, {...told, object: way.object});
+            found.set(ability.name, {...told, object: way.object, types: [way.object]});
         }
     }
     return [...found.values()];
 }
 
 // What a trustee has beside its abilities and the rights that do nothing that counts.
-export function restOf(got, had) {
-    const told = (object) =>
-        had.filter((one) => one.object === object).reduce((mask, one) => mask | one.mask, 0);
+export function restOf(got, had, where) {
+    const told = (object) => had.filter((one) => one.object === object).reduce((mask, one) => mask | one.mask, 0);
+    // For an extended right no other right means anything.
+    const idle = (object) => (HARMLESS.includes(object) ? OF_TYPES : isTemplate(where) ? EXTENDED : 0);
     return {
-        mask: (got.mask & ~told("")) >>> 0,
-        typed: got.typed
-            .map(({object, mask}) => ({
-                object,
-                mask: (mask & ~told(object) & ~(HARMLESS.includes(object) ? EXTENDED : 0)) >>> 0
-            }))
-            .filter(({mask}) => mask !== 0),
+        mask: (got.mask & ~told("") & ~idle("")) >>> 0,
+        typed: got.typed.map(({object, mask}) => ({object, mask: (mask & ~told(object) & ~idle(object)) >>> 0}))
+                   .filter(({mask}) => mask !== 0),
     };
 }
 

@@ -1,6 +1,6 @@
-// Who gets what, and why. Every verdict is an answer of check, and what decided is an answer of reasons, so there is no second
-// access check here.
-import {descriptorOfPieces, guidBytes, maskOfText, sidBytes} from "./library.mjs";
+// Who gets what, and why. Every verdict is an answer of check, and what decided is an answer of reasons, so there is no
+// second access check here.
+import {guidBytes, sidBytes} from "./library.mjs";
 import {everybodyClass, meaningOfSid, tableOf} from "./meanings.mjs";
 
 const DECIDING = ["A", "D", "OA", "OD"];
@@ -39,8 +39,8 @@ function maximumOf(library, descriptor, token, request) {
     return verdict.granted ? verdict.mask : 0;
 }
 
-// What of the asked rights, one by one, is granted. The maximum has the rights of the mapping alone, so others are asked
-// for by themselves.
+// What of the asked rights, one by one, is granted. The maximum has the rights of the mapping alone, so others are
+// asked for by themselves.
 function grantedOf(library, descriptor, token, request, rights) {
     const mask = maximumOf(library, descriptor, token, request);
     const others = (rights & ~(tableOf(request.mapping).mapping[3] | GENERIC | RESERVED | MAXIMUM_ALLOWED)) >>> 0;
@@ -56,8 +56,8 @@ function wordOf(kind, bit) {
     return kind === "label" ? "level" : OF_ACES.includes(kind) ? "ace" : kind;
 }
 
-// What decided about each right, by its place in a mask: {bit, isGranted, kind, by, number}. BY is 'privilege', 'no-privilege',
-// 'level', 'no-dacl', 'owner', 'ace' or 'nothing', and NUMBER that of the ACE, from 1, or null.
+// What decided about each right, by its place in a mask: {bit, isGranted, kind, by, number}. BY is 'privilege',
+// 'no-privilege', 'level', 'no-dacl', 'owner', 'ace' or 'nothing', and NUMBER that of the ACE, from 1, or null.
 export function reasonsOf(library, descriptor, token, request) {
     const [sids, denyOnly] = splitToken(token);
     return library.reasons(descriptor, sids, {denyOnly, ...request}).map(({kind, place}, right) => {
@@ -121,18 +121,14 @@ function namedRights(model) {
 export const tokenOf = (library, sids) => sids.map((sid) => ({sid, bytes: sidBytes(library, sid), denyOnly: false}));
 
 // The rights that the kind of object has, by what check answers to a descriptor that grants everything.
-export const rightsOfMapping = (library, mapping) => maximumOf(library, descriptorOfPieces(library, {
-    owner: null,
-    group: null,
-    dacl: {flags: "NO_ACCESS_CONTROL", aces: []},
-    sacl: null,
-}),
-    [{bytes: sidBytes(library, "WD"), denyOnly: false}], {mapping});
+export const rightsOfMapping = (library, mapping) =>
+    maximumOf(library, library.fromSddl("D:NO_ACCESS_CONTROL"), tokenOf(library, ["WD"]), {mapping});
 
 // Trustees down, rights across. A cell is 'granted', 'rule' (granted whatever the ACEs say: the owner's, or there is
 // no list), 'denied' (by an ACE) or 'none'. Of a list for very many trustees only the first ones and broad groups are
 // asked about, unless ALL of them are wanted.
-export function gridOf(library, descriptor, model, {mapping, object, common, all, rights = rightsOfMapping(library, mapping)}) {
+export function gridOf(
+    library, descriptor, model, {mapping, object, common, all, rights = rightsOfMapping(library, mapping)}) {
     const objectType = guidBytes(library, object);
     const types = typesOf(model, mapping);
     const trustees = trusteesOf(model);
@@ -142,8 +138,9 @@ export function gridOf(library, descriptor, model, {mapping, object, common, all
         const token = tokenOf(library, sids);
         const reasons = reasonsOf(library, descriptor, token, {mapping, objectType});
         const answers = {...decided(reasons, rights), reasons: packed(reasons)};
-        const typed = object ? [] : typedRights(
-            library, descriptor, typesFor(types, sids), token, mapping, answers.granted, namedRights(model));
+        const typed = object ? [] :
+                               typedRights(library, descriptor, typesFor(types, sids), token, mapping, answers.granted,
+                                   namedRights(model));
         return {...row, token: sids, ...answers, typed};
     });
     return {
@@ -158,25 +155,31 @@ export function gridOf(library, descriptor, model, {mapping, object, common, all
 // What a token gets of each object type for which ACEs are, and of the object as a whole.
 export function grantedByType(library, descriptor, types, token, mapping, model) {
     const rights = namedRights(model);
-    return types.map((object) => grantedOf(
-                         library, descriptor, token, {mapping, objectType: guidBytes(library, object)}, rights));
+    return types.map(
+        (object) => grantedOf(library, descriptor, token, {mapping, objectType: guidBytes(library, object)}, rights));
 }
 
-// The object types that ACEs are for, and those for each SID. Without one of them asked for, such an ACE does not apply.
+// The object types that ACEs are for, and those for each SID. Without one of them asked for, such an ACE does not
+// apply.
 export function typesOf(model, mapping) {
     const aces =
         model.dacl.aces.filter((ace) => DECIDING.includes(ace.kind) && ace.object && !ace.flags.includes("IO"));
     const all = mapping === "ds" ? [...new Set(aces.map((ace) => ace.object))] : [];
-    const asked = all.slice(0, MOST_TYPES);
-    const bySid = new Map();
-    for (const {sid, object} of aces.filter((ace) => asked.includes(ace.object))) {
-        bySid.set(sid, (bySid.get(sid) ?? new Set()).add(object));
-    }
-    return {all: asked, bySid, isCut: all.length > MOST_TYPES};
+    const asked = new Set(all.slice(0, MOST_TYPES));
+    return {...typesBySid(aces.filter((ace) => asked.has(ace.object))), isCut: all.length > MOST_TYPES};
 }
 
-// The types to ask about for a token: those of ACEs for one of its SIDs, or for whoever owns the object. About any other type
-// the answer is that about the object as a whole, since no ACE that applies is for it.
+// The object types that ACEs are for, and those for each SID.
+export function typesBySid(aces) {
+    const bySid = new Map();
+    for (const {sid, object} of aces) {
+        bySid.set(sid, (bySid.get(sid) ?? new Set()).add(object));
+    }
+    return {all: [...new Set(aces.map((ace) => ace.object))], bySid};
+}
+
+// The types to ask about for a token: those of ACEs for one of its SIDs, or for whoever owns the object. About any
+// other type the answer is that about the object as a whole, since no ACE that applies is for it.
 export function typesFor(types, sids) {
     const found = new Set([...sids, OWNER_RIGHTS].flatMap((sid) => [...(types.bySid.get(sid) ?? [])]));
     return types.all.filter((object) => found.has(object));
@@ -214,8 +217,8 @@ export const labelOf = ({sacl}) =>
     sacl.aces.find((ace) => ace.kind === "ML" && !ace.flags.includes("IO") && /^S-1-16-\d+$/.test(ace.sid));
 export const levelOfObject = (model) => Number((labelOf(model)?.sid ?? MEDIUM).slice("S-1-16-".length));
 
-// The verdict of check on a token and what is asked for, and the reason of each right that is asked for or granted. RIGHTS are
-// those of the kind of object. Of a kind that has no mapping of its own the reasons say all that is granted.
+// The verdict of check on a token and what is asked for, and the reason of each right that is asked for or granted.
+// RIGHTS are those of the kind of object. Of a kind that has no mapping of its own the reasons say all that is granted.
 export function ask(library, descriptor, token, asked) {
     const {wanted, maximum, mapping, rights: named, isOwn, level, object, self, security, takeOwnership} = asked;
     const request = {
@@ -245,8 +248,7 @@ function meantBy(library, wanted, mapping) {
     if (asked === 0) {
         return 0;
     }
-    const nothing = descriptorOfPieces(library, {owner: null, group: null, dacl: {flags: "", aces: []}, sacl: null});
-    return library.check(nothing, [sidBytes(library, "WD")], {wanted: asked, mapping}).mask >>> 0;
+    return library.check(library.fromSddl("D:"), [sidBytes(library, "WD")], {wanted: asked, mapping}).mask >>> 0;
 }
 
 // What the mask of an ACE means for a kind of object, with generic rights replaced.
@@ -256,4 +258,4 @@ export function meaningOf(library, mask, mapping) {
                                     mask;
 }
 
-export {bitsOf, DECIDING, grantedOf, has, maskOfText};
+export {bitsOf, DECIDING, grantedOf, has};

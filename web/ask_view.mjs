@@ -1,20 +1,20 @@
 // The second view: what a token gets, and what decided about each right.
-import {area, box, button, byId, input, labelled, make, select, show} from "./dom.mjs";
+import {box, button, byId, input, labelled, make, select, show} from "./dom.mjs";
 import {maskText} from "./library.mjs";
 import {reasonKey} from "./look_view.mjs";
-import {faultInWords, rightName, rightsInWords, rightsOf, visible} from "./naming.mjs";
-import {commaed, plainName} from "./parts_view.mjs";
+import {faultInWords, rightName, rightsInWords, rightsOf, shownName, visible} from "./naming.mjs";
+import {commaed, longField, plainName} from "./parts_view.mjs";
+import {MOST_LIST} from "./state.mjs";
 import {valueIn} from "./tables.mjs";
 import {PRIVILEGES} from "./windows.mjs";
 import {say, WORDS} from "./words.mjs";
 
-function tokenButtons(asked, refresh) {
+function tokenButtons(asked, put, refresh) {
     const add = (text) => () => {
-        const token = byId("ask-token");
-        const given = token.value.trim();
+        const given = asked.token.trim();
         // A listing has lines of its own.
-        token.value = given ? `${given.replace(/,$/, "")}${given.includes("\n") ? "\n" : ","}${text}` : text;
-        asked.token = token.value;
+        asked.token = given ? `${given.replace(/,$/, "")}${given.includes("\n") ? "\n" : ","}${text}` : text;
+        put(asked.token);
         refresh();
     };
     return make("p", {class: "adds"}, WORDS.ask.add, " ",
@@ -43,14 +43,13 @@ export function makeAsk(asked, refresh) {
         asked[name] = value;
         refresh();
     };
+    const token =
+        longField("ask-token", asked.token, set("token"), {most: MOST_LIST, "aria-describedby": "ask-token-hint"});
     return [
         make("h2", {id: "ask-heading"}, WORDS.ask.heading),
         make("div", {class: "split"},
-            make("div", {class: "form"},
-                labelled(WORDS.ask.token,
-                    area("ask-token", asked.token, set("token"), {"aria-describedby": "ask-token-hint"}),
-                    WORDS.ask.tokenHint),
-                tokenButtons(asked, refresh), box("ask-exact", WORDS.ask.exact, asked.exact, set("exact")),
+            make("div", {class: "form"}, labelled(WORDS.ask.token, token.field, WORDS.ask.tokenHint), token.note,
+                tokenButtons(asked, token.put, refresh), box("ask-exact", WORDS.ask.exact, asked.exact, set("exact")),
                 box("ask-maximum", WORDS.ask.maximum, asked.maximum, set("maximum")),
                 make("fieldset", {}, make("legend", {}, WORDS.ask.rights),
                     make("div", {id: "ask-rights", class: "boxes"}),
@@ -72,8 +71,9 @@ export function makeAsk(asked, refresh) {
 function levelsFor(chosen) {
     const {"": none, listed, ...levels} = WORDS.ask.levels;
     const all = [["", none], ["listed", listed], ...Object.entries(levels).map(([level, text]) => [` ${level}`, text])];
-    return all.some(([level]) => level === chosen) ? all :
-                                                     [...all, [chosen, say(WORDS.ask.levelOther, {level: chosen.trim()})]];
+    return all.some(([level]) => level === chosen) ?
+        all :
+        [...all, [chosen, say(WORDS.ask.levelOther, {level: chosen.trim()})]];
 }
 
 const faultsOf = (result) => [result.tokenFaults?.length ? say(WORDS.ask.tokenFault, {
@@ -81,7 +81,9 @@ const faultsOf = (result) => [result.tokenFaults?.length ? say(WORDS.ask.tokenFa
         ({text, number, faultName}) => `${visible(text.slice(0, 60))} (error ${number} ${faultName})`))
 }) :
                                                            null,
-    result.listing ? say(valueIn(WORDS.ask.listing, result.listing.why), {what: visible(result.listing.text.slice(0, 200))}) : null,
+    result.listing ?
+        say(valueIn(WORDS.ask.listing, result.listing.why), {what: visible(result.listing.text.slice(0, 200))}) :
+        null,
     result.wantedFault ? WORDS.ask.wantFault : null,
     result.selfFault ? WORDS.ask.selfFault : null,
     result.objectFault ? WORDS.objectFault : null,
@@ -120,7 +122,7 @@ function reasonRow(reason, kind, texts) {
 
 function tokenLine(result, names) {
     const entries = result.entries.slice(0, 40).map((entry) => {
-        const name = entry.name ? visible(entry.name) : plainName(entry.sid, names);
+        const name = entry.name ? shownName(entry.name) : plainName(entry.sid, names);
         return entry.denyOnly ? say(WORDS.ask.denyOnly, {who: name}) : name;
     });
     const more = [
@@ -133,9 +135,9 @@ function tokenLine(result, names) {
 }
 
 // What the answer doesn't say of the real token.
-const beside = ({lacksUser, notes}) => [
-    ...(lacksUser ? [make("p", {class: "fault-name"}, WORDS.ask.lacksUser)] : []),
-    ...notes.map((name) => make("p", {class: "hint"}, say(WORDS.ask.beside, {name, lets: valueIn(PRIVILEGES, name)[1]}))),
+const beside = ({lacksUser, notes}) => [...(lacksUser ? [make("p", {class: "fault-name"}, WORDS.ask.lacksUser)] : []),
+    ...notes.map(
+        (name) => make("p", {class: "hint"}, say(WORDS.ask.beside, {name, lets: valueIn(PRIVILEGES, name)[1]}))),
 ];
 
 // Shows it. Returns what a screen reader says of it.

@@ -4,25 +4,27 @@
 import {listingIn} from "./icacls.mjs";
 import {hexOf} from "./library.mjs";
 import {between, decimalBytes, endOfHex, endOfPairs, endOfQuoted, without} from "./scanning.mjs";
+import {DESCRIPTORS} from "./windows.mjs";
 
-// What is in front of a value: hex(3):01,00,.. of a .reg file, and what reg query prints. A name is looked for in front of
-// what was found: a search that began at each quotation mark would take minutes for a hostile text of 1 MB.
+// What is in front of a value: hex(3):01,00,.. of a .reg file, and what reg query prints. A name is looked for in front
+// of what was found: a search that began at each quotation mark would take minutes for a hostile text of 1 MB.
 const REG_VALUE = /hex(?<=(?:(@|"[^"]*")\s*=\s*)?hex)(?:\([0-9a-f]+\))?:/gi;
 const REG_BINARY = /REG_BINARY(?<=(\S*)[ \t]+REG_BINARY)[ \t]+(?=[0-9a-f])/gi;
 const ATTRIBUTE = /^([A-Za-z][\w;-]*)::/;
+const BEFORE = "(^|[\\s\"',;=:>\\t|`\u201c\u201e\u2018\u00ab])"; // what may come before a descriptor
 const SDDL_START = new RegExp(
-    "(^|[\\s\"',;=:>\\t|`\u201c\u201e\u2018\u00ab])" + // what may come before
-        "(?=[OG]:\\s*(?:S-1-|[A-Za-z]{2})|[DS]:\\s*(?:P|AR|AI|NO_ACCESS|\\(|[OGDS]:|$|\"))",
+    BEFORE + "(?=[OG]:\\s*(?:S-1-|[A-Za-z]{2})|[DS]:\\s*(?:P|AR|AI|NO_ACCESS|\\(|[OGDS]:|$|\"))",
     "im",
 );
 const HEX_SEPARATORS = ",:-\\"; // and blanks
 // What ends a text that begins with a mark: quotation marks, or the next element of XML.
 const ENDS = new Map([
-    ["\"", "\""], ["'", "'"], ["`", "`"], ["\u201c", "\u201d"], ["\u201e", "\u201c"], ["\u2018", "\u2019"], ["\u00ab", "\u00bb"],
-    [">", "<"]
+    ["\"", "\""], ["'", "'"], ["`", "`"], ["\u201c", "\u201d"], ["\u201e", "\u201c"], ["\u2018", "\u2019"],
+    ["\u00ab", "\u00bb"], [">", "<"]
 ]);
 const MOST_LEFT = 1000; // characters of what was left out, of which the page shows fewer
-const ORDER = "OGDS"; // of the parts
+const ORDER = "OGDS";   // of the parts
+const NONE = [];        // classes
 
 // Whatever is left of a text is said, so that nobody takes it for read.
 function leftOut(what, text) {
@@ -34,9 +36,10 @@ const linesOf = (text) => text.split(/\r\n|\r|\n/).filter((line) => line.trim() 
 
 const unfolded = (text) => text.replace(/\r?\n[ \t]/g, "");
 
-// The name of an entry, which is in base64 after two colons; of any other line nothing.
-function nameOfEntry(line) {
-    const [front, colons] = /^dn(::?)/i.exec(line) ?? [];
+// The value of an attribute of an entry, which is in base64 after two colons; of a line that doesn't begin with its
+// name nothing.
+function valueOfEntry(line, pattern) {
+    const [front, colons] = pattern.exec(line) ?? [];
     if (!front) {
         return undefined;
     }
@@ -51,8 +54,31 @@ function nameOfEntry(line) {
     }
 }
 
+// Attributes with a descriptor beside that of the object.
+const BESIDE = new Set(Object.entries(DESCRIPTORS).filter(([, kind]) => kind).map(([name]) => name.toLowerCase()));
+const isBeside = (name) => BESIDE.has(name.toLowerCase());
+
+const nameOfEntry = (line) => valueOfEntry(line, /^dn(::?)/i);
+
+// The classes of each entry of LDIF, by its name. Of entries with the same name none are known.
+function classesIn(text) {
+    const found = new Map();
+    let classes = [];
+    const isLdif = /^dn:/im.test(text);
+    for (const line of isLdif ? unfolded(text).split(/\r?\n/) : []) {
+        const name = nameOfEntry(line);
+        if (name !== undefined) {
+            classes = [];
+            found.set(name, found.has(name) ? [] : classes);
+        }
+        const one = valueOfEntry(line, /^objectClass(::?)/i);
+        classes.push(...(one ? [one] : []));
+    }
+    return found;
+}
+
 // Whether an attribute with this name has a descriptor in base64.
-const hasDescriptor = (name) => name === "ntsecuritydescriptor" ||
+const hasDescriptor = (name) => isBeside(name) || name === "ntsecuritydescriptor" ||
     (name.startsWith("ms") && name.endsWith("securitydescriptor")) || name.includes("sddl") || name.endsWith("sd");
 
 function ofLdif(text) {
@@ -64,7 +90,8 @@ function ofLdif(text) {
         name = nameOfEntry(line) ?? name;
         if (attribute && hasDescriptor(attribute.toLowerCase())) {
             const dropped = [...leftOut("before", [...others, attribute + "::"].join(" ")), ...folds];
-            found.push({name, form: "base64", line: line.slice(front.length).trim(), dropped});
+            const own = isBeside(attribute) ? `${name}: ${attribute}` : name;
+            found.push({name: own, form: "base64", line: line.slice(front.length).trim(), dropped});
             others = [];
         } else {
             others.push(line);
@@ -96,8 +123,12 @@ function ofRegistry(text, front, endOfValue) {
 // How many parentheses a text opens beyond those that it closes.
 const depthOf = (text) => text.split("(").length - text.split(")").length;
 
+// The front of a part at the beginning of a line, and of a word or inside it. D:\Data is a path.
+const FRONT_OF_LINE = /^\s*([OGDS]):(?![\\/])/i;
+const FRONT_OF_WORD = new RegExp(BEFORE + "[OGDS]:(?![\\\\/])", "i");
+
 // The number of a part that begins a line, by the order of the parts, or -1.
-const partAt = (line) => ORDER.indexOf(/^\s*([OGDS]):/i.exec(line)?.[1].toUpperCase() ?? " ");
+const partAt = (line) => ORDER.indexOf(FRONT_OF_LINE.exec(line)?.[1].toUpperCase() ?? " ");
 
 // The number of the last part, by the order of the parts, that a text has; -1 if it has none.
 const lastPart = (text) => [...text.replace(/\([^()]*\)/g, "").matchAll(/([OGDS]):/gi)].reduce(
@@ -116,7 +147,7 @@ function continuationOf(first, lines, from) {
     for (; at < lines.length; at += 1) {
         const line = lines[at];
         const part = partAt(line);
-        const goesOn = SDDL_START.test(line) ?
+        const goesOn = part >= 0 || SDDL_START.test(line) ?
             part > last :
             depth > 0 || /^\s*\([^();]*;/.test(line) || /^\s{2,}\S+$/.test(line);
         if (!goesOn) {
@@ -128,12 +159,41 @@ function continuationOf(first, lines, from) {
     return lines.slice(from, at).map((line) => line.trim());
 }
 
-function ofSddlLine(line) {
+// Where a descriptor begins that was found at a place: fronts of parts in the words before it belong to it, so that the
+// library refuses what can't be read in them.
+function withFronts(line, at) {
+    const own = FRONT_OF_LINE.exec(line);
+    if (own) {
+        return own[0].length - 2;
+    }
+    for (let [start, end] = [at, at];; end = start) {
+        while (end > 0 && isBlank(line[end - 1])) {
+            end -= 1;
+        }
+        let from = end;
+        while (from > 0 && !isBlank(line[from - 1])) {
+            from -= 1;
+        }
+        const front = FRONT_OF_WORD.exec(line.slice(from, end));
+        if (!front) {
+            return start;
+        }
+        start = from + front.index + front[1].length;
+    }
+}
+
+// Whether a line that reads as no descriptor is one all the same: it begins with a part, and has an ACE or a later part
+// behind it.
+const isUnread = (lines, at) => FRONT_OF_LINE.test(lines[at]) &&
+    (/\([A-Za-z]*(?:;|$)/.test(lines[at]) || partAt(lines[at + 1] ?? "") > partAt(lines[at]));
+
+function ofSddlLine(lines, number) {
+    const line = lines[number];
     const found = SDDL_START.exec(line);
-    if (!found) {
+    if (!found && !isUnread(lines, number)) {
         return null;
     }
-    const at = found.index + found[1].length;
+    const at = withFronts(line, found ? found.index + found[1].length : 0);
     const before = line.slice(0, at);
     const dropped = /[^\s"']/.test(before) ? [{what: "before", text: before.trim()}] : [];
     let rest = line.slice(at);
@@ -178,7 +238,7 @@ function ofSddl(text) {
     const found = [];
     let others = [];
     for (let at = 0; at < lines.length; at += 1) {
-        const one = ofSddlLine(lines[at]);
+        const one = ofSddlLine(lines, at);
         if (!one) {
             others.push(lines[at].trim());
             continue;
@@ -190,7 +250,9 @@ function ofSddl(text) {
             at += folded.length;
         }
         // icacls /save writes the name of the object in a line of its own.
-        one.name = pathIn(others) ?? (one.name || (others.at(-1) ?? ""));
+        const path = pathIn(others);
+        one.name = isBeside(one.name) ? [path, one.name].filter(Boolean).join(": ") :
+                                        path ?? (one.name || (others.at(-1) ?? ""));
         one.dropped.unshift(...leftOut("before", others.join(" ")));
         others = [];
         found.push(one);
@@ -262,8 +324,8 @@ function guessed(text) {
     return listing ? [{...listing, form: "sddl", dropped: [{what: "listing"}]}] : found;
 }
 
-// The descriptors in a text, at least one: {name, form, line, dropped}. Of a text in which none is found the whole is
-// taken as SDDL, so that the library says what is wrong with it.
+// The descriptors in a text, at least one: {name, classes, form, line, dropped}. Of a text in which none is found the
+// whole is taken as SDDL, so that the library says what is wrong with it.
 export function descriptorsIn(text, form) {
     const bare = text.replace(/^\uFEFF/, "").replace(/\0/g, "");
     // A text of null characters is no empty descriptor: it stays, and the library refuses it.
@@ -273,8 +335,12 @@ export function descriptorsIn(text, form) {
         [] :
         [...(text.startsWith("\uFEFF") ? [{what: "mark"}] : []), ...(text.includes("\0") ? [{what: "nulls"}] : [])];
     const found = form === "auto" ? guessed(given) : asChosen(given, form);
-    const all =
-        found.length ? found : [{name: "", form: "sddl", line: linesOf(given).join(" "), dropped: []}];
+    const all = found.length ? found : [{name: "", form: "sddl", line: linesOf(given).join(" "), dropped: []}];
     const isListing = !found.length && ICACLS.test(given);
-    return all.map((one) => ({...one, dropped: [...lost, ...one.dropped], isListing}));
+    const classes = classesIn(given);
+    for (const one of all) {
+        Object.assign(one, {classes: classes.get(one.name) ?? NONE, isListing});
+        one.dropped.unshift(...lost);
+    }
+    return all;
 }

@@ -5,7 +5,7 @@ import {kindQuestion} from "./kind_view.mjs";
 import {maskText} from "./library.mjs";
 import {foundText} from "./look_view.mjs";
 import {faultInWords, guidInWords, rightsInWords, whereOf} from "./naming.mjs";
-import {aceRights, commaed, descriptorField, faultBox, formatted, kindClass, who} from "./parts_view.mjs";
+import {aceRights, commaed, faultBox, formatted, kindClass, longField, who} from "./parts_view.mjs";
 import {valueIn} from "./tables.mjs";
 import {say, WORDS} from "./words.mjs";
 
@@ -14,7 +14,7 @@ export function makeCompare(other, refresh) {
         other.text = value;
         refresh();
     };
-    const {field, note} = descriptorField("other-text", other.text, set, {rows: 4});
+    const {field, note} = longField("other-text", other.text, set, {rows: 4});
     return [
         make("h2", {id: "compare-heading"}, WORDS.compare.heading),
         make("div", {class: "form"}, labelled(WORDS.compare.other, field), note),
@@ -23,9 +23,9 @@ export function makeCompare(other, refresh) {
 }
 
 // Without a kind there are no words for rights and flags.
-const rightsAndPlace = (ace, kind) => (kind ?
-        [aceRights(ace, kind), make("span", {class: "where"}, ` ${whereOf(kind, ace)}`)] :
-        make("code", {}, [maskText(ace.mask), ace.object, ace.inherited, ...ace.flags].filter(Boolean).join(" ")));
+const rightsAndPlace = (ace, kind) =>
+    (kind ? [aceRights(ace, kind), make("span", {class: "where"}, ` ${whereOf(kind, ace)}`)] :
+            make("code", {}, [maskText(ace.mask), ace.object, ace.inherited, ...ace.flags].filter(Boolean).join(" ")));
 
 const side = (ace, kind, names) => (ace ?
         [
@@ -37,8 +37,9 @@ const side = (ace, kind, names) => (ace ?
 function aceRow(row, kind, names) {
     const ace = row.one ?? row.other;
     return make("tr", {class: `compared ${row.state} ${kindClass(ace.kind)}`, "data-state": row.state},
-        make("th", {scope: "row"}, make("span", {class: "sign", "aria-hidden": "true"}, valueIn(WORDS.compare.signs, row.state)),
-            " ", valueIn(WORDS.compare.states, row.state)),
+        make("th", {scope: "row"},
+            make("span", {class: "sign", "aria-hidden": "true"}, valueIn(WORDS.compare.signs, row.state)), " ",
+            valueIn(WORDS.compare.states, row.state)),
         make("td", {"data-label": WORDS.compare.columns.one}, side(row.one, kind, names)),
         make("td", {"data-label": WORDS.compare.columns.other}, side(row.other, kind, names)));
 }
@@ -61,9 +62,9 @@ function aceTable(list, rows, kind, names, later) {
 
 function partLines(result, names) {
     const text = (found) => (found ? who(found.sid, found.alias, names) : WORDS.parts.none);
-    const parts = result.parts.filter((part) => !part.isSame).map(({part,
-        one,
-        other}) => make("li", {class: "changed"}, valueIn(WORDS.parts, part), ": ", text(one), " \u2192 ", text(other)));
+    const parts = result.parts.filter((part) => !part.isSame)
+                      .map(({part, one, other}) => make("li", {class: "changed"}, valueIn(WORDS.parts, part), ": ",
+                               text(one), " \u2192 ", text(other)));
     const flags = result.flags.filter((part) => !part.isSame).map(({part,
         one,
         other}) => make("li", {class: "changed"}, say(WORDS.compare.part, {
@@ -85,9 +86,10 @@ function partLines(result, names) {
 }
 
 function difference({gained, lost}, kind) {
-    const words = (name, mask) => (mask === 0 ?
-            null :
-            make("span", {class: name}, say(valueIn(WORDS.compare, name), {rights: commaed(rightsInWords(kind, mask))}), " "));
+    const words = (name, mask) =>
+        (mask === 0 ? null :
+                      make("span", {class: name},
+                          say(valueIn(WORDS.compare, name), {rights: commaed(rightsInWords(kind, mask))}), " "));
     return [words("gained", gained), words("lost", lost)];
 }
 
@@ -95,10 +97,9 @@ function difference({gained, lost}, kind) {
 const typedLine = (typed, kind) => make("li", {"data-object": typed.object}, difference(typed, kind),
     say(WORDS.object, {name: guidInWords(typed.object, typed.gained | typed.lost)}));
 
-const rightsItem = (row, kind, names) =>
-    make("li", {"data-sid": row.sid, "data-gained": row.gained, "data-lost": row.lost},
-        who(row.sid, row.alias, names), " ", difference(row, kind),
-        row.typed.length ? make("ul", {}, row.typed.map((typed) => typedLine(typed, kind))) : null);
+const rightsItem = (row, kind, names) => make("li",
+    {"data-sid": row.sid, "data-gained": row.gained, "data-lost": row.lost}, who(row.sid, row.alias, names), " ",
+    difference(row, kind), row.typed.length ? make("ul", {}, row.typed.map((typed) => typedLine(typed, kind))) : null);
 
 // Whether rights of some trustees were not compared, which is no sign that they are the same.
 const areLeft = ({compared, trustees}) => compared < trustees;
@@ -112,7 +113,7 @@ function rightsSection(result, kind, names, later) {
         (count) => say(WORDS.grid.more, {count}), {later});
     return make("section", {"aria-labelledby": "compare-rights"},
         make("h3", {id: "compare-rights"}, WORDS.compare.rights),
-        result.changed > 0     ? [list, more] :
+        result.changed > 0  ? [list, more] :
             areLeft(result) ? null :
                               make("p", {}, WORDS.compare.rightsNone),
         result.areBelowSame ? null : make("p", {class: "hint"}, WORDS.compare.below),
@@ -139,7 +140,7 @@ export function showCompare(result, {kind, names, onKind}, isOver) {
         () => make("div", {},
             make("p", {class: `verdict ${result.isSame ? "same" : "differs"}`}, make("strong", {}, verdict)),
             make("p", {class: "hint"}, foundText({...result.other, chosen: 0})), partLines(result, names)),
-        (later) => (asksKind ? kindQuestion("compare", asksKind, onKind) : rightsSection(result, kind, names, later)),
+        (later) => (asksKind ? kindQuestion("compare", result, onKind) : rightsSection(result, kind, names, later)),
         (later) => make("div", {}, aceTable("dacl", result.dacl, kind, names, later)),
         (later) => make("div", {}, aceTable("sacl", result.sacl, kind, names, later))
     ];

@@ -1,9 +1,9 @@
 // What differs between two descriptors. Same content means the same canonical layout; rights are answers of check.
 import {DECIDING, grantedByType, isBroad, tokenOf, tokenSids, typesFor, typesOf} from "./access.mjs";
-import {hexOf, piecesOf} from "./library.mjs";
+import {aceText, aclFlags, hexOf} from "./library.mjs";
 
 const MOST_CELLS = 4_000_000; // of the table that finds what two lists have in common
-const MOST_WORK = 4_000_000; // ACEs that all questions together go through
+const MOST_WORK = 4_000_000;  // ACEs that all questions together go through
 const OWNER_RIGHTS = "S-1-3-4";
 
 // The pairs of places of a longest common subsequence of two lists.
@@ -74,7 +74,8 @@ function compareAces(ones, others) {
         right.delete(other);
     }
     const moved = takePairs(left, right, (one) => ones.texts[one], (other) => others.texts[other]);
-    const changed = takePairs(left, right, (one) => trusteeOf(ones.aces[one]), (other) => trusteeOf(others.aces[other]));
+    const changed =
+        takePairs(left, right, (one) => trusteeOf(ones.aces[one]), (other) => trusteeOf(others.aces[other]));
     const row = (state) => ([one, other]) => ({state, one: ones.aces[one] ?? null, other: others.aces[other] ?? null});
     return [
         ...same.map(row("same")),
@@ -87,9 +88,7 @@ function compareAces(ones, others) {
 
 const placeOf = ({one, other}) => (other ?? one).number + (other ? 0 : -0.5);
 
-const listOf = (side, list) => ({texts: side.pieces[list]?.aces ?? [], aces: side.model[list].aces});
-
-const flagsOf = (acl) => (acl === null ? "absent" : acl.flags);
+const listOf = ({model}, list) => ({texts: model[list].aces.map(aceText), aces: model[list].aces});
 
 function trusteesOf(sides) {
     const trustees = new Map();
@@ -118,12 +117,12 @@ function compareTrustee(library, sides, who, types, {mapping, object}) {
     return {sid, alias, ...whole, typed: typed.filter(({gained, lost}) => gained || lost)};
 }
 
-// Groups that nearly everybody is in come first. The others are asked about in their order, as long as the questions are not
-// too many for two descriptors of this length.
+// Groups that nearly everybody is in come first. The others are asked about in their order, as long as the questions
+// are not too many for two descriptors of this length.
 export function compareRights(library, sides, {mapping, object, common}) {
     const types = sides.map(({model}) => typesOf(model, mapping));
-    const trustees = trusteesOf(sides).map(
-        (who) => ({...who, tokens: sides.map(({model}) => tokenSids(who.sid, model, common))}));
+    const trustees =
+        trusteesOf(sides).map((who) => ({...who, tokens: sides.map(({model}) => tokenSids(who.sid, model, common))}));
     const inOrder = [...trustees.filter(({sid}) => isBroad(sid)), ...trustees.filter(({sid}) => !isBroad(sid))];
     const cost = sides.reduce((sum, {model}) => sum + model.dacl.aces.length + 1, 0);
     const rows = new Map();
@@ -146,20 +145,17 @@ export function compareRights(library, sides, {mapping, object, common}) {
 
 // SIDES are two of {descriptor, asked, model}: what is compared, and what the library is asked about.
 export function compare(library, sides) {
-    const both = sides.map((side) => ({...side, pieces: piecesOf(library, side.descriptor)}));
-    const [one, other] = both;
+    const [one, other] = sides;
     const parts = ["owner", "group"].map((part) => ({
         part,
         one: one.model[part],
         other: other.model[part],
         isSame: one.model[part]?.sid === other.model[part]?.sid
     }));
-    const flags = ["dacl", "sacl"].map((part) => ({
-        part,
-        one: flagsOf(one.pieces[part]),
-        other: flagsOf(other.pieces[part]),
-        isSame: flagsOf(one.pieces[part]) === flagsOf(other.pieces[part])
-    }));
+    const flags = ["dacl", "sacl"].map((part) => {
+        const [ones, others] = sides.map(({model}) => aclFlags(library, part, model));
+        return {part, one: ones, other: others, isSame: ones === others};
+    });
     return {
         isSame: hexOf(library.normalize(one.descriptor)) === hexOf(library.normalize(other.descriptor)),
         control: {

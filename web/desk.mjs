@@ -1,48 +1,54 @@
 // The questions of the page, each answered as plain data, so that a worker can send it. Nothing here knows the
 // document.
-import {ask, gridOf, isRefusedRequest, levelOfObject, maskOfText, meaningOf, typesOf} from "./access.mjs";
+import {ask, gridOf, isRefusedRequest, levelOfObject, meaningOf, typesOf} from "./access.mjs";
 import {descriptorsIn} from "./clipboard.mjs";
+import {placeOf as placeOfObject} from "./classes.mjs";
 import {compare, compareRights} from "./comparing.mjs";
 import {placeOf} from "./faults.mjs";
 import {inherit} from "./inheriting.mjs";
-import {descriptorOf, descriptorOfPieces, guidBytes, hexOf, piecesOf, readExplanation, Refusal, sidBytes,
-    sidText} from "./library.mjs";
-import {fitsNoFile, hasObjectTypes, kindIn} from "./kinds.mjs";
-import {hasOwnMapping, heirsOf, inheritedBy, isDirectory, mappingOf, rightsOfKind, withoutGeneric} from "./meanings.mjs";
+import {aceTexts, descriptorOf, guidBytes, hexOf, isFault, maskOfText, modelOf, sidBytes, sidText} from "./library.mjs";
+import {fitsKind, kindByRights, kindIn, kindsOf} from "./kinds.mjs";
+import {
+    hasOwnMapping,
+    heirsOf,
+    inheritedBy,
+    isDirectory,
+    mappingOf,
+    rightsOfKind,
+    withoutGeneric
+} from "./meanings.mjs";
 import {writtenAces} from "./scanning.mjs";
 import {valueIn} from "./tables.mjs";
 import {MOST_SIDS, readToken} from "./tokens.mjs";
 import {warningsOf} from "./warnings.mjs";
 
-const MOST_SHOWN = 20_000; // characters of a descriptor as a whole
+const MOST_SHOWN = 20_000;   // characters of a descriptor as a whole
 const MOST_OF_KIND = 10_000; // characters of a text that tell of the kind of object
 const GENERIC = 0xf0000000;
 
-const plainFault = ({number, faultName, part, otherPart, place}) => ({number, faultName, part, otherPart, place});
+const plainFault = ({number, name, part, otherPart, place}) => ({number, faultName: name, part, otherPart, place});
 
 // Runs what may be refused: {value} or {fault}. Any other error is one of the page itself and goes on.
 function tried(question) {
     try {
         return {value: question()};
     } catch (fault) {
-        if (fault instanceof Refusal) {
+        if (isFault(fault)) {
             return {fault: plainFault(fault)};
         }
         throw fault;
     }
 }
 
-// The domain of the field, as a SID in text and in bytes, or why it is none.
+// The domain of the field, as a SID in text and as an option of the library, or why it is none.
 function domainOf(library, text) {
     const typed = text.trim();
     if (!typed) {
-        return {text: "", bytes: new Uint8Array(0)};
+        return {text: "", option: {}};
     }
-    const found = tried(() => sidText(library, typed));
-    return found.fault ? found : {text: found.value, bytes: sidBytes(library, found.value)};
+    const {value, fault} = tried(() => sidText(library, typed));
+    return fault ? {fault} : {text: value, option: {domain: sidBytes(library, value)}};
 }
-
-const printingUnder = (domain) => (domain.bytes.length ? {domain: domain.bytes} : {});
 
 // What the mask of an ACE means for a kind of object: by the library, or by the table where the library has no mapping.
 const meaningFor = (library, mask, kind) =>
@@ -57,11 +63,8 @@ const withMeanings = (library, model, kind) => {
     return model;
 };
 
-function explained(library, descriptor, domain, kind) {
-    return withMeanings(library, readExplanation(library.explain(descriptor, printingUnder(domain))), kind);
-}
-
-const GENERIC_FIELD = /^\((\w+);(\w*);(\w+);/;
+const explained = (library, descriptor, domain, kind) =>
+    withMeanings(library, modelOf(library, descriptor, domain.option), kind);
 
 // The descriptor that the library is asked about. Where it has no mapping for a kind, generic rights are replaced.
 function asked(library, descriptor, model, kind) {
@@ -69,10 +72,8 @@ function asked(library, descriptor, model, kind) {
     if (!hasOwnMapping(kind) || aces.every((ace) => ace.meaning === ace.mask)) {
         return descriptor;
     }
-    const pieces = piecesOf(library, descriptor);
-    const replaced = pieces.dacl.aces.map((text, at) => text.replace(GENERIC_FIELD,
-        (_, type, flags) => `(${type};${flags};0x${aces[at].meaning.toString(16)};`));
-    return descriptorOfPieces(library, {...pieces, dacl: {...pieces.dacl, aces: replaced}});
+    const parts = library.parts(descriptor);
+    return library.build({...parts, dacl: parts.dacl.aces.map((ace, at) => ({...ace, mask: aces[at].meaning}))});
 }
 
 // A descriptor of a text: what was found in it, and either the descriptor or its fault with the place.
@@ -82,13 +83,14 @@ function read(library, {text, form, chosen}, domain) {
     const about = {
         found: found.length,
         names: found.slice(0, 1000).map(({name}) => name),
+        entry: {name: one.name, classes: one.classes},
         chosen: Math.min(chosen ?? 0, found.length - 1),
         form: one.form,
         line: one.line,
         dropped: one.dropped,
         isListing: one.isListing
     };
-    const {value, fault} = tried(() => descriptorOf(library, one.form, one.line, domain.text));
+    const {value, fault} = tried(() => descriptorOf(library, one.form, one.line, domain.option));
     if (!fault) {
         return {...about, descriptor: value};
     }
@@ -108,6 +110,11 @@ const packedList = ({state, aces}, texts) =>
 
 const isEmpty = (text) => text.trim() === "";
 
+// The place of a directory object: the entry in the text tells it, or a report, a link or the user.
+const placeIn = ({name, classes}, {entry}) => (entry.classes.length ?
+        placeOfObject(entry.name, entry.classes) :
+        placeOfObject(name || entry.name, classes.split(",").map((one) => one.trim()).filter(Boolean)));
+
 function optionsOf(library, state, domain) {
     const object = isDirectory(state.kind) ? state.object.trim().toLowerCase() : "";
     const {fault} = tried(() => guidBytes(library, object));
@@ -119,24 +126,35 @@ function optionsOf(library, state, domain) {
         objectFault: fault ?? null,
         common: state.common,
         all: state.all,
+        place: state.place,
         domain: domain.text
     };
 }
 
 const kindTold = (text) => kindIn(text.slice(0, MOST_OF_KIND));
 
-// The kind that the user has chosen, or that the name of one of several, the text or an object type tells of, or else a folder.
-const kindOf = ({kind, isKindChosen, text}, {found, names, chosen}, model) => (isKindChosen ? kind :
-        kindTold((found > 1 && names[chosen]) || "") ?? kindTold(text) ?? (hasObjectTypes(acesIn(model)) ? "ds" : "folder"));
+// The kind that the user has chosen, or that the name of one of several, the text or the rights tell of, or else a
+// folder; and whether it is certain, or nothing tells it. icacls lists files alone.
+function kindOf({kind, isKindChosen, text}, {found, names, chosen, dropped}, model) {
+    if (isKindChosen || dropped.some(({what}) => what === "listing")) {
+        return {kind: isKindChosen ? kind : "folder", isKindSure: true};
+    }
+    const told = kindTold((found > 1 && names[chosen]) || "") ?? kindTold(text);
+    const byRights = told ?? kindByRights(acesIn(model));
+    return {kind: byRights ?? "folder", isKindOpen: !byRights, isKindSure: (told ?? "folder") !== "folder"};
+}
 
-// Why each view has to ask for the kind, or null: nobody chose it, and a second text tells of another one, or rights fit no file
-// though nothing tells of another kind.
-function whyOpen({kind, isKindChosen}, models, other = "") {
-    if (isKindChosen) {
+// The question for the kind that each view has to ask, or nothing: nobody chose it, and a second text tells of another
+// one, or several kinds have the rights and nothing tells which it is. A path alone may be that of a program.
+function openKind({kind, isKindChosen, isKindOpen, isKindSure}, models, other = "") {
+    const otherKind = kindTold(other);
+    const isOther = !isKindChosen && (otherKind ?? kind) !== kind;
+    if (!isOther && !isKindOpen && (isKindSure || models.every((model) => fitsKind(kind, acesIn(model))))) {
         return null;
     }
-    const isOther = (kindTold(other) ?? kind) !== kind;
-    return isOther ? "texts" : kind === "folder" && models.some((model) => fitsNoFile(acesIn(model))) ? "rights" : null;
+    const told =
+        [isKindOpen ? null : kind, otherKind, ...models.map((model) => kindByRights(acesIn(model)))].filter(Boolean);
+    return {asksKind: isOther ? "texts" : "rights", kinds: [...new Set([...told, ...kindsOf(models.flatMap(acesIn))])]};
 }
 
 // A question about a text: about the descriptor in it, what that says, and its kind.
@@ -152,23 +170,26 @@ function about(library, given, question) {
     if (found.fault) {
         return {...found, descriptorFault: found.fault};
     }
-    const model = readExplanation(library.explain(descriptor, printingUnder(domain)));
-    const state = {...given, kind: kindOf(given, found, model)};
-    return {kind: state.kind, ...question({state, descriptor, found, model: withMeanings(library, model, state.kind), domain})};
+    const model = modelOf(library, descriptor, domain.option);
+    const state = {...given, ...kindOf(given, found, model), place: placeIn(given, found)};
+    return {
+        kind: state.kind,
+        ...question({state, descriptor, found, model: withMeanings(library, model, state.kind), domain})
+    };
 }
 
 // Everything that the first view shows of a text.
 const look = (library, given) => about(library, given, ({state, descriptor, found, model, domain}) => {
-    const asksKind = whyOpen(state, [model]);
-    if (asksKind) {
-        return {...found, asksKind};
+    const open = openKind(state, [model]);
+    if (open) {
+        return {...found, ...open};
     }
     const options = optionsOf(library, state, domain);
     const question = asked(library, descriptor, model, state.kind);
     const grid = gridOf(library, question, model, options);
-    const sddl = library.toSddl(descriptor, printingUnder(domain));
+    const sddl = library.toSddl(descriptor, domain.option);
     const warnings = warningsOf(library, question, model, grid, options);
-    const {dacl, sacl} = acesOf(sddl);
+    const {dacl, sacl} = writtenIn(library, model, domain);
     return {
         ...found,
         model: {...model, dacl: packedList(model.dacl, dacl), sacl: packedList(model.sacl, sacl)},
@@ -182,15 +203,9 @@ const look = (library, given) => about(library, given, ({state, descriptor, foun
     };
 });
 
-// The texts of the ACEs of each list, in printed SDDL, in which a parenthesis is that of an ACE.
-function acesOf(sddl) {
-    const lists = {dacl: [], sacl: []};
-    for (const part of sddl.match(/[DS]:[A-Z_]*(?:\([^()]*\))+/g) ?? []) {
-        lists[part[0] === "D" ? "dacl" : "sacl"] =
-            part.slice(part.indexOf("(") + 1, -1).split(")(").map((ace) => `(${ace})`);
-    }
-    return lists;
-}
+// The texts of the ACEs of each list.
+const writtenIn = (library, {dacl, sacl}, domain) =>
+    ({dacl: aceTexts(library, dacl.aces, domain.text), sacl: aceTexts(library, sacl.aces, domain.text)});
 
 // What is asked for, read by the library: names of rights, or a number.
 function wantedOf(library, asked, kind) {
@@ -229,9 +244,9 @@ function askAbout(library, {state: given, asked: question}) {
         if (refused || limit || token.entries.length === 0) {
             return {...told, refused, isTooMany: limit, isNobody: token.entries.length === 0};
         }
-        const asksKind = whyOpen(state, [model]);
-        if (asksKind) {
-            return {asksKind};
+        const open = openKind(state, [model]);
+        if (open) {
+            return open;
         }
         const level = levelOf(question.level, token.level);
         const isOwn = hasOwnMapping(state.kind);
@@ -262,33 +277,33 @@ function askAbout(library, {state: given, asked: question}) {
 }
 
 // Whether a new object would get a generic right of an ACE, which then means the rights of its kind.
-const hasGeneric = (from, mustGoOn) => Boolean(from) && [from.model.dacl, from.model.sacl].some(({aces}) => aces.some(
-    ({mask, flags}) => (mask & GENERIC) !== 0 && (!mustGoOn || flags.includes("OI") || flags.includes("CI"))));
+const hasGeneric = (from, mustGoOn) => Boolean(from) &&
+    [from.model.dacl, from.model.sacl].some(({aces}) => aces.some(({mask, flags}) => (mask & GENERIC) !== 0 &&
+                                                    (!mustGoOn || flags.includes("OI") || flags.includes("CI"))));
 
 function inheritFrom(library, {state: given, made}) {
     return about(library, given, ({state, descriptor: parent, model, domain}) => {
         const sid = (text) => tried(() => sidBytes(library, text.trim(), domain.text));
         const [owner, group] = [sid(made.owner), sid(made.group)];
         const creator =
-            isEmpty(made.creator) ? {} : tried(() => descriptorOf(library, "sddl", made.creator.trim(), domain.text));
+            isEmpty(made.creator) ? {} : tried(() => descriptorOf(library, "sddl", made.creator.trim(), domain.option));
         if (owner.fault || group.fault || creator.fault) {
             const creatorPlace = creator.fault && placeOf(library, "sddl", made.creator.trim(), creator.fault);
             return {ownerFault: owner.fault, groupFault: group.fault, creatorFault: creator.fault, creatorPlace};
         }
-        const printing = printingUnder(domain);
         const above = (descriptor, model = explained(library, descriptor, domain, state.kind)) =>
-            ({model, written: acesOf(library.toSddl(descriptor, printing))});
+            ({model, written: writtenIn(library, model, domain)});
         const from = {parent: above(parent, model), ...(creator.value ? {creator: above(creator.value)} : {})};
-        const asksKind = whyOpen(state, Object.values(from).map((one) => one.model), made.creator);
-        if (asksKind) {
-            return {asksKind};
+        const open = openKind(state, Object.values(from).map((one) => one.model), made.creator);
+        if (open) {
+            return open;
         }
         const heirs = heirsOf(state.kind);
         if (!heirs.includes(made.kind)) {
             return {hasNoHeirs: true};
         }
         const mapping = mappingOf(state.kind);
-        const object = derived(() => inherit(library, {
+        const object = tried(() => inherit(library, {
             parent,
             creator: creator.value ?? null,
             owner: owner.value,
@@ -296,7 +311,7 @@ function inheritFrom(library, {state: given, made}) {
             kind: made.kind,
             heirs,
             mapping,
-            printing
+            printing: domain.option
         }));
         if (object.fault) {
             return object;
@@ -306,7 +321,7 @@ function inheritFrom(library, {state: given, made}) {
         }
         const passed = (who) => from[who] && passedOn(from[who], object.value.sources, who);
         return {
-            object: madeNode(library, object.value, from, state.kind),
+            object: madeNode(library, object.value, from, state.kind, domain),
             parent: passed("parent"),
             creator: passed("creator")
         };
@@ -320,16 +335,16 @@ function inLists(itemsOf) {
 }
 
 // What the page shows of a new object: its ACEs, each with the one that it came from, and the objects below.
-function madeNode(library, node, from, kind) {
+function madeNode(library, node, from, kind, domain) {
     const model = withMeanings(library, node.model, kind);
-    const written = acesOf(node.sddl);
+    const written = writtenIn(library, model, domain);
     const sourceOf = (list, at) => {
         const source = node.sources[list][at];
         return {...source, text: from[source.who].written[list][source.number - 1]};
     };
-    const lists = inLists((list) => model[list].aces.map(
-                              (ace, at) => ({ace, text: written[list][at], source: sourceOf(list, at)})));
-    const children = node.children.map((child) => madeNode(library, child, {parent: {written}}, kind));
+    const lists = inLists(
+        (list) => model[list].aces.map((ace, at) => ({ace, text: written[list][at], source: sourceOf(list, at)})));
+    const children = node.children.map((child) => madeNode(library, child, {parent: {written}}, kind, domain));
     return {
         ...lists,
         kind: node.kind,
@@ -346,18 +361,6 @@ const passedOn = ({model, written}, sources, who) => inLists((list) => {
     return model[list].aces.map((ace, at) => ({ace, text: written[list][at], isPassed: numbers.has(ace.number)}));
 });
 
-// A list that would be too large is refused by the library's own fault.
-function derived(question) {
-    try {
-        return {value: question()};
-    } catch (fault) {
-        if (fault.number === 40) {
-            return {fault: {number: fault.number, faultName: fault.name, part: fault.part}};
-        }
-        throw fault;
-    }
-}
-
 function compareWith(library, {state: given, other}) {
     return about(library, given, ({state, descriptor, model, domain}) => {
         if (isEmpty(other.text)) {
@@ -373,7 +376,7 @@ function compareWith(library, {state: given, other}) {
         const found = compare(library, sides);
         const shown = {
             ...found,
-            asksKind: whyOpen(state, [model, otherModel], other.text),
+            ...openKind(state, [model, otherModel], other.text),
             other: {line: second.line, dropped: second.dropped, found: second.found, form: second.form},
             areBelowSame: !found.dacl.some((row) => isBelow(row, inheritedBy(state.kind))),
             ...inLists((list) => found[list]),
@@ -383,12 +386,7 @@ function compareWith(library, {state: given, other}) {
         }
         const rights = compareRights(library, sides, optionsOf(library, state, domain));
         const changed = rights.rights.filter((row) => row.gained || row.lost || row.typed.length);
-        return {
-            ...shown,
-            ...rights,
-            rights: packed(changed),
-            changed: changed.length
-        };
+        return {...shown, ...rights, rights: packed(changed), changed: changed.length};
     });
 }
 

@@ -1,6 +1,8 @@
 // Elements. Whatever a text holds, it becomes a text node: there is no way here to make markup of it.
 
+import {MOST_WORD} from "./state.mjs";
 import {valueIn} from "./tables.mjs";
+import {say, WORDS} from "./words.mjs";
 
 const SVG_FREE = /^(?:on|style$|src|href$|srcdoc$)/i; // attributes that could run or load something
 
@@ -47,20 +49,29 @@ export function labelled(text, control, hint) {
 // OPTIONS is an object of texts by their values, or a list of both.
 export function select(id, options, value, onchange) {
     const list = make("select", {id, onchange: (event) => onchange(event.target.value)},
-        (Array.isArray(options) ? options : Object.entries(options)).map(([key, text]) => make("option", {value: key}, text)));
+        (Array.isArray(options) ? options : Object.entries(options)).map(([key,
+            text]) => make("option", {value: key}, text)));
     list.value = value;
     return list;
 }
 
-export function input(id, value, oninput, attributes = {}) {
-    const field = make("input", {
-        id,
-        type: "text",
-        autocomplete: "off",
-        spellcheck: "false",
-        ...attributes,
-        oninput: (event) => oninput(event.target.value)
-    });
+// What is said of a text that a field doesn't take.
+export const tooLong = (text, most) => (text.length > most ? say(WORDS.tooLong, {count: text.length, most}) : "");
+
+// A field of one line. A text that is too long for it is not taken.
+export function input(id, value, oninput, {most = MOST_WORD, ...attributes} = {}) {
+    const note = `${id}-long`;
+    const type = () => {
+        const said = tooLong(field.value, most);
+        byId(note)?.remove();
+        if (said) {
+            field.value = "";
+            field.after(make("small", {id: note, class: "fault-name", role: "alert"}, said));
+        }
+        oninput(field.value);
+    };
+    const field =
+        make("input", {id, type: "text", autocomplete: "off", spellcheck: "false", ...attributes, oninput: type});
     field.value = value;
     return field;
 }
@@ -158,14 +169,16 @@ export function moveByArrows(table) {
         const row = rows.findIndex((all) => all.includes(document.activeElement));
         const column = row < 0 ? -1 : rows[row].indexOf(document.activeElement);
         const last = row < 0 ? 0 : rows[row].length - 1;
-        const target = row < 0 ? null : valueIn({
-            ArrowRight: rows[row][Math.min(last, column + 1)],
-            ArrowLeft: rows[row][Math.max(0, column - 1)],
-            ArrowDown: rows[Math.min(rows.length - 1, row + 1)][column],
-            ArrowUp: rows[Math.max(0, row - 1)][column],
-            Home: rows[row][0],
-            End: rows[row][last],
-        }, event.key);
+        const target = row < 0 ? null :
+                                 valueIn({
+                                     ArrowRight: rows[row][Math.min(last, column + 1)],
+                                     ArrowLeft: rows[row][Math.max(0, column - 1)],
+                                     ArrowDown: rows[Math.min(rows.length - 1, row + 1)][column],
+                                     ArrowUp: rows[Math.max(0, row - 1)][column],
+                                     Home: rows[row][0],
+                                     End: rows[row][last],
+                                 },
+                                     event.key);
         if (target) {
             event.preventDefault();
             focus(target);

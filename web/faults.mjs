@@ -6,11 +6,23 @@ import {valueIn} from "./tables.mjs";
 
 // The page's words for fields of a text and of bytes, by the library's names.
 const IN_TEXT = {
-    kind: "kind", flags: "flags", rights: "rights", sid: "sid", "object type": "object",
+    kind: "kind",
+    flags: "flags",
+    rights: "rights",
+    sid: "sid",
+    "object type": "object",
     "inherited object type": "inherited"
 };
-const IN_BYTES = {kind: "type", flags: "aclFlags", size: "size", sid: "sid"};
-const OTHERS = {hex: /[^0-9a-f]/iu, base64: /[^A-Za-z0-9+/=]/u};
+const IN_BYTES = {
+    kind: "type",
+    flags: "aclFlags",
+    size: "size",
+    sid: "sid"
+};
+const OTHERS = {
+    hex: /[^0-9a-f]/iu,
+    base64: /[^A-Za-z0-9+/=]/u
+};
 const LAST_OF_SPELLING = 4; // the numbers of faults up to it are about how bytes are spelled
 const [NO_SHAPE, TWICE, NO_KIND] = [20, 21, 29];
 

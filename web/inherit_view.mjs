@@ -1,8 +1,8 @@
 // The third view: what a new file or folder gets, with an arrow from each ACE to the one that it came from.
 import {linesOf} from "./desk.mjs";
 import {afterwards, byId, input, labelled, make, select, show, showParts, someRows} from "./dom.mjs";
-import {faultInWords, whereOf} from "./naming.mjs";
-import {aceRights, descriptorField, faultBox, kindClass, shortened, who} from "./parts_view.mjs";
+import {faultInWords, shortened, whereOf} from "./naming.mjs";
+import {aceRights, faultBox, kindClass, longField, who} from "./parts_view.mjs";
 import {valueIn} from "./tables.mjs";
 import {say, WORDS} from "./words.mjs";
 
@@ -15,7 +15,7 @@ export function makeInherit(made, refresh) {
         refresh();
     };
     const {inherit} = WORDS;
-    const {field, note} = descriptorField("made-creator", made.creator, set("creator"), {rows: 2});
+    const {field, note} = longField("made-creator", made.creator, set("creator"), {rows: 2});
     return [
         make("h2", {id: "inherit-heading"}, inherit.heading),
         make("div", {class: "form"},
@@ -65,8 +65,9 @@ function nodeView(node, title, kind, names, level, later) {
         aceLists(node, (item) => madeItem(item, childKind, names), later));
     for (const child of node.children) {
         const title = say(WORDS.inherit.below, {kind: valueIn(calledOf(kind), child.kind)});
-        afterwards(later, () => section.append(make("details", {open: level < 1}, make("summary", {}, title),
-            nodeView(child, title, kind, names, level + 1, later))));
+        afterwards(later,
+            () => section.append(make("details", {open: level < 1}, make("summary", {}, title),
+                nodeView(child, title, kind, names, level + 1, later))));
     }
     return section;
 }
@@ -89,9 +90,9 @@ export function showInherit(result, {kind, names, made}, isOver) {
         faults.push(
             make("p", {class: "fault-name"}, inherit.creator), faultBox(result.creatorFault, result.creatorPlace));
     }
-    const why = result.fault ? faultInWords(result.fault) :
+    const why = result.fault    ? faultInWords(result.fault) :
         result.isMappingUnknown ? inherit.mappingUnknown :
-        result.hasNoHeirs && inherit.noHeirs;
+                                  result.hasNoHeirs && inherit.noHeirs;
     if (why) {
         faults.push(make("p", {class: "fault-name"}, why));
     }
@@ -105,11 +106,14 @@ export function showInherit(result, {kind, names, made}, isOver) {
     const flow = make("div", {class: "flow"});
     show(place, flow);
     const count = object.count + parent.count + (creator?.count ?? 0);
-    const shown = showParts(flow, count, [
-        (later) => make("div", {}, parentView(say(inherit.parent, {parent: called.container}), parent, kind, names, later),
-            creator && parentView(inherit.theCreator, creator, kind, names, later)),
-        (later) => nodeView(object, title, kind, names, 0, later)
-    ], isOver);
+    const shown = showParts(flow, count,
+        [
+            (later) =>
+                make("div", {}, parentView(say(inherit.parent, {parent: called.container}), parent, kind, names, later),
+                    creator && parentView(inherit.theCreator, creator, kind, names, later)),
+            (later) => nodeView(object, title, kind, names, 0, later)
+        ],
+        isOver);
     const {length} = linesOf(object.dacl);
     return [`${title}: ${length === 1 ? WORDS.parts.one : say(WORDS.parts.list, {count: length})}`, shown];
 }

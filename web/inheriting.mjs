@@ -1,5 +1,5 @@
 // What a new file or folder gets, and where each of its ACEs comes from: the answers of derive and of origins.
-import {readExplanation} from "./library.mjs";
+import {modelOf} from "./library.mjs";
 
 const LEVELS_BELOW = 2;
 
@@ -16,7 +16,7 @@ function objectOf(library, parent, {owner, group, mapping, printing}, kind, crea
         descriptor,
         sources: {dacl: sourcesOf(dacl), sacl: sourcesOf(sacl)},
         sddl: library.toSddl(descriptor, printing),
-        model: readExplanation(library.explain(descriptor, printing)),
+        model: modelOf(library, descriptor, printing),
     };
 }
 

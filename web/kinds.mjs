@@ -1,33 +1,30 @@
-// The kind of object that a pasted text tells of, where it shows: by what stands around the descriptor, or by rights and
-// object types that only one kind has.
+// The kind of object that a pasted text tells of, where it shows: by what stands around the descriptor, or by rights
+// and object types that only one kind has.
+import {isDirectory, tableOf} from "./meanings.mjs";
+import {DESCRIPTORS, HINTS, KINDS} from "./windows.mjs";
 
 const SYNCHRONIZE = 0x100000;
-const GENERIC = 0xf0000000;
-const WRITING = 0x2 | 0x4 | 0x10 | 0x40 | 0x100; // what a file calls writing and deleting
-const DECIDING = ["A", "D", "OA", "OD"];
+const SPECIFIC = 0xffff;   // the rights that each kind has its own of
+const OF_ALL = 0xf30f0000; // generic and standard ones, and two that a token alone has
+const INHERITS = ["OI", "CI", "ID"];
 
-const OF_A_VALUE = /"(?:Security|SD)"\s?=|\b(?:Security|SD)[ \t]{1,40}REG_BINARY\b/i;
-// The first that fits counts. A registry value that has the descriptor of something else comes before the key: below some keys
-// only a value with one of two names is that.
-const AROUND = [
-    [/^[ \t]*(?:dn::?[ \t]*)?CN=[^,\n]+,CN=Certificate Templates,/im, "template"],
-    [/^[ \t]*dn::?\s|^(?:CN|OU|DC)=[^,\n]+,(?:CN|OU|DC)=|\bnTSecurityDescriptor\b|\bDistinguishedName\b/im, "ds"],
-    [/\bchannelAccess\s*:|\bCustomSD\b/i, "log"],
-    [/\\Services\\[^\\\]\n]+\\Security\b/i, "service"],
-    [/\\(?:LanmanServer\\)?Shares\\Security\b/i, "share"],
-    [/\\ServiceGroupOrder\\Security\b/i, "service-manager"],
-    [/\b(?:Default|Machine)?(?:Launch|Access)(?:Permission|Restriction)\b/i, "com"],
-    [/\bServerSecurityDescriptor\b/i, "print-server"],
-    [/\bPermissionSDDL\b/i, "printer"],
-    [/<RegistrationInfo>/i, "task"],
-    [/\\Print\\Printers\\/i, "printer", OF_A_VALUE],
-    [/\\CertSvc\\Configuration\\/i, "authority", OF_A_VALUE],
-    [/\\TaskCache\\Tree\\/i, "task", OF_A_VALUE],
-    [/\bRegistry::|\bHK(?:LM|CU|CR|U|CC)\b:?\\|\bHKEY_[A-Z_]+\\|(?:^|")(?:MACHINE|USERS|CLASSES_ROOT)\\/im, "key"],
-    [/\\\\(?:\.|[\w.-]+)\\pipe\\|^\\?pipe\\/im, "pipe"],
-    [/\broot\\(?:cimv2|default|subscription|wmi|standardcimv2|directory)\b/i, "wmi"],
-    [/\bFileSystem::|(?:^|[\s"'=])[A-Za-z]:\\(?!\w+:)|(?:^|[\s"'=])\\\\[\w.-]+\\[^\\\s]/m, "folder"],
-];
+const anyOf = (names) => `(?:${names.join("|")})`;
+const word = (names) => `\\b${anyOf(names)}\\b`;
+const ofValue = (names) => `"${anyOf(names)}"\\s?=|\\b${anyOf(names)}(?: |\\t){1,40}REG_BINARY\\b`;
+
+// What a text has to have by a row of the table: for some keys the name of a value too.
+function patternsOf({property, key, value, name, before, text}) {
+    if (key) {
+        return value ? [`\\\\${key}`, ofValue(value)] : [`\\\\${key}\\b`];
+    }
+    return [text ?? (name ? `${before}(?:${name})` : word(property ?? value))];
+}
+
+// The first that fits counts. Attributes with a descriptor of their own come before what tells of the object.
+const ATTRIBUTES =
+    Object.entries(DESCRIPTORS).filter(([, kind]) => kind).map(([name, kind]) => ({kind, property: [name]}));
+export const AROUND = [...ATTRIBUTES, ...HINTS].map(
+    ({kind, ...hint}) => ({kind, patterns: patternsOf(hint).map((pattern) => new RegExp(pattern, "im"))}));
 const OF_A_KEY = /\([A-Z]+;[A-Z]*;(?:[A-Z]{2})*?K[ARWX](?:[A-Z]{2})*;/;
 const OF_A_DIRECTORY =
     /\(O[ADU];|\([A-Z]+;[A-Z]*;\w*;[0-9a-f]{8}-[0-9a-f]{4}-|\([A-Z]+;[A-Z]*;\w*;;[0-9a-f]{8}-[0-9a-f]{4}-/i;
@@ -45,9 +42,9 @@ export function kindIn(text) {
     if (OF_A_SERVICE.test(text)) {
         return "service";
     }
-    const around = AROUND.find(([pattern, , also]) => pattern.test(text) && (also?.test(text) ?? true));
+    const around = AROUND.find(({patterns}) => patterns.every((pattern) => pattern.test(text)));
     if (around) {
-        return around[1];
+        return around.kind;
     }
     if (OF_A_DIRECTORY.test(text)) {
         return "ds";
@@ -55,13 +52,66 @@ export function kindIn(text) {
     return OF_A_KEY.test(text) ? "key" : null;
 }
 
-// Whether some ACE can be for an object type, which only ACEs of directory objects are.
-export const hasObjectTypes = (aces) => aces.some(({kind}) => kind[0] === "O");
+// The ACEs whose masks tell of a kind: those that decide, or else those that audit.
+function tellingOf(aces) {
+    const masked = aces.filter(({kind, mask}) => kind !== "ML" && mask !== 0);
+    const deciding = masked.filter(({kind}) => !/U$/.test(kind));
+    return deciding.length ? deciding : masked;
+}
 
-// Whether the rights fit no file: some ACE would let somebody write, and none has SYNCHRONIZE, which Windows gives to
-// everybody who may do anything with a file.
-export function fitsNoFile(aces) {
-    const deciding = aces.filter(({kind, mask}) => DECIDING.includes(kind) && mask !== 0);
-    return hasObjectTypes(aces) || (deciding.some(({mask}) => (mask & WRITING) !== 0) &&
-        deciding.every(({mask}) => (mask & (SYNCHRONIZE | GENERIC)) === 0));
+const isTyped = ({kind}) => kind[0] === "O";
+
+const some = (aces, bits) => aces.some(({mask}) => (mask & bits) !== 0);
+
+// Every mask that the table has for a kind and for what inherits from it.
+const masksOf =
+    ({mapping, below, masks}) => [...mapping, ...below.flatMap(([, more]) => more), ...masks.map(([mask]) => mask)];
+
+// Whether a kind has all rights of ACEs. Only those of directory objects, of which an authority has one, have object
+// types.
+function hasRights(kind, aces) {
+    if (aces.some(isTyped)) {
+        return isDirectory(kind) || kind === "authority";
+    }
+    const known = [...masksOf(tableOf(kind)), ...tableOf(kind).rights.map(([bit]) => bit & SPECIFIC)];
+    return !some(tellingOf(aces), ~known.reduce((all, mask) => all | mask, OF_ALL));
+}
+
+// Whether ACEs can be those of a kind. Windows gives SYNCHRONIZE to everybody who may do anything with a file.
+export function fitsKind(kind, aces) {
+    const telling = tellingOf(aces);
+    const isFile = tableOf(kind).library === "file";
+    return hasRights(kind, aces) && !(isFile && some(telling, SPECIFIC) && !some(telling, SYNCHRONIZE));
+}
+
+// The kinds that have all rights of the ACEs, the likely ones first: those of which more masks are usual, from which
+// something inherits where ACEs do, that have no object types, and whose rights have no SYNCHRONIZE where the ACEs lack
+// it.
+export function kindsOf(aces) {
+    const telling = tellingOf(aces);
+    const inherits = telling.some(({flags}) => INHERITS.some((flag) => flags.includes(flag)));
+    const lacksSynchronize = some(telling, SPECIFIC) && !some(telling, SYNCHRONIZE);
+    const rank = (kind) => {
+        const {mapping, inherits: by} = tableOf(kind);
+        const isOdd = isDirectory(kind) || (inherits && !by) || (lacksSynchronize && (mapping[3] & SYNCHRONIZE) !== 0);
+        const usual = masksOf(tableOf(kind));
+        return telling.filter(({mask}) => usual.includes(mask)).length - (isOdd ? telling.length + 1 : 0);
+    };
+    const all = Object.keys(KINDS).filter((kind) => !tableOf(kind).rule);
+    const fitting = all.filter((kind) => hasRights(kind, aces)).map((kind) => [rank(kind), kind]);
+    return fitting.length ? fitting.sort(([one], [other]) => other - one).map(([, kind]) => kind) : all;
+}
+
+// The kind that the rights of ACEs tell of, or null where several kinds have them. Without rights there is nothing that
+// a kind would give another meaning.
+export function kindByRights(aces) {
+    if (aces.some(isTyped)) {
+        return "ds";
+    }
+    const telling = tellingOf(aces);
+    if (!telling.length || (some(telling, SYNCHRONIZE) && fitsKind("folder", aces))) {
+        return "folder";
+    }
+    const kinds = kindsOf(aces);
+    return kinds.length === 1 ? kinds[0] : null;
 }

@@ -1,23 +1,19 @@
-// What this page asks of the proved calls, and the texts that they answer, taken apart. No rule about descriptors is
-// here: a text that the calls refuse is a fault, and whatever is read out of an answer has the shape that
-// docs/FORMAT.md gives it.
+// What this page asks of the library, and what descriptors say as the views have it. No rule about descriptors is here:
+// what the library refuses is a fault.
+import {Fault} from "../javascript/sdtool.mjs";
 
 const FORMS = ["hex", "base64", "sddl"];
 const ENCODER = new TextEncoder();
 const DECODER = new TextDecoder();
-const OWNER_AT = 20; // where the owner is in the canonical layout of a descriptor with nothing else
+// The names of SDDL for types and flags of ACEs, and the codes of control bits, each by its place.
+const KINDS = ["A", "D", "AU", , , "OA", "OD", "OU"];
+KINDS[0x11] = "ML";
+const FLAGS = ["OI", "CI", "NP", "IO", "ID", , "SA", "FA"];
+const CODES = ["OD", "GD", "DP", "DD", "SP", "SD", , , "DC", "SC", "DI", "SI", "PD", "PS", "RM", "SR"];
+const OF_GUID = [3, 2, 1, 0, 5, 4, 7, 6, 8, 9, 10, 11, 12, 13, 14, 15]; // a GUID's text begins with three numbers
 
-// A refusal in the words of an error line: 'error 12 ace-type dacl'; of SDDL with the library's place.
-export class Refusal extends Error {
-    constructor(line, place = null) {
-        super(line);
-        const [, number, name, part, otherPart] = line.split(" ");
-        Object.assign(
-            this, {number: Number(number), faultName: name, part: part ?? null, otherPart: otherPart ?? null, place});
-    }
-}
-
-const refusalIn = (line) => (line.startsWith("error ") ? new Refusal(line) : null);
+// Whether an error is a fault of what was given. Any other one is of the page itself.
+export const isFault = (error) => typeof error.line === "string";
 
 // The value of each hex digit, by its number as a character.
 const DIGITS = Uint8Array.from({length: 128}, (_, code) => parseInt(String.fromCharCode(code), 16) || 0);
@@ -41,31 +37,36 @@ export function hexOf(bytes) {
 
 export const maskText = (mask) => "0x" + (mask >>> 0).toString(16).padStart(8, "0");
 
+// The answers of the program to lines, each with its LF.
+function answersTo(library, words, lines) {
+    const {status, output, message} = library.run(words, ENCODER.encode(lines));
+    if (status > 1) {
+        throw new RangeError(message.trim());
+    }
+    return DECODER.decode(output);
+}
+
 // The answer of the program to one line. A line that holds an LF would be two, so it is refused here.
 export function answerTo(library, words, line) {
     if (line.includes("\n")) {
         throw new RangeError("one line is asked for");
     }
-    const {status, output, message} = library.run(words, ENCODER.encode(line + "\n"));
-    if (status > 1) {
-        throw new RangeError(message.trim());
-    }
-    return DECODER.decode(output).replace(/\n$/, "");
+    return answersTo(library, words, line + "\n").replace(/\n$/, "");
 }
 
-// The descriptor of a line, in its canonical layout. An empty line of SDDL is the descriptor without parts, and one of another
-// form is too short: the program passes over it.
-export function descriptorOf(library, form, line, domain) {
+// The descriptor of a line, in its canonical layout. An empty line of SDDL is the descriptor without parts, and one of
+// another form is too short: the program passes over it.
+export function descriptorOf(library, form, line, options = {}) {
     if (form === "sddl") {
-        return descriptorOfSddl(library, line, domain ? sidBytes(library, domain) : undefined);
+        return library.fromSddl(line, options);
     }
     if (!FORMS.includes(form)) {
         throw new RangeError("no such form");
     }
-    const answer = answerTo(library, ["convert", "--from", form, "--to", "hex"], line);
-    const refusal = refusalIn(answer || "error 5 short");
-    if (refusal) {
-        throw refusal;
+    const answer = answerTo(library, ["convert", "--from", form, "--to", "hex"], line) || "error 5 short";
+    if (answer.startsWith("error ")) {
+        const [, number, ...more] = answer.split(" ");
+        throw new Fault(Number(number), ...more);
     }
     return bytesOfHex(answer);
 }
@@ -75,155 +76,109 @@ export function placeOfBytes(library, bytes) {
     try {
         library.normalize(bytes);
     } catch (fault) {
-        if (typeof fault.number !== "number") {
-            throw fault;
+        if (isFault(fault)) {
+            return fault.place;
         }
-        return fault.place;
+        throw fault;
     }
     return null;
 }
 
-function descriptorOfSddl(library, text, domain) {
-    try {
-        return library.fromSddl(text, {domain});
-    } catch (fault) {
-        if (typeof fault.number !== "number") {
-            throw fault;
-        }
-        throw new Refusal(fault.line, fault.place);
-    }
-}
+const sids = new WeakMap();
 
-const descriptorsOfText = new WeakMap();
-
-// The descriptor that has a SID as its owner and nothing else, or a refusal. A letter and a colon after the SID would begin
-// another part.
-function descriptorOfSid(library, text, domain) {
-    if (!/^[A-Za-z0-9-]+$/.test(text)) {
-        throw new Refusal("error 25 sid-form");
-    }
-    return descriptorOf(library, "sddl", "O:" + text, domain);
-}
-
-// The SID of a text in binary, or a refusal. The same few SIDs are asked for again and again.
+// The SID of a text in binary. The same few SIDs are asked for again and again.
 export function sidBytes(library, text, domain = "") {
-    if (!descriptorsOfText.has(library)) {
-        descriptorsOfText.set(library, new Map());
+    if (!sids.has(library)) {
+        sids.set(library, new Map());
     }
-    const known = descriptorsOfText.get(library);
+    const known = sids.get(library);
     const key = domain + " " + text;
     if (!known.has(key)) {
-        known.set(key, descriptorOfSid(library, text, domain).slice(OWNER_AT));
+        known.set(key, library.sidFromText(text, domain ? {domain} : {}));
     }
     return known.get(key);
 }
 
 export const sidText = (library, text, domain = "") =>
-    library.toSddl(descriptorOfSid(library, text, domain), {numeric: true}).slice(2);
+    library.sidToText(sidBytes(library, text, domain), {numeric: true});
+
+// The only ACE of a list in SDDL.
+const aceIn = (library, text) => library.parts(library.fromSddl(`D:(${text})`)).dacl.aces[0];
 
 // The mask of names of rights, or of a number, as an ACE has them.
 export function maskOfText(library, text) {
     if (!/^[A-Za-z0-9]*$/.test(text)) {
-        throw new Refusal("error 27 rights");
+        throw new Fault(27, "rights");
     }
-    return readExplanation(library.explain(descriptorOf(library, "sddl", `D:(A;;${text};;;WD)`))).dacl.aces[0].mask;
+    return aceIn(library, `A;;${text};;;WD`).mask;
 }
 
 const guids = new Map();
 
-// The 16 bytes of a GUID, which follow type, flags, size, mask and object flags in the only ACE of a descriptor. An empty text
-// is no GUID, and has undefined.
+// The 16 bytes of a GUID. An empty text is no GUID, and has undefined.
 export function guidBytes(library, text) {
     if (!guids.has(text)) {
         if (!/^[0-9A-Fa-f-]*$/.test(text)) {
-            throw new Refusal("error 28 guid");
+            throw new Fault(28, "guid");
         }
-        const descriptor = descriptorOf(library, "sddl", `D:(OA;;CC;${text};;WD)`);
-        guids.set(text, text ? descriptor.slice(OWNER_AT + 8 + 12, OWNER_AT + 8 + 28) : undefined);
+        guids.set(text, aceIn(library, `OA;;CC;${text};;WD`).objectType ?? undefined);
     }
     return guids.get(text);
 }
 
-function readSid(words) {
-    return words[0] === "none" ? null : {sid: words[0], alias: words[1] ?? null};
-}
+const guidText = (bytes) =>
+    bytes && hexOf(OF_GUID.map((at) => bytes[at])).replace(/^(.{8})(.{4})(.{4})(.{4})/, "$1-$2-$3-$4-");
 
-const ACE_LINE = new RegExp(
-    "^([ds]acl) (\\d+) (\\w+) flags (\\w+) mask 0x([0-9a-f]{8}) rights (\\w+)" +
-        "(?: object ([0-9a-f-]+))?(?: inherited ([0-9a-f-]+))? sid (\\S+)(?: (\\w+))?$",
-);
+const named = (names, bits) => names.filter((name, place) => name && (bits >> place) & 1);
 
-function readAce(line) {
-    const found = ACE_LINE.exec(line);
-    if (!found) {
-        throw new RangeError(`not a line of an explanation: ${line}`);
-    }
-    const [, list, number, kind, flags, mask, rights, object, inherited, sid, alias] = found;
-    return {
+// What a descriptor says: each SID by its text and its alias, and each ACE by its number, from 1. Options are those of
+// a text.
+export function modelOf(library, descriptor, options = {}) {
+    const parts = library.parts(descriptor);
+    const known = new Map();
+    const sidOf = (bytes) => {
+        const key = hexOf(bytes);
+        if (!known.has(key)) {
+            const text = library.sidToText(bytes, options);
+            const sid = text.startsWith("S-1-") ? text : library.sidToText(bytes, {numeric: true});
+            known.set(key, {sid, alias: sid === text ? null : text});
+        }
+        return known.get(key);
+    };
+    const aceOf = (list) => ({kind, flags, mask, sid, objectType, inheritedObjectType}, at) => ({
         list,
-        number: Number(number),
-        kind,
-        flags: flags === "none" ? [] : flags.match(/../g),
-        mask: parseInt(mask, 16),
-        rights,
-        object: object ?? null,
-        inherited: inherited ?? null,
-        sid,
-        alias: alias ?? null,
+        number: at + 1,
+        kind: KINDS[kind],
+        flags: named(FLAGS, flags),
+        mask,
+        object: guidText(objectType),
+        inherited: guidText(inheritedObjectType),
+        ...sidOf(sid),
+    });
+    const listOf = (list) => ({state: parts[list].state, aces: (parts[list].aces ?? []).map(aceOf(list))});
+    return {
+        control: parts.control,
+        codes: named(CODES, parts.control),
+        manager: `0x${PAIRS[parts.resourceManager]}`,
+        owner: parts.owner && sidOf(parts.owner),
+        group: parts.group && sidOf(parts.group),
+        dacl: listOf("dacl"),
+        sacl: listOf("sacl"),
     };
 }
 
-// What the lines of an explanation say. A line that is none of them stops the page: nothing of an answer is passed
-// over.
-export function readExplanation(text) {
-    const model = {owner: null, group: null};
-    for (const line of text.trimEnd().split("\n")) {
-        const [word, first] = line.split(" ", 2);
-        const rest = () => line.split(" ").slice(1);
-        if (word === "control") {
-            Object.assign(model, {control: parseInt(first, 16), codes: rest().slice(1)});
-        } else if (word === "rm") {
-            model.manager = first;
-        } else if (word === "owner" || word === "group") {
-            model[word] = readSid(rest());
-        } else if ((word === "dacl" || word === "sacl") && /^(absent|null|list)$/.test(first)) {
-            model[word] = {state: first, aces: []};
-        } else if (word === "dacl" || word === "sacl") {
-            model[word].aces.push(readAce(line));
-        } else if (word !== "end") {
-            throw new RangeError(`not a line of an explanation: ${line}`);
-        }
-    }
-    return model;
+// An ACE in SDDL, without any name.
+export const aceText = ({kind, flags, mask, object, inherited, sid}) =>
+    `(${kind};${flags.join("")};0x${mask.toString(16)};${object ?? ""};${inherited ?? ""};${sid})`;
+
+// ACEs as the library prints them under a domain.
+export function aceTexts(library, aces, domain) {
+    const words = ["convert", "--from", "sddl", "--to", "sddl", ...(domain ? ["--domain", domain] : [])];
+    const lines = answersTo(library, words, aces.map((ace) => `D:${aceText(ace)}\n`).join(""));
+    return lines.split("\n").slice(0, -1).map((line) => line.slice("D:".length));
 }
 
-// The parts of printed SDDL with numeric SIDs. No SID and no ACE has a colon.
-function partsOf(sddl) {
-    const starts = [...sddl.matchAll(/[OGDS]:/g)].map(({index}) => index);
-    return Object.fromEntries(
-        starts.map((start, at) => [sddl[start], sddl.slice(start + 2, starts[at + 1] ?? sddl.length)]));
-}
-
-function aclPieces(text) {
-    if (text === undefined) {
-        return null;
-    }
-    const first = text.indexOf("(");
-    const flags = first < 0 ? text : text.slice(0, first);
-    return {flags, aces: first < 0 ? [] : text.slice(first + 1, -1).split(")(").map((ace) => `(${ace})`)};
-}
-
-// The pieces of a descriptor's printed text: each ACE is a text that stays as it is when others are left out.
-export function piecesOf(library, descriptor) {
-    const {O: owner, G: group, D: dacl, S: sacl} = partsOf(library.toSddl(descriptor, {numeric: true}));
-    return {owner: owner ?? null, group: group ?? null, dacl: aclPieces(dacl), sacl: aclPieces(sacl)};
-}
-
-const aclText = (letter, acl) => (acl ? `${letter}:${acl.flags}${acl.aces.join("")}` : "");
-
-export function textOfPieces({owner, group, dacl, sacl}) {
-    return [owner && "O:" + owner, group && "G:" + group, aclText("D", dacl), aclText("S", sacl)].filter(Boolean).join(
-        "");
-}
-
-export const descriptorOfPieces = (library, pieces) => descriptorOf(library, "sddl", textOfPieces(pieces));
+// The flags of an ACL of a model, as SDDL has them.
+export const aclFlags = (library, list, {control, [list]: {state}}) => (state === "absent" ?
+        state :
+        library.toSddl(library.build({control, [list]: state === "list" ? [] : {state}})).slice("D:".length));

@@ -54,9 +54,7 @@ class Lines {
         return whole;
     }
 
-    rest() {
-        return joined(this.kept);
-    }
+    rest() { return joined(this.kept); }
 }
 
 // Where each answer begins: a line each, but a block that ends with 'end', an error or an empty line under explain.

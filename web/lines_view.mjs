@@ -1,7 +1,7 @@
 // The fifth view: a file of descriptors, answered in a worker, as a table with filters and as a file of answers.
 import {box, button, byId, input, labelled, make, select, show} from "./dom.mjs";
 import {FLAGS} from "./lines.mjs";
-import {visible} from "./naming.mjs";
+import {shownName, visible} from "./naming.mjs";
 import {formatted, pagesBar} from "./parts_view.mjs";
 import {valueIn} from "./tables.mjs";
 import {changing} from "./warnings.mjs";
@@ -10,8 +10,9 @@ import {say, WORDS} from "./words.mjs";
 const FORMS = ["hex", "base64", "sddl"];
 const TYPES = ["file", "key", "ds"];
 const TYPED = ["check", "derive"];
-const ROWS = 100;       // of a page of the table
-const MOST_SHOWN = 300; // characters of a cell
+const ROWS = 100;         // of a page of the table
+const MOST_SHOWN = 300;   // characters of a cell
+const MOST_WORD = 60_000; // characters of an option: as many SIDs as a token may have
 // The options of each command: a list of values, 'flag', or 'text'. Where a command has no type, a filter asks by it.
 const OPTIONS = {
     convert: {from: FORMS, to: ["sddl", "hex", "base64"], domain: "text", numeric: "flag", type: TYPES},
@@ -68,7 +69,7 @@ function optionField(name, type, options) {
         return labelled(valueIn(WORDS.lines.options, name),
             select(id, Object.fromEntries(type.map((value) => [value, value])), options[name], set));
     }
-    return labelled(valueIn(WORDS.lines.options, name), input(id, options[name] ?? "", set));
+    return labelled(valueIn(WORDS.lines.options, name), input(id, options[name] ?? "", set, {most: MOST_WORD}));
 }
 
 function filtersOf({options, filterToken}) {
@@ -83,7 +84,8 @@ function filtersOf({options, filterToken}) {
     };
 }
 
-// One run over a file, and what is kept of it. Its lines are of this file and in this form, whatever is chosen meanwhile.
+// One run over a file, and what is kept of it. Its lines are of this file and in this form, whatever is chosen
+// meanwhile.
 class Run {
     constructor(file, {from, type}) {
         Object.assign(this, {file, from, type});
@@ -147,9 +149,7 @@ class Run {
         return text.split("\n", 1)[0].replace(/\r$/, "");
     }
 
-    blob() {
-        return new Blob(this.pieces.map(({output}) => output), {type: "text/plain"});
-    }
+    blob() { return new Blob(this.pieces.map(({output}) => output), {type: "text/plain"}); }
 }
 
 export class LinesView {
@@ -191,7 +191,8 @@ export class LinesView {
         return make("div", {class: "form"},
             labelled(words.command, select("lines-command", words.commands, this.lines.command, setCommand)),
             make("div", {id: "lines-options", class: "boxes wide"}),
-            labelled(words.filterToken, input("lines-filter-token", this.lines.filterToken, setToken)));
+            labelled(
+                words.filterToken, input("lines-filter-token", this.lines.filterToken, setToken, {most: MOST_WORD})));
     }
 
     showOptions() {
@@ -203,7 +204,7 @@ export class LinesView {
     async take(file) {
         if (file) {
             this.file = file;
-            const name = say(WORDS.lines.file, {name: visible(file.name), size: formatted(file.size)});
+            const name = say(WORDS.lines.file, {name: shownName(file.name), size: formatted(file.size)});
             byId("lines-name").textContent = name;
             const [one, other] = new Uint8Array(await file.slice(0, 2).arrayBuffer());
             if (file === this.file && ((one === 0xff && other === 0xfe) || (one === 0xfe && other === 0xff))) {
@@ -229,9 +230,7 @@ export class LinesView {
             (message) => run === this.run && this.hear(message));
     }
 
-    stop() {
-        this.files.stop();
-    }
+    stop() { this.files.stop(); }
 
     hear(message) {
         if (message.kind === "piece") {
@@ -266,9 +265,7 @@ export class LinesView {
         this.showTable();
     }
 
-    tell(text) {
-        byId("lines-status").textContent = text;
-    }
+    tell(text) { byId("lines-status").textContent = text; }
 
     showProgress() {
         const {bytes, lines, errors} = this.run.progress;

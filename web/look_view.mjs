@@ -2,13 +2,22 @@
 import {bitsOf, cellOf, has, reasonIn} from "./access.mjs";
 import {linesOf} from "./desk.mjs";
 import {afterwards, button, byId, make, moveByArrows, show, showParts, someRows} from "./dom.mjs";
-import {groupMask, guidInWords, rightName, rightsInWords, rightsOf, visible} from "./naming.mjs";
-import {aceTable, commaed, faultBox, plainName, shortened, who} from "./parts_view.mjs";
+import {
+    groupMask,
+    guidInWords,
+    labelInWords,
+    rightName,
+    rightsInWords,
+    rightsOf,
+    shortened,
+    visible
+} from "./naming.mjs";
+import {aceTable, commaed, faultBox, plainName, who} from "./parts_view.mjs";
 import {valueIn} from "./tables.mjs";
 import {say, WORDS} from "./words.mjs";
 
 const STAND_IN_DOMAIN = "S-1-5-21-0-0-0";
-const MOST_ROWS = 40;     // of the grid, until more are asked for
+const MOST_ROWS = 40; // of the grid, until more are asked for
 const ROWS_OF_A_TURN = 10;
 const MOST_NUMBERS = 30;  // of ACEs in a sentence
 const MOST_SPOKEN = 8;    // names in a sentence
@@ -65,10 +74,11 @@ function summary(result, kind, names) {
         make("div", {class: "buckets"},
             Object.entries(bucketsOf(grid.rows, kind))
                 .filter(([bucket, rows]) => rows.length > 0 || ["control", "change"].includes(bucket))
-                .map(([bucket, rows]) => make("div", {class: `bucket ${bucket}`}, make("h3", {}, valueIn(words, bucket)),
-                         make("p", {class: "hint"}, valueIn(words, `${bucket}Hint`)),
-                         rows.length === 0 ? make("p", {class: "nobody"}, words.nobody) :
-                                             bucketList(rows, kind, bucket, grid.rights, names)))));
+                .map(
+                    ([bucket, rows]) => make("div", {class: `bucket ${bucket}`}, make("h3", {}, valueIn(words, bucket)),
+                        make("p", {class: "hint"}, valueIn(words, `${bucket}Hint`)),
+                        rows.length === 0 ? make("p", {class: "nobody"}, words.nobody) :
+                                            bucketList(rows, kind, bucket, grid.rights, names)))));
 }
 
 function bucketList(rows, kind, bucket, rights, names) {
@@ -102,11 +112,20 @@ export function spokenSummary(result, kind, names) {
 const acesInWords = (numbers) =>
     say(numbers.length === 1 ? WORDS.acesOne : WORDS.acesMany, {numbers: firstOf(numbers, MOST_NUMBERS, String)});
 
+// What a warning says, with the classes that it depends on.
 function warningText(warning, kind, names) {
+    const {onlyOf, exceptOf} = warning;
+    const text = plainText(warning, kind, names);
+    const classes = (onlyOf ?? exceptOf ?? []).join(WORDS.or);
+    return classes ? say(onlyOf ? WORDS.onlyOf : WORDS.exceptOf, {classes, text}) : text;
+}
+
+function plainText(warning, kind, names) {
     const {key, numbers = []} = warning;
     return say(valueIn(WORDS.warnings, key), {
         who: warning.who ? plainName(warning.who, names) : "",
         rights: warning.mask ? commaed(rightsInWords(warning.kind ?? kind, warning.mask)) : "",
+        says: warning.says ?? "",
         number: numbers[0],
         first: numbers[0],
         second: numbers[1],
@@ -115,9 +134,7 @@ function warningText(warning, kind, names) {
         count: warning.count ?? warning.domains?.length,
         domains: warning.domains ? commaed(warning.domains) : "",
         object: warning.object ? guidInWords(warning.object, warning.mask) : "",
-        policy: warning.policy ?
-            commaed(warning.policy.match(/N[WRX]/g)?.map((name) => valueIn(WORDS.label, name)) ?? [WORDS.label.none]) :
-            "",
+        policy: warning.policy === undefined ? "" : commaed(labelInWords(warning.policy)),
     });
 }
 
@@ -152,8 +169,8 @@ function markAce(list, number) {
     }
 }
 
-const stateWord = (state, grid) =>
-    (state === "rule" ? (grid.isList ? WORDS.grid.ruleOwner : WORDS.grid.ruleNoDacl) : valueIn(WORDS.grid.states, state));
+const stateWord = (state, grid) => (state === "rule" ? (grid.isList ? WORDS.grid.ruleOwner : WORDS.grid.ruleNoDacl) :
+                                                       valueIn(WORDS.grid.states, state));
 
 function gridCell(row, right, name, context, isFirst) {
     const {grid} = context;
@@ -215,8 +232,8 @@ function gridSection(result, context, later) {
 
 const legend = (grid) => make("p", {class: "legend", "aria-hidden": "true"},
     ["granted", "rule", "denied", "none"].map(
-        (state) => make(
-            "span", {class: `key ${state}`}, make("b", {}, valueIn(WORDS.grid.signs, state)), ` ${stateWord(state, grid)}`)));
+        (state) => make("span", {class: `key ${state}`}, make("b", {}, valueIn(WORDS.grid.signs, state)),
+            ` ${stateWord(state, grid)}`)));
 
 const REASON_KEYS = {
     "no-dacl": "noDacl",
@@ -251,7 +268,8 @@ export function showReason(row, bit, context) {
 
 function ownerLine(part, found, names) {
     return [
-        make("dt", {}, valueIn(WORDS.parts, part)), make("dd", {}, found ? who(found.sid, found.alias, names) : WORDS.parts.none)
+        make("dt", {}, valueIn(WORDS.parts, part)),
+        make("dd", {}, found ? who(found.sid, found.alias, names) : WORDS.parts.none)
     ];
 }
 
@@ -261,7 +279,8 @@ function control(model) {
     return [
         make("dt", {}, WORDS.parts.control),
         make("dd", {}, make("code", {}, controlWord(model.control)), " ",
-            model.codes.map((code) => [make("span", {class: "tag", title: code}, valueIn(WORDS.codes, code) ?? code), " "])),
+            model.codes.map(
+                (code) => [make("span", {class: "tag", title: code}, valueIn(WORDS.codes, code) ?? code), " "])),
         model.manager === "0x00" ?
             null :
             [make("dt", {}, WORDS.parts.manager), make("dd", {}, make("code", {}, model.manager))]
@@ -283,9 +302,8 @@ function listSection(list, result, kind, names, later) {
     return make("section", {"aria-labelledby": `${list}-heading`},
         make("h3", {id: `${list}-heading`}, title, " ",
             make("small", {},
-                acl.state === "list" ?
-                    say(acl.count === 1 ? WORDS.parts.one : WORDS.parts.list, {count: acl.count}) :
-                    valueIn(WORDS.parts, acl.state))),
+                acl.state === "list" ? say(acl.count === 1 ? WORDS.parts.one : WORDS.parts.list, {count: acl.count}) :
+                                       valueIn(WORDS.parts, acl.state))),
         text ?? aceTable(title, acl.aces, kind, names, later));
 }
 

@@ -10,20 +10,21 @@ import {rangeIn} from "./faults.mjs";
 import {makeInherit, showInherit} from "./inherit_view.mjs";
 import {LinesView} from "./lines_view.mjs";
 import {foundText, showFault, showLook, showReason, spokenSummary} from "./look_view.mjs";
-import {faultInWords, ownNames, visible} from "./naming.mjs";
-import {commaed, descriptorField, isLarge, shortened} from "./parts_view.mjs";
+import {faultInWords, namesOfReport, ownNames, shownName, visible} from "./naming.mjs";
+import {commaed, formatted, isLarge, longField} from "./parts_view.mjs";
 import {nameOfObject, objectWords, placeOfObject, ReportView} from "./report_view.mjs";
 import {kindQuestion} from "./kind_view.mjs";
 import {isDirectory} from "./meanings.mjs";
 import {knownGuids} from "./schema.mjs";
 import {addressOf, commandLine, takeAddress} from "./sharing.mjs";
-import {freshState} from "./state.mjs";
+import {freshState, MOST_LIST} from "./state.mjs";
 import {valueIn} from "./tables.mjs";
 import {say, WORDS} from "./words.mjs";
 import {FileDesk, SECONDS_TO_ANSWER, serve, startDesk, TooSlow} from "./worker.mjs";
 
-const MOST_UNREAD = 8;         // words of an address
-const MOST_UNREAD_TEXT = 100;  // characters of each
+const MOST_UNREAD = 8;        // words of an address
+const MOST_UNREAD_TEXT = 100; // characters of each
+const MOST_COPIED = 200_000;  // characters that are shown at once of what is copied
 const MILLISECONDS_TO_TELL = 300;
 const ANSWERED = ["ask", "inherit", "compare"]; // views that ask a question of their own
 const EXAMPLES = {
@@ -56,12 +57,13 @@ const placeOf = (view) => byId(view === "look" ? "view-look" : `${view}-result`)
 
 // Why there is no answer.
 const errorWords = (error) => (error instanceof TooSlow ? say(WORDS.tooSlow, {seconds: SECONDS_TO_ANSWER}) :
-                                                          say(WORDS.broke, {reason: visible(error.message)}));
+                                                          say(WORDS.broke, {reason: shownName(error.message)}));
 
 class Page {
     constructor({desk, isWorker}, source, bytes, report) {
         Object.assign(
             this, {desk, source, bytes, isWorker, state: freshState(), result: null, asked: null, turns: new Map()});
+        this.reportNames = [];
         // A report has a view of its own, before all others.
         this.views = Object.keys(WORDS.tabs).filter((view) => view !== "report" || report);
         this.reportView = report ?
@@ -93,16 +95,16 @@ class Page {
 
     // Whether an option applies that is among the ones that can be folded away.
     get hasOptions() {
-        const {domain, object, common, kind} = this.state;
-        return domain !== "" || !common || (isDirectory(kind) && object !== "");
+        const {domain, object, classes, common, kind} = this.state;
+        return domain !== "" || !common || (isDirectory(kind) && (object + classes) !== "");
     }
 
     openOptions() { byId("more-options").open ||= this.hasOptions; }
 
     // The part of the state that the desk needs.
     get shared() {
-        const {text, form, kind, isKindChosen, domain, object, common, chosen, all} = this.state;
-        return {text, form, kind, isKindChosen, domain, object, common, chosen, all};
+        const {text, form, kind, isKindChosen, domain, object, classes, name, common, chosen, all} = this.state;
+        return {text, form, kind, isKindChosen, domain, object, classes, name, common, chosen, all};
     }
 
     get context() {
@@ -118,11 +120,11 @@ class Page {
         };
     }
 
-    // The user's names of SIDs. A report may have very many.
+    // The user's names of SIDs, and those of a report, which may have very many.
     get names() {
         if (this.namesText !== this.state.names) {
             this.namesText = this.state.names;
-            this.knownNames = ownNames(this.state.names);
+            this.knownNames = new Map([...this.reportNames, ...ownNames(this.state.names)]);
         }
         return this.knownNames;
     }
@@ -140,8 +142,10 @@ class Page {
         const {state} = this;
         this.chosenKey = null;
         const setter = (name) => (value) => this.set(name, value);
-        this.text = descriptorField("text", state.text, (value) => this.setText(value),
-            {rows: 3, "aria-describedby": "text-hint found"}, () => this.open("", "auto"));
+        this.text = longField("text", state.text, (value) => this.setText(value),
+            {"aria-describedby": "text-hint found", clear: () => this.open("", "auto")});
+        const names =
+            longField("names", state.names, setter("names"), {most: MOST_LIST, "aria-describedby": "names-hint"});
         show(byId("input"), labelled(WORDS.inputLabel, this.text.field, WORDS.inputHint), this.text.note,
             make("p", {class: "adds"}, WORDS.examples, ": ", Object.entries(WORDS.examplesPlain).map(([name,
                 label]) => [button(label, () => this.example(name), {class: "add", id: `example-${name}`}), " "]),
@@ -150,7 +154,9 @@ class Page {
                 labelled(WORDS.kindLabel, select("kind", WORDS.kinds, state.kind, setter("kind")), WORDS.kindHint),
                 labelled(WORDS.formLabel, select("form", WORDS.forms, state.form, setter("form"))),
                 make("div", {id: "chosen-field", hidden: true})),
-            this.unread.length ? make("p", {id: "unread", class: "warning caution", role: "status"}, this.unreadWords()) : null,
+            this.unread.length ?
+                make("p", {id: "unread", class: "warning caution", role: "status"}, this.unreadWords()) :
+                null,
             make("details", {id: "more-options", open: this.hasOptions}, make("summary", {}, WORDS.moreOptions),
                 make("div", {class: "row"},
                     labelled(WORDS.domainLabel,
@@ -163,18 +169,26 @@ class Page {
                             WORDS.objectHint),
                         make("datalist", {id: "guids"},
                             knownGuids().map(
-                                ({guid, name, type}) => make("option", {value: guid}, `${name} (${type})`))))),
+                                ({guid, name, type}) => make("option", {value: guid}, `${name} (${type})`))),
+                        labelled(WORDS.classesLabel,
+                            input("classes", state.classes, setter("classes"), {"aria-describedby": "classes-hint"}),
+                            WORDS.classesHint))),
                 box("common", WORDS.commonLabel, state.common, setter("common")),
-                labelled(WORDS.namesLabel,
-                    area("names", "", setter("names"), {rows: 3, "aria-describedby": "names-hint"}), WORDS.namesHint)),
+                labelled(WORDS.namesLabel, names.field, WORDS.namesHint), names.note),
             make("div", {id: "opened", class: "opened", hidden: true}),
             make("p", {id: "found", class: "found"}, WORDS.waiting));
     }
 
     unreadWords() {
-        const shown = this.unread.slice(0, MOST_UNREAD).map((one) => visible(shortened(one, MOST_UNREAD_TEXT)));
+        const shown =
+            this.unread.slice(0, MOST_UNREAD)
+                .map((one) => (one.length > MOST_UNREAD_TEXT ?
+                             say(WORDS.addressLong,
+                                 {text: visible(one.slice(0, MOST_UNREAD_TEXT)), count: formatted(one.length)}) :
+                             visible(one)));
         const left = this.unread.length - shown.length;
-        return say(WORDS.address, {what: commaed(left > 0 ? [...shown, say(WORDS.summary.left, {count: left})] : shown)});
+        return say(
+            WORDS.address, {what: commaed(left > 0 ? [...shown, say(WORDS.summary.left, {count: left})] : shown)});
     }
 
     makeViews() {
@@ -203,6 +217,11 @@ class Page {
         window.addEventListener("dragover", (event) => event.preventDefault());
         window.addEventListener("drop", (event) => this.drop(event));
         window.addEventListener("hashchange", () => this.takeHash());
+        // By its address it would set the page anew.
+        document.querySelector(".skip").addEventListener("click", (event) => {
+            event.preventDefault();
+            byId("text").focus();
+        });
         byId("theme").addEventListener("click", () => {
             const isDark = document.documentElement.dataset.theme === "dark" ||
                 (!document.documentElement.dataset.theme && matchMedia("(prefers-color-scheme: dark)").matches);
@@ -210,13 +229,11 @@ class Page {
         });
     }
 
-    // An address that somebody typed or followed, not one that the page wrote.
+    // An address that somebody typed or followed.
     takeHash() {
-        if (location.hash.slice(1) !== this.written) {
-            const {names, lines} = this.state;
-            Object.assign(this.state, {...freshState(), names, lines, view: this.views[0]});
-            this.begin();
-        }
+        const {names, lines} = this.state;
+        Object.assign(this.state, {...freshState(), names, lines, view: this.views[0]});
+        this.begin();
     }
 
     moveTab(event) {
@@ -245,7 +262,6 @@ class Page {
             byId(`view-${view}`).hidden = !isShown;
         }
         document.body.dataset.view = this.state.view;
-        this.remember();
     }
 
     setText(text) {
@@ -254,11 +270,12 @@ class Page {
         this.refresh();
     }
 
-    // A form or a kind that came with another text, or was chosen for it, is none of this one.
-    takeText(text, form) {
+    // A form, a kind or a class that came with another text, or was chosen for it, is none of this one.
+    takeText(text, form, {classes = "", name = ""} = {}) {
         show(byId("opened"));
         byId("form").value = form;
-        Object.assign(this.state, {text, form, chosen: 0, all: false});
+        byId("classes").value = classes;
+        Object.assign(this.state, {text, form, classes, name, chosen: 0, all: false});
         this.state.isKindChosen &&= !this.hasKindOfText;
     }
 
@@ -272,9 +289,9 @@ class Page {
     }
 
     // Shows a text as if it had been pasted, under the first view. Without a text nothing is chosen.
-    open(text, form, kind = null) {
+    open(text, form, kind = null, entry = {}) {
         this.hasKindOfText ||= text === "";
-        this.takeText(text, form);
+        this.takeText(text, form, entry);
         this.hasFormOfText = form !== "auto";
         if (kind) {
             this.takeKind(kind);
@@ -315,11 +332,10 @@ class Page {
         this.refresh();
     }
 
-    // What a report says of all its objects: the domain of aliases, and names of SIDs, which stay in the page.
+    // What a report says of all its objects: the domain of aliases, and names of SIDs.
     takeHead({domain, names, title}) {
-        document.title = title ? `${visible(title)} - ${WORDS.title}` : WORDS.title;
-        this.state.names = (names ?? []).map(([sid, name]) => `${sid} ${name}`).join("\n");
-        byId("names").value = this.state.names;
+        document.title = title ? `${shownName(title)} - ${WORDS.title}` : WORDS.title;
+        Object.assign(this, {reportNames: namesOfReport(names ?? []), namesText: null});
         if (!location.hash) {
             this.state.domain = domain ?? "";
             byId("domain").value = this.state.domain;
@@ -332,7 +348,7 @@ class Page {
         this.state.domain = this.reportView.report.head?.domain ?? "";
         byId("domain").value = this.state.domain;
         this.openOptions();
-        this.open(object.descriptor, object.form, object.kind);
+        this.open(object.descriptor, object.form, object.kind, {classes: object.classes.join(","), name: object.name});
         const back = () => {
             this.choose("report");
             byId("tab-report").focus();
@@ -357,10 +373,10 @@ class Page {
         }
     }
 
-    // Asks about the text anew, and then the question of the view that is open. Whatever older answers the page shows are hidden
-    // until there is a new one, and those that are still to come are not shown.
+    // Asks about the text anew, and then the question of the view that is open. Whatever older answers the page shows
+    // are hidden until there is a new one, and those that are still to come are not shown.
     refresh() {
-        this.remember();
+        show(byId("copied")); // of an older state
         const turn = this.beginTurn(["look", ...ANSWERED]);
         Object.assign(this, {result: null, asked: null});
         if (!this.state.isKindChosen) {
@@ -456,7 +472,7 @@ class Page {
             this.isNew("look");
             this.tell(`${faultInWords(result.fault)} ${foundText(result)}`);
         } else if (result.asksKind) {
-            this.show("look", kindQuestion("look", result.asksKind, this.context.onKind));
+            this.show("look", kindQuestion("look", result, this.context.onKind));
             this.tell(`${foundText(result)} ${valueIn(WORDS.kindAsked, result.asksKind)}`);
         } else {
             shown = showLook(byId("view-look"), result, this.context, () => turn.isOver("look"));
@@ -488,8 +504,9 @@ class Page {
             const set = (value) => this.set("chosen", Math.min(found, Math.max(1, Math.trunc(value) || 1)) - 1);
             return labelled(WORDS.chosenLabel, input("chosen", "", set, {inputmode: "numeric"}));
         }
-        const options = Object.fromEntries(names.map((name, index) => [index,
-            say(WORDS.chosenOption, {number: index + 1, count: found, name: visible(name.slice(0, 60))})]));
+        const options = Object.fromEntries(names.map(
+            (name, index) => [index,
+                say(WORDS.chosenOption, {number: index + 1, count: found, name: visible(name.slice(0, 60))})]));
         return labelled(
             WORDS.chosenLabel, select("chosen", options, "0", (value) => this.set("chosen", Number(value))));
     }
@@ -512,7 +529,7 @@ class Page {
 
     // The question of the view that is open. The first view was answered already.
     refreshView() {
-        this.remember();
+        show(byId("copied"));
         this.asked = null;
         const {view} = this.state;
         if (!ANSWERED.includes(view)) {
@@ -546,7 +563,7 @@ class Page {
             this.show(view, make("p", {class: "fault-name"}, faultInWords(result.descriptorFault)),
                 make("p", {}, WORDS.error.intro));
         } else if (result.asksKind && view !== "compare") {
-            this.show(view, kindQuestion(view, result.asksKind, this.context.onKind));
+            this.show(view, kindQuestion(view, result, this.context.onKind));
             this.speak(valueIn(WORDS.kindAsked, result.asksKind));
         } else {
             const answer = showAnswer(result, {...this.context, kind: result.asksKind ? "" : result.kind}, isOver);
@@ -558,22 +575,6 @@ class Page {
         await shown;
     }
 
-    // The state goes to the address a moment after the last key; the names that the user gave don't. What was copied is of an
-    // older state.
-    remember() {
-        show(byId("copied"));
-        clearTimeout(this.timer);
-        this.timer = setTimeout(() => {
-            const text = addressOf(this.state, freshState());
-            this.written = text ?? "";
-            try {
-                history.replaceState(null, "", this.written ? `#${this.written}` : location.pathname + location.search);
-            } catch {
-                // A browser that allows no address here still copies the link.
-            }
-        }, 400);
-    }
-
     async copy(text, what) {
         const place = byId("copied");
         try {
@@ -582,17 +583,31 @@ class Page {
         } catch {
             show(place, make("p", {role: "status"}, WORDS.copyFailed));
         }
-        const field = area("copied-text", text, () => {}, {rows: 2, readonly: true, "aria-label": what});
-        place.append(field);
-        field.focus();
-        field.select();
+        const showText = () => {
+            const field =
+                area("copied-text", text, () => {}, {class: "descriptor", rows: 2, readonly: true, "aria-label": what});
+            more.replaceWith(field);
+            field.focus();
+            field.select();
+        };
+        const more = button(say(WORDS.showCopied, {count: formatted(text.length)}), showText, {id: "copied-all"});
+        place.append(more);
+        if (text.length <= MOST_COPIED) {
+            showText();
+        }
     }
 
+    // Nothing else writes into the address, and so into the history of a browser.
     copyLink() {
         const text = addressOf(this.state, freshState());
         if (text === null) {
             show(byId("copied"), make("p", {role: "status"}, WORDS.linkTooLong));
             return;
+        }
+        try {
+            history.replaceState(null, "", `#${text}`);
+        } catch {
+            // A browser that allows no address here still copies the link.
         }
         this.copy(`${location.href.split("#")[0]}#${text}`, WORDS.linkWarning);
     }
@@ -603,7 +618,10 @@ class Page {
             return valueIn(WORDS.kindAsked, asksKind ?? "rights");
         }
         const {mappingUnknown, noHeirs} = WORDS.inherit;
-        return isLevelUnknown ? WORDS.ask.levelUnknown : isMappingUnknown ? mappingUnknown : hasNoHeirs ? noHeirs : null;
+        return isLevelUnknown ? WORDS.ask.levelUnknown :
+            isMappingUnknown  ? mappingUnknown :
+            hasNoHeirs        ? noHeirs :
+                                null;
     }
 
     copyCommand() {
@@ -632,9 +650,9 @@ async function unpacked(base64) {
     return new Response(stream).arrayBuffer();
 }
 
-const fillWords = () => document.querySelectorAll("[data-word]").forEach((element) => {
-    element.textContent = element.dataset.word.split(".").reduce(valueIn, WORDS);
-});
+const fillWords = () =>
+    document.querySelectorAll("[data-word]")
+        .forEach((element) => { element.textContent = element.dataset.word.split(".").reduce(valueIn, WORDS); });
 
 // A policy says nothing of connections between browsers, so this page has none of what makes them.
 function forbidConnections() {

@@ -1,14 +1,13 @@
 // What the tables of windows.mjs say of a SID and of the rights of a kind: names, who has a SID, what is a risk.
 import {valueIn} from "./tables.mjs";
-import {FAMILIES, KINDS, OF_A_DOMAIN, SIDS, USUAL} from "./windows.mjs";
+import {FAMILIES, KINDS, OF_A_DOMAIN, RULE_OF, SIDS, USUAL} from "./windows.mjs";
 
 const RELATIVE = /^(S-1-5-21-\d+-\d+-\d+)-(\d+)$/;
 const BUILT_IN_BELOW = 1000; // numbers from here on are those of accounts that somebody made
-const EVERYBODY = ["anyone", "logged-on", "application"];
 const GENERIC_BITS = [0x80000000, 0x40000000, 0x20000000, 0x10000000]; // read, write, execute, all
 const GENERIC = 0xf0000000;
+const DELETE = 0x10000;
 const SYNCHRONIZE = 0x100000;
-
 
 // The domain and the last number of a SID, or null.
 export function relativeOf(sid) {
@@ -16,8 +15,8 @@ export function relativeOf(sid) {
     return found ? {domain: found[1], number: Number(found[2])} : null;
 }
 
-// What is known of a SID: {name, who, also, family}. also is what a token of it has besides; family is what all SIDs that
-// begin so are.
+// What is known of a SID: {name, who, also, family}. also is what a token of it has besides; family is what all SIDs
+// that begin so are.
 export function meaningOfSid(sid) {
     const known = valueIn(SIDS, sid);
     if (known) {
@@ -37,7 +36,7 @@ export function meaningOfSid(sid) {
 // Which class of everybody has a SID, or null.
 export function everybodyClass(sid) {
     const {who} = meaningOfSid(sid);
-    return EVERYBODY.includes(who) ? who : null;
+    return Object.hasOwn(RULE_OF, who) ? who : null;
 }
 
 // Whether somebody is trusted. Without a domain the administrators of every domain are.
@@ -54,7 +53,8 @@ export const mappingOf = (kind) => tableOf(kind).library || "file";
 
 export const hasOwnMapping = (kind) => tableOf(kind).library === "";
 
-// A mask whose generic rights are replaced by those of the table, and so is a right that means others where it is alone.
+// A mask whose generic rights are replaced by those of the table, and so is a right that means others where it is
+// alone.
 export function withoutGeneric(mask, kind) {
     const {mapping, alone: [right, meant]} = tableOf(kind);
     const plain = replaced(mask, mapping);
@@ -80,9 +80,12 @@ export const rightsOfKind = (kind) => hasOwnMapping(kind) ?
 
 // The rights that do something, and those whose having is a risk of one of some words.
 
-export const doing = (kind, word) => maskOf(tableOf(kind).rights.filter((right) => right[5].includes(word)));
+export const doing = (kind, word) => maskOf(tableOf(kind).rights.filter((right) => right[4].includes(word)));
 
-export const atRisk = (kind, risks) => maskOf(tableOf(kind).rights.filter((right) => risks.includes(right[6])));
+export const atRisk = (kind, risks) => maskOf(tableOf(kind).rights.filter((right) => risks.includes(right[5])));
+
+// Whether a right of a kind, beside the standard ones, runs code as another account.
+export const runsCode = (kind) => (atRisk(kind, ["takeover"]) & (DELETE - 1)) !== 0;
 
 export const isDirectory = (kind) => mappingOf(kind) === "ds";
 
@@ -93,4 +96,5 @@ export const inheritedBy = (kind) => tableOf(kind).inherits.match(/../g) ?? [];
 export const heirsOf = (kind) => inheritedBy(kind).map((flag) => (flag === "CI" ? "container" : "file")).sort();
 
 // Whether an ACE applies to nothing: it is for children alone, and none inherits it.
-export const isForNothing = ({flags}, kind) => flags.includes("IO") && !inheritedBy(kind).some((flag) => flags.includes(flag));
+export const isForNothing = ({flags}, kind) =>
+    flags.includes("IO") && !inheritedBy(kind).some((flag) => flags.includes(flag));

@@ -1,13 +1,12 @@
 // Words for what the library answers: names of SIDs, rights of a mask, where an ACE applies.
 import {bitsOf, has} from "./access.mjs";
 import {maskText} from "./library.mjs";
-import {isForNothing} from "./meanings.mjs";
+import {isForNothing, relativeOf} from "./meanings.mjs";
 import {afterBlanks} from "./scanning.mjs";
 import {guidNames} from "./schema.mjs";
 import {valueIn} from "./tables.mjs";
 import {say, WORDS} from "./words.mjs";
 
-const RELATIVE = /^(S-1-5-21-\d+-\d+-\d+)-(\d+)$/;
 const GROUPS = ["read", "change", "control", "other"];
 // Characters that don't show, or that turn the direction of a text round, and halves of characters: they are spelled
 // out, so that no name passes for another.
@@ -15,6 +14,13 @@ export const HIDDEN = /[\p{Cc}\p{Cf}\p{Cs}\p{Co}\p{Zl}\p{Zp}\p{Default_Ignorable
 
 export const visible = (text) =>
     String(text).replace(HIDDEN, (character) => `\\u{${character.codePointAt(0).toString(16)}}`);
+
+export const shortened = (text, most) => (text.length > most ? `${text.slice(0, most)} ..` : text);
+
+const MOST_NAME = 500; // characters: Windows has no longer ones of accounts
+
+// A name as the page shows it again and again.
+export const shownName = (name) => visible(shortened(name, MOST_NAME));
 
 // Where a name begins, behind the blanks and signs between a SID and it.
 function afterSeparators(line, from) {
@@ -32,7 +38,7 @@ export function ownNames(text) {
         const [front, sid] = /^\s*(S-1-[0-9-]+)(?=[\s=,;:])/i.exec(line) ?? [];
         const name = front === undefined ? "" : line.slice(afterSeparators(line, front.length)).trim();
         if (name) {
-            names.set(sid.toUpperCase(), visible(name));
+            names.set(sid.toUpperCase(), shownName(name));
         }
     }
     return names;
@@ -48,12 +54,17 @@ function familyName(sid) {
     return sid;
 }
 
-// The name of a SID: the user's own, a well-known one, or what kind of SID it is.
-export function nameOf(sid, names) {
-    const relative = RELATIVE.exec(sid);
-    return names.get(sid) ?? valueIn(WORDS.names, sid) ?? (relative && valueIn(WORDS.relativeNames, relative[2])) ??
-        familyName(sid);
+function nameOfWindows(sid) {
+    const relative = relativeOf(sid);
+    return valueIn(WORDS.names, sid) ?? (relative && valueIn(WORDS.relativeNames, relative.number));
 }
+
+// The names that a report has of SIDs, each told as the report's. None stands for one of Windows.
+export const namesOfReport = (names) => new Map(names.filter(([sid]) => !nameOfWindows(sid)).map(([sid,
+    name]) => [sid, say(WORDS.report.named, {name: shownName(name)})]));
+
+// The name of a SID: the user's own or a report's, a well-known one, or what kind of SID it is.
+export const nameOf = (sid, names) => names.get(sid) ?? nameOfWindows(sid) ?? familyName(sid);
 
 function rightsInOrder(rights) {
     const all = Object.entries(rights).map(([bit, [name, short, group]]) => ({bit: Number(bit), name, short, group}));
@@ -103,8 +114,8 @@ export function rightsInWords(kind, mask) {
 }
 
 export function labelInWords(mask) {
-    const policies =
-        [[1, "NW"], [2, "NR"], [4, "NX"]].filter(([bit]) => has(mask, bit)).map(([, name]) => valueIn(WORDS.label, name));
+    const policies = [[1, "NW"], [2, "NR"], [4, "NX"]].filter(([bit]) => has(mask, bit)).map(([,
+        name]) => valueIn(WORDS.label, name));
     const rest = (mask & ~7) >>> 0;
     return [
         ...policies, ...(rest ? [say(WORDS.unnamed, {mask: maskText(rest)})] : []),
@@ -132,6 +143,7 @@ export function whereOf(kind, ace) {
 
 export function faultInWords(fault) {
     const [meaning] = valueIn(WORDS.faults, fault.number) ?? [""];
-    const line = ["error", fault.number, fault.faultName ?? "", fault.part, fault.otherPart].filter((word) => word || word === "");
+    const line = ["error", fault.number, fault.faultName ?? "", fault.part, fault.otherPart].filter(
+        (word) => word || word === "");
     return `${meaning} (${line.join(" ")})`;
 }

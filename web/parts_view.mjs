@@ -1,25 +1,26 @@
 // Pieces that several views share: a SID, an ACE, a list of ACEs, a fault.
 import {linesOf} from "./desk.mjs";
-import {area, button, make, show, someRows} from "./dom.mjs";
+import {area, button, make, show, someRows, tooLong} from "./dom.mjs";
 import {maskText} from "./library.mjs";
 import {faultInWords, guidInWords, labelInWords, nameOf, rightsInWords, visible, whereOf} from "./naming.mjs";
+import {MOST_TEXT} from "./state.mjs";
 import {valueIn} from "./tables.mjs";
 import {say, WORDS} from "./words.mjs";
 
 const LARGE = 20_000; // characters; a longer text is kept beside its field
 
-// A field for a descriptor, with what to show beside it, and a function that puts a text into it. TAKE gets what is
-// typed or pasted. A long text stays out of the field: no browser lays out a line of a megabyte at each key.
-export function descriptorField(id, text, take, attributes, clear = null) {
-    const note = make("div", {id: `${id}-large`, class: "large", hidden: true});
+// A field for a text that may be long, with what to show beside it, and a function that puts a text into it. TAKE gets
+// what is typed or pasted. A long text stays out of the field: no browser lays out a line of a megabyte at each key.
+// One that is too long is not taken.
+export function longField(id, text, take, {most = MOST_TEXT, clear, ...attributes}) {
+    const note = make("div", {id: `${id}-large`, class: "large", role: "status", hidden: true});
     const put = (value) => {
+        const said = tooLong(value, most);
         field.value = isLarge(value) ? "" : value;
-        field.disabled = isLarge(value);
-        show(note,
-            isLarge(value) && [
-                say(WORDS.large, {count: value.length}), " ",
-                button(WORDS.clear, empty, {id: `${id}-clear`})
-            ]);
+        field.disabled = isLarge(value) && !said;
+        show(note, said || isLarge(value) && [
+            say(WORDS.large, {count: value.length}), " ", button(WORDS.clear, empty, {id: `${id}-clear`})
+        ]);
     };
     const empty = () => {
         (clear ?? set)("");
@@ -27,7 +28,7 @@ export function descriptorField(id, text, take, attributes, clear = null) {
     };
     const set = (value) => {
         put(value);
-        take(value);
+        take(value.length > most ? "" : value);
     };
     const paste = (event) => {
         const pasted = event.clipboardData?.getData("text") ?? "";
@@ -36,7 +37,7 @@ export function descriptorField(id, text, take, attributes, clear = null) {
             set(pasted);
         }
     };
-    const type = (value) => (isLarge(value) ? set(value) : take(value));
+    const type = (value) => (isLarge(value) || !note.hidden ? set(value) : take(value));
     const field = area(id, "", type, {class: "descriptor", ...attributes, onpaste: paste});
     put(text);
     return {field, note, put};
@@ -78,8 +79,6 @@ export function who(sid, alias, names) {
 export const plainName = (sid, names) => nameOf(sid, names);
 
 export const commaed = (words) => words.join(", ");
-
-export const shortened = (text, most) => (text.length > most ? `${text.slice(0, most)} ..` : text);
 
 function kindOf(ace) {
     const audits = ace.flags.map((flag) => valueIn(WORDS.audits, flag)).filter(Boolean);
@@ -142,9 +141,8 @@ export function placeInWords(place) {
 
 // What a refused type of ACE is called, if the place is one.
 export function refusedKind(fault, place) {
-    const name =
-        place.type === undefined ? valueIn(WORDS.refusedKinds, place.kind) :
-                                   valueIn(WORDS.refusedTypes, place.type) ?? WORDS.unknownKind;
+    const name = place.type === undefined ? valueIn(WORDS.refusedKinds, place.kind) :
+                                            valueIn(WORDS.refusedTypes, place.type) ?? WORDS.unknownKind;
     const kind = place.type === undefined ? place.kind : `type ${place.type}`;
     return name && [12, 20, 29].includes(fault.number) ? say(WORDS.error.unsupported, {kind: visible(kind), name}) :
                                                          null;
@@ -157,6 +155,6 @@ export function faultBox(fault, place, ...more) {
     const suggestion = valueIn(WORDS.faults, kind ? NO_SUCH_KIND : fault.number)?.[1];
     return make("div", {class: "fault"}, make("p", {class: "fault-name"}, make("strong", {}, faultInWords(fault))),
         kind && make("p", {}, kind),
-        make("p", {}, where ? say(WORDS.error.place, {place: where}) : WORDS.error.unplaced),
-        markedText(place), suggestion ? make("p", {}, say(WORDS.error.suggestion, {text: suggestion})) : null, ...more);
+        make("p", {}, where ? say(WORDS.error.place, {place: where}) : WORDS.error.unplaced), markedText(place),
+        suggestion ? make("p", {}, say(WORDS.error.suggestion, {text: suggestion})) : null, ...more);
 }

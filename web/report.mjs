@@ -1,13 +1,9 @@
-// A report of sdtool-audit inside the page: lines of JSON, of which the first says what it is, the last counts all
-// objects, and each between them is an object: its name, source, line, answer, form, descriptor, kind, whether it is a
-// folder, reason, help, and findings of rule, trustee, rights, text, why it is accepted, severity, numbers of ACEs,
-// whether these are inherited, and what grants or denies the rights: the number of an ACE or 0, its text or a word, the rights,
-// and whether it grants them. The last line has the places where permissions are set too. It is read in several turns,
-// so that a long one never stops the page, and only what is shown is kept as more than text.
+// A report of sdtool-audit inside the page, in lines of JSON: the table REPORT has the columns of their rows. It is
+// read in several turns, so that a long one never stops the page, and only what is shown is kept as more than text.
+import {valueIn} from "./tables.mjs";
+import {REPORT, SEVERITIES} from "./windows.mjs";
 
 const TURN = 12; // milliseconds
-const FIRST = "sdtool-audit report 3";
-const RANKS = ["high", "medium", "low", "note"];
 
 const nextTurn = () => new Promise((resolve) => setTimeout(resolve));
 
@@ -21,68 +17,53 @@ function valueOf(text) {
 
 const isText = (value) => typeof value === "string";
 
-// Whether a list has items of these types, and no others.
-const isListOf = (value, tests) =>
-    Array.isArray(value) && value.length === tests.length && tests.every((test, index) => test(value[index]));
-
-const areListsOf = (value, tests) => Array.isArray(value) && value.every((item) => isListOf(item, tests));
+const isFlag = (value) => typeof value === "boolean";
 
 const isCount = (value) => Number.isSafeInteger(value) && value >= 0;
 
-const FINDING = [
-    isText, isText, isText, isText, isText, isText, (value) => Array.isArray(value) && value.every(isCount),
-    (value) => typeof value === "boolean", (value) => areListsOf(value, [isCount, isText, isText, (one) => typeof one === "boolean"])
-];
-// Whether an object is a folder may be unknown.
-const isAnswer = (value) => value === null || typeof value === "boolean";
-const OBJECT = [
-    isText, isText, isCount, isText, isText, isText, isText, isAnswer, isText, isText,
-    (value) => areListsOf(value, FINDING)
-];
-const RULE = [isText, isCount, isText];
-// Severity, rule, what was found, the object, where its permission is set, and how many objects have it.
-const GROUP = [isText, isText, isText, isText, isText, isCount];
+const isListOf = (value, test) => Array.isArray(value) && value.every(test);
 
-// What the first line and the last one have; each may have less.
-const isHead = (value) => value?.report === FIRST && isText(value.title ?? "") && isText(value.domain ?? "") &&
-    areListsOf(value.names ?? [], [isText, isText]);
-const isLast = (value) => isText(value?.summary) && isText(value.severities ?? "") && areListsOf(value.rules, RULE) &&
-    areListsOf(value.groups ?? [], GROUP);
+// Whether a value is one of a type of a column.
+const TESTS = {
+    text: isText,
+    count: isCount,
+    flag: isFlag,
+    answer: (value) => value === null || isFlag(value),
+    texts: (value) => isListOf(value, isText),
+    counts: (value) => isListOf(value, isCount),
+};
 
-function objectOf(value) {
-    const [name, source, line, answer, form, descriptor, kind, isFolder, reason, help, findings] = value;
-    return {
-        name,
-        source,
-        line,
-        answer,
-        form,
-        descriptor,
-        kind,
-        isFolder,
-        reason,
-        help,
-        findings: findings.map(([rule, trustee, rights, text, accepted, severity, numbers, isInherited, because]) =>
-                                   ({rule, trustee, rights, text, accepted, severity, numbers, isInherited, because}))
-    };
+const ROWS = Object.fromEntries(Object.entries(REPORT.rows).map(([row, columns]) => [row, Object.entries(columns)]));
+
+const areRows = (row) => (value) => isListOf(value, (one) => isRow(row, one));
+
+function isRow(row, value) {
+    const columns = valueIn(ROWS, row);
+    return Array.isArray(value) && value.length === columns.length &&
+        columns.every(([, type], at) => (valueIn(TESTS, type) ?? areRows(type))(value[at]));
 }
 
-const rankOf = (severity) => (RANKS.includes(severity) ? RANKS.indexOf(severity) : RANKS.length);
+// The values of a row by the names of its columns.
+const named = (row, value) => Object.fromEntries(valueIn(ROWS, row).map(
+    ([name, type], at) => [name, Object.hasOwn(ROWS, type) ? allNamed(type, value[at]) : value[at]]));
+
+const allNamed = (row, values) => values.map((value) => named(row, value));
+
+// What the first line and the last one have; each may have less.
+const isHead = (value) => value?.report === REPORT.version && isText(value.title ?? "") && isText(value.domain ?? "") &&
+    areRows("account")(value.names ?? []);
+const isLast = (value) => isText(value?.summary) && isText(value.severities ?? "") && areRows("rule")(value.rules) &&
+    areRows("group")(value.groups ?? []) && isListOf(value.notes ?? [], isText);
+
+const rankOf = (severity) => (SEVERITIES.includes(severity) ? SEVERITIES.indexOf(severity) : SEVERITIES.length);
 
 // What comes first in the table: what is unknown, then what is most severe.
-const placeOf = ([, , , answer, , , , , , , findings]) =>
-    (answer === "unknown" ? 0 : 1 + Math.min(RANKS.length, ...findings.map((finding) => rankOf(finding[5]))));
+const placeOf = ({answer, findings}) =>
+    (answer === "unknown" ? 0 : 1 + Math.min(SEVERITIES.length, ...findings.map(({severity}) => rankOf(severity))));
 
-const textOf = ({
-    name,
-    source,
-    reason,
-    help,
-    findings
-}) => [name, source, reason, help, ...findings.flatMap(({rule, trustee, rights, text, accepted, severity}) =>
-                                                     [rule, trustee, rights, text, accepted, severity])]
-               .join("\n")
-               .toLowerCase();
+const textOf = ({name, source, reason, help, findings}) => [name, source, reason, help,
+    ...findings.flatMap(({rule, trustee, rights, text, accepted, severity}) => [rule, trustee, rights, text, accepted,
+                            severity])].join("\n").toLowerCase();
 
 export class Report {
     constructor(text) {
@@ -110,13 +91,14 @@ export class Report {
 
     take(start, end) {
         const value = valueOf(this.text.slice(start, end));
-        if (isListOf(value, OBJECT)) {
-            this.count(objectOf(value));
-            this.objects.push({start, end, place: placeOf(value)});
+        if (isRow("object", value)) {
+            const object = named("object", value);
+            this.count(object);
+            this.objects.push({start, end, place: placeOf(object)});
         } else if (isHead(value) && !this.head) {
             this.head = value;
         } else if (isLast(value) && !this.last) {
-            this.last = value;
+            this.last = {...value, rules: allNamed("rule", value.rules), groups: allNamed("group", value.groups ?? [])};
         } else {
             this.damaged += 1;
         }
@@ -128,13 +110,13 @@ export class Report {
         new Set(findings.map(({rule}) => rule)).forEach((rule) => add(this.rules, rule));
     }
 
-    object({start, end}) { return objectOf(valueOf(this.text.slice(start, end))); }
+    object({start, end}) { return named("object", valueOf(this.text.slice(start, end))); }
 
     // The objects that a filter keeps, unknown ones first and then by severity; null if 'isOver' says that nobody wants
     // them any more.
     async chosen({answer, rule, text}, isOver) {
         const wanted = text.trim().toLowerCase();
-        const kept = Array.from({length: RANKS.length + 2}, () => []);
+        const kept = Array.from({length: SEVERITIES.length + 2}, () => []);
         let turn = performance.now();
         for (const one of this.objects) {
             if (!answer && !rule && !wanted) {

@@ -1,7 +1,7 @@
 // The view of a report: its objects as a table with filters, each with the page's own view of its descriptor.
 import {button, byId, input, labelled, make, select, show} from "./dom.mjs";
 import {tableOf} from "./meanings.mjs";
-import {visible} from "./naming.mjs";
+import {shortened, visible} from "./naming.mjs";
 import {formatted, pagesBar} from "./parts_view.mjs";
 import {Report} from "./report.mjs";
 import {say, WORDS} from "./words.mjs";
@@ -15,7 +15,7 @@ const FORMS = ["sddl", "hex", "base64"];
 // The kind of object that the page has words for, or null.
 const kindOf = ({kind, isFolder}) => (kind === "file" && isFolder ? "folder" : tableOf(kind) ? kind : null);
 
-const cut = (text) => visible(text.length > MOST_TEXT ? `${text.slice(0, MOST_TEXT)} ..` : text);
+const cut = (text) => visible(shortened(text, MOST_TEXT));
 
 export const nameOfObject = ({name}) => cut(name) || WORDS.report.noName;
 
@@ -24,7 +24,8 @@ export const placeOfObject = ({source, line}) => cut(line ? say(WORDS.report.pla
 const GRAVE = ["high", "medium"];
 
 const severityBadge = (severity) =>
-    (severity ? [make("span", {class: GRAVE.includes(severity) ? `badge ${severity}` : "badge"}, cut(severity)), " "] : null);
+    (severity ? [make("span", {class: GRAVE.includes(severity) ? `badge ${severity}` : "badge"}, cut(severity)), " "] :
+                null);
 
 function acesWords(numbers, isInherited) {
     const {ace, aces, inherited} = WORDS.report;
@@ -33,19 +34,18 @@ function acesWords(numbers, isInherited) {
 }
 
 // What grants or denies the rights.
-const becauseWords = (because) => because.slice(0, MOST_FINDINGS).map(([number, text, rights, grants]) =>
-    make("div", {class: grants ? "allow" : "deny"}, number ? say(WORDS.report.because, {number}) : "", make("code", {}, cut(text)),
-        " ", cut(grants ? rights : say(WORDS.report.not, {rights}))));
+const becauseWords = (because) =>
+    because.slice(0, MOST_FINDINGS)
+        .map(({number, text, rights, grants}) =>
+                 make("div", {class: grants ? "allow" : "deny"}, number ? say(WORDS.report.because, {number}) : "",
+                     make("code", {}, cut(text)), " ", cut(grants ? rights : say(WORDS.report.not, {rights}))));
 
 function findingWords({rule, trustee, rights, text, accepted, severity, numbers, isInherited, because}) {
     const about = [trustee, rights].filter(Boolean).join(": ");
     return [
-        severityBadge(severity),
-        rule ? [make("span", {class: "badge"}, cut(rule)), " "] : null,
-        cut([about, text].filter(Boolean).join(about ? ". " : "")),
-        acesWords(numbers, isInherited),
-        accepted ? ` ${say(WORDS.report.accepted, {reason: cut(accepted)})}` : null,
-        becauseWords(because)
+        severityBadge(severity), rule ? [make("span", {class: "badge"}, cut(rule)), " "] : null,
+        cut([about, text].filter(Boolean).join(about ? ". " : "")), acesWords(numbers, isInherited),
+        accepted ? ` ${say(WORDS.report.accepted, {reason: cut(accepted)})}` : null, becauseWords(because)
     ];
 }
 
@@ -79,8 +79,7 @@ export class ReportView {
     make() {
         return [
             make("h2", {id: "report-heading"}, WORDS.report.heading), make("div", {id: "report-summary"}),
-            make("div", {id: "report-groups"}),
-            make("div", {id: "report-filters", class: "row"}),
+            make("div", {id: "report-groups"}), make("div", {id: "report-filters", class: "row"}),
             make("p", {id: "report-status", role: "status", "aria-live": "polite"}), make("div", {id: "report-table"})
         ];
     }
@@ -114,11 +113,12 @@ export class ReportView {
             report.isWhole ? null :
                              make("p", {class: "everyone"},
                                  report.damaged ? say(words.damaged, {count: formatted(report.damaged)}) : words.cut),
+            ...(report.last?.notes ?? []).map((text) => make("p", {class: "hint"}, cut(text) + ".")),
             report.last?.severities ? make("p", {}, cut(report.last.severities) + ".") : null,
             report.last ? make("p", {}, cut(report.last.summary) + "." + listed) : null,
             report.last ? make("ul", {},
                               report.last.rules.map(
-                                  ([name, count, reason]) => make("li", {}, make("span", {class: "badge"}, cut(name)),
+                                  ({name, count, reason}) => make("li", {}, make("span", {class: "badge"}, cut(name)),
                                       " ", `${formatted(count)}. ${cut(reason)}`))) :
                           null);
     }
@@ -126,24 +126,26 @@ export class ReportView {
     // Where permissions are set, with how many objects have them. A button filters the table by the place.
     showGroups() {
         const {groups, placeColumns, places, morePlaces} = WORDS.report;
-        const all = (this.report.last?.groups ?? []).filter((group) => group[5] > 1);
+        const all = (this.report.last?.groups ?? []).filter(({objects}) => objects > 1);
         const shown = all.slice(0, MOST_GROUPS);
         show(byId("report-groups"), shown.length ? this.groupTable(shown, groups, placeColumns) : null,
-            all.length > shown.length ? make("p", {}, say(morePlaces, {count: formatted(all.length - shown.length)})) : null,
+            all.length > shown.length ? make("p", {}, say(morePlaces, {count: formatted(all.length - shown.length)})) :
+                                        null,
             shown.length ? make("p", {class: "hint"}, places) : null);
     }
 
     groupTable(rows, heading, columns) {
-        const row = ([severity, rule, words, name, place, count]) =>
+        const row = ({severity, rule, text, name, place, objects}) =>
             make("tr", {class: severity === "high" ? "deny" : "quiet"},
                 make("th", {scope: "row", "data-label": columns.name},
                     button(make("bdi", {}, cut(name) || WORDS.report.noName), () => this.only(name), {class: "open"})),
-                make("td", {"data-label": columns.count}, formatted(count)),
-                make("td", {"data-label": columns.what}, severityBadge(severity), make("span", {class: "badge"}, cut(rule)), " ",
-                    cut([words, place].filter(Boolean).join(". "))));
+                make("td", {"data-label": columns.count}, formatted(objects)),
+                make("td", {"data-label": columns.what}, severityBadge(severity),
+                    make("span", {class: "badge"}, cut(rule)), " ", cut([text, place].filter(Boolean).join(". "))));
         return make("div", {class: "scroll", tabindex: "0", role: "region", "aria-label": heading},
             make("table", {class: "report groups"}, make("caption", {}, heading),
-                make("thead", {}, make("tr", {}, Object.values(columns).map((text) => make("th", {scope: "col"}, text)))),
+                make("thead", {},
+                    make("tr", {}, Object.values(columns).map((text) => make("th", {scope: "col"}, text)))),
                 make("tbody", {}, rows.map(row))));
     }
 
@@ -158,8 +160,8 @@ export class ReportView {
     showFilters() {
         const words = WORDS.report;
         // A list keeps the order, and an option may be called anything.
-        const options = (all, counts) =>
-            [["", all], ...[...counts].map(([name, count]) => [name, `${cut(name)} (${formatted(count)})`])];
+        const options = (all,
+            counts) => [["", all], ...[...counts].map(([name, count]) => [name, `${cut(name)} (${formatted(count)})`])];
         const set = (name) => (value) => {
             this.filter[name] = value;
             this.page = 0;
@@ -221,8 +223,8 @@ export class ReportView {
 
     canShow(object) { return FORMS.includes(object.form) && kindOf(object) !== null; }
 
-    // Why there is no view of a descriptor: without one there is nothing to show, and the page has no words for the rights of a
-    // kind that it doesn't know.
+    // Why there is no view of a descriptor: without one there is nothing to show, and the page has no words for the
+    // rights of a kind that it doesn't know.
     noView(object) {
         return object.form === "" || this.canShow(object) ?
             null :

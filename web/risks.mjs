@@ -1,12 +1,26 @@
 // What is risky about a descriptor: the rules of windows/, which sdtool-audit has too. Whether somebody gets a right is
 // always an answer of check, about the descriptor or about one without the ACEs that Windows itself gives.
-import {abilitiesOf, classesOf, isHarmless, isOwn, mayGive, partsOf, restOf, WHOLE_TYPES} from "./abilities.mjs";
-import {grantedOf, tokenOf} from "./access.mjs";
-import {descriptorOfPieces, guidBytes} from "./library.mjs";
-import {atRisk, doing, everybodyClass, inheritedBy, isDirectory, isTrusted, mappingOf, maskBelow, meaningOfSid,
-    relativeOf, rightsOfKind, tableOf, withoutGeneric} from "./meanings.mjs";
+import {abilitiesOf, classesOf, isHarmless, isOwn, mayGive, partsOf, restOf} from "./abilities.mjs";
+import {grantedOf, reasonsOf, tokenOf, typesBySid, typesFor} from "./access.mjs";
+import {aceText, guidBytes} from "./library.mjs";
+import {
+    atRisk,
+    doing,
+    everybodyClass,
+    inheritedBy,
+    isDirectory,
+    isTrusted,
+    mappingOf,
+    maskBelow,
+    meaningOfSid,
+    relativeOf,
+    rightsOfKind,
+    runsCode,
+    tableOf,
+    withoutGeneric
+} from "./meanings.mjs";
 import {valueIn} from "./tables.mjs";
-import {DEFAULTS, RULES, SIDS} from "./windows.mjs";
+import {DEFAULTS, QUIET, RISKS_OF, RULE_OF, RULES, SEVERITIES, SIDS} from "./windows.mjs";
 
 const WRITE_DAC = 0x40000;
 const TAKE_OVER = 0xc0000;
@@ -14,18 +28,11 @@ const EVERYONE = "S-1-1-0";
 const ANONYMOUS = "S-1-5-7";
 const OWNER_RIGHTS = "S-1-3-4";
 const PRINCIPAL_SELF = "S-1-5-10";
-const RULE_OF = {anyone: "everyone-changes", "logged-on": "users-change", application: "apps-change"};
-const RISKS_OF = {
-    anyone: ["takeover", "everybody", "anyone", "anonymous"],
-    "logged-on": ["takeover", "everybody"],
-    application: ["takeover", "everybody"],
-};
-const QUIET = ["stand-in", "package"];
-// Kinds whose rights run code as another account: there the accounts that services share aren't trusted.
-const STRICT = ["service", "service-manager"];
 const ALLOWS = ["A", "OA"];
 const DENIES = ["D", "OD"];
-const SEVERITIES = Object.fromEntries(RULES.map(([name, severity]) => [name, severity]));
+const MOST_TYPED = 20_000; // checks of a descriptor for object types
+const USUALLY = Object.fromEntries(RULES.map(([name, severity]) => [name, severity]));
+const OF_DIRECTORY = Object.fromEntries(RULES.map(([name, , , severity]) => [name, severity]));
 
 // Whether nobody in particular has a SID, or an account of the system that may have any right to this kind.
 function isQuiet(sid, kind) {
@@ -33,7 +40,8 @@ function isQuiet(sid, kind) {
     if (QUIET.includes(who) || (sid === PRINCIPAL_SELF && !isDirectory(kind))) {
         return true;
     }
-    return who === "service" && !(STRICT.includes(kind) && Object.hasOwn(SIDS, sid));
+    // The accounts that services share aren't trusted where a right runs code as another account.
+    return who === "service" && !(runsCode(kind) && Object.hasOwn(SIDS, sid));
 }
 
 // Which rights of a trustee are a finding, and by which rule.
@@ -42,6 +50,10 @@ function wantedOf(sid, kind, domain) {
         return {rule: "", mask: 0};
     }
     const who = everybodyClass(sid);
+    const {rule, mapping} = tableOf(kind);
+    if (rule) {
+        return {rule, mask: who || !isQuiet(sid, kind) ? mapping[3] : 0};
+    }
     if (who) {
         const risks = valueIn(RISKS_OF, who).filter((risk) => risk !== "anonymous" || sid === ANONYMOUS);
         return {rule: valueIn(RULE_OF, who), mask: atRisk(kind, risks)};
@@ -50,7 +62,7 @@ function wantedOf(sid, kind, domain) {
 }
 
 // Whether an ACE is one that Windows itself gives.
-function isDefault(ace, mask, ofChildren, {kind, domain, classes}) {
+function isDefault(ace, mask, ofChildren, {kind, domain, classes, named}) {
     const relative = relativeOf(ace.sid);
     const isKnown = relative && (!domain || relative.domain === domain);
     return DEFAULTS.some(([kinds, ofClasses, at, who, allowed, object, inherited, below, known]) => {
@@ -70,41 +82,88 @@ function isDefault(ace, mask, ofChildren, {kind, domain, classes}) {
         if (classes.length === 0) {
             return !known;
         }
-        return (ofClasses.length === 0 && at.length === 0) || ofClasses.includes(classes.at(-1));
+        return (ofClasses.length === 0 && at.length === 0) || ofClasses.includes(classes.at(-1)) || at.includes(named);
     });
 }
 
-// A descriptor that the library is asked about. What it answers for a token is kept.
+// Trustees and object types are too many to be asked together.
+class TooMany extends Error {}
+
+// A descriptor that the library is asked about, with the ACEs that decide about it, and the numbers of all its ACEs in
+// the object's list. What it answers for a token is kept. About an object type that no ACE names for a token the answer
+// is that about the object as a whole, so it isn't asked.
 class View {
-    constructor(library, descriptor, kind) {
-        Object.assign(this, {library, descriptor, kind, known: new Map()});
+    constructor(library, descriptor, kind, aces, numbers) {
+        const types = typesBySid(isDirectory(kind) ? aces.filter(({object}) => object) : []);
+        const isDenied = aces.some((ace) => DENIES.includes(ace.kind));
+        Object.assign(this, {library, descriptor, kind, numbers, types, isDenied, known: new Map(), typed: 0});
     }
 
+    typesOf(sid) { return typesFor(this.types, sidsOf(sid)); }
+
     // What a trustee gets: of the object as a whole, and what object types add.
-    got(sid, types) {
+    got(sid) {
         const whole = this.mask(sid, "");
-        const typed = types.map((object) => ({object, mask: (this.mask(sid, object) & ~whole) >>> 0}));
+        const typed = this.typesOf(sid).map((object) => ({object, mask: (this.mask(sid, object) & ~whole) >>> 0}));
         return {mask: whole, typed: typed.filter(({mask}) => mask !== 0)};
     }
+
+    // Whether a trustee has a right where ACEs for any of some object types count, and those for the object's own
+    // class, which is one of OWN: the first one that decides does.
+    gives(sid, own, right, types) {
+        const {library, descriptor, kind} = this;
+        const token = tokenOf(library, sidsOf(sid));
+        const ofClass = this.typesOf(sid).filter((object) => isOwn(object, own));
+        const decided = [...new Set([...types, ...ofClass])].map((object) => {
+            const request = {mapping: mappingOf(kind), objectType: guidBytes(library, object)};
+            return reasonsOf(library, descriptor, token, request).find(({bit}) => bit === right);
+        });
+        const first = Math.min(...decided.map(({number}) => number ?? Infinity));
+        return decided.some(({isGranted, number}) => isGranted && number === first);
+    }
+
+    // The same about a right that an ACE gives: only one that denies takes it.
+    keeps(sid, own, right, types) { return !this.isDenied || this.gives(sid, own, right, types); }
 
     mask(sid, object) {
         const key = `${sid} ${object}`;
         if (!this.known.has(key)) {
-            const token = tokenOf(this.library, [sid, ...meaningOfSid(sid).also]);
-            const request = {mapping: mappingOf(this.kind), objectType: guidBytes(this.library, object)};
+            this.typed += object ? 1 : 0;
+            if (this.typed > MOST_TYPED) {
+                throw new TooMany();
+            }
+            const {token, request} = this.asked(sid, object);
             this.known.set(key, grantedOf(this.library, this.descriptor, token, request, rightsOfKind(this.kind)));
         }
         return this.known.get(key);
     }
+
+    asked(sid, object) {
+        const token = tokenOf(this.library, sidsOf(sid));
+        return {token, request: {mapping: mappingOf(this.kind), objectType: guidBytes(this.library, object)}};
+    }
+
+    // The numbers of the ACEs that grant a trustee rights.
+    granting(sid, mask, object) {
+        const {token, request} = this.asked(sid, object);
+        const aces = reasonsOf(this.library, this.descriptor, token, request)
+                         .filter(({bit, isGranted, number}) => isGranted && number !== null && (mask & bit) !== 0)
+                         .map(({number}) => this.numbers[number - 1]);
+        return [...new Set(aces)].sort((one, other) => one - other);
+    }
 }
 
-const hex = (mask) => `0x${mask.toString(16)}`;
+const sidsOf = (sid) => [sid, ...meaningOfSid(sid).also];
 
-const aceText = ({kind, object, inherited, sid}, flags, mask) =>
-    `(${kind};${flags.join("")};${hex(mask)};${object ?? ""};${inherited ?? ""};${sid})`;
-
-const viewOf = (library, kind, owner, aces) => new View(library,
-    descriptorOfPieces(library, {owner, group: null, dacl: {flags: "", aces}, sacl: null}), kind);
+// A view of ACEs, given as {ace, mask}, with other flags where they are given. Those for children alone don't decide.
+function viewOf(library, kind, owner, all, flags) {
+    const aces = all.map(({ace, mask}) => aceText({...ace, flags: flags ?? ace.flags, mask}));
+    const deciding =
+        all.map(({ace}) => ace)
+            .filter((ace) => [...ALLOWS, ...DENIES].includes(ace.kind) && !(flags ?? ace.flags).includes("IO"));
+    const descriptor = library.fromSddl(`${owner ? `O:${owner}` : ""}D:${aces.join("")}`);
+    return new View(library, descriptor, kind, deciding, all.map(({ace}) => ace.number));
+}
 
 const only = (got, mask) => ({
     mask: (got.mask & mask) >>> 0,
@@ -115,16 +174,17 @@ function without(got, less) {
     const known = new Map(less.typed.map(({object, mask}) => [object, mask]));
     return {
         mask: (got.mask & ~less.mask) >>> 0,
-        typed: got.typed
-            .map(({object, mask}) => ({object, mask: (mask & ~less.mask & ~(known.get(object) ?? 0)) >>> 0}))
-            .filter(({mask}) => mask !== 0),
+        typed:
+            got.typed.map(({object, mask}) => ({object, mask: (mask & ~less.mask & ~(known.get(object) ?? 0)) >>> 0}))
+                .filter(({mask}) => mask !== 0),
     };
 }
 
-// What is asked about a descriptor: the trustees here and below, and what is left of the list without Windows' own ACEs.
+// What is asked about a descriptor: the trustees here and below, and what is left of the list without Windows' own
+// ACEs.
 function caseOf(model, options) {
     const {kind, domain} = options;
-    const [here, below, kept] = [new Map(), new Map(), []];
+    const [here, below, kept] = [new Set(), new Map(), []];
     const inherited = inheritedBy(kind);
     // What an ACE that denies takes here, children may get all the same; and a generic right may mean more for them.
     const isDenied = model.dacl.aces.some((ace) => DENIES.includes(ace.kind));
@@ -139,7 +199,7 @@ function caseOf(model, options) {
                 continue;
             }
             if (!isBelow) {
-                here.set(sid, [...(here.get(sid) ?? []), ace.number]);
+                here.add(sid);
             }
             const hasMore = isBelow || isDenied || (ofChildren & ~mask) !== 0;
             if (goesOn && (isDirectory(kind) || (hasMore && everybodyClass(ace.sid)))) {
@@ -167,38 +227,54 @@ function concerns(ace, mask, sid, kind, domain) {
 // The owner, if it isn't trusted.
 function askedOwner(model, kind, domain) {
     const owner = model.owner?.sid;
-    if (!owner || isTrusted(owner, domain)) {
+    if (!owner || tableOf(kind).rule || isTrusted(owner, domain)) {
         return null;
     }
     return everybodyClass(owner) || !(tableOf(kind).owner === "usual" || isQuiet(owner, kind)) ? owner : null;
 }
 
-const finding = (rule, who, numbers, more) => ({rule, severity: valueIn(SEVERITIES, rule), who, numbers, ...more});
-
-function ofMask(rule, sid, numbers, got, more = {}) {
-    return partsOf(got).filter(({mask}) => mask !== 0)
-        .map(({object, mask}) => finding(rule, sid, numbers, {mask, ...(object ? {object} : {}), ...more}));
+// How grave what a rule finds is. Who owns an object can change permissions, which is as grave as having that right.
+function severityOf(rule, kind, who) {
+    const found = valueIn(isDirectory(kind) ? OF_DIRECTORY : USUALLY, rule);
+    const group = rule === "foreign-owner" && everybodyClass(who);
+    const all = group ? [found, severityOf(valueIn(RULE_OF, group), kind, who)] : [found];
+    return SEVERITIES.find((one) => all.includes(one));
 }
 
-// What a trustee of a directory object can do, by name, and the rest for everybody.
-function ofDirectory(sid, numbers, wanted, got, whole, options, more) {
-    const {kind, domain, classes, hasAccounts} = options;
-    const own = more.isBelow ? classes : classes.slice(-1);
-    const over = partsOf(got).find(({object, mask}) => (mask & wanted.mask & TAKE_OVER) !== 0 && isOwn(object, own));
+const finding = (rule, kind, who, numbers, more) =>
+    ({rule, severity: severityOf(rule, kind, who), who, numbers, ...more});
+
+function ofMask(rule, kind, sid, view, got, more = {}) {
+    return partsOf(got).filter(({mask}) => mask !== 0).map(({object, mask}) => {
+        const numbers = view.granting(sid, mask, object);
+        return finding(rule, kind, sid, numbers, {mask, ...(object ? {object} : {}), ...more});
+    });
+}
+
+const isOfEverybody = ({rule}) => rule !== "" && rule !== "takeover";
+
+// What a trustee of a directory object can do, by name, and the rest for everybody. WHERE is the object, and ANSWERS
+// are those about the trustee.
+function ofDirectory(sid, view, wanted, got, where, answers, {kind, domain}, more) {
+    const over =
+        partsOf(got).find(({object, mask}) => (mask & wanted.mask & TAKE_OVER) !== 0 && isOwn(object, where.own));
     if (over) {
         // Who can change permissions or the owner has every other right too.
-        return ofMask(wanted.rule, sid, numbers, only({mask: 0, typed: [over]}, doing(kind, "change")), more);
+        return ofMask(wanted.rule, kind, sid, view, only({mask: 0, typed: [over]}, doing(kind, "change")), more);
     }
-    const had = abilitiesOf(sid, got, whole, classes, own, hasAccounts, domain);
-    const named = had.map(({rule, mask, object, severity, says}) =>
-                              ({rule, severity, who: sid, numbers, mask, says, ...(object ? {object} : {}), ...more}));
-    const rest = wanted.rule === "takeover" || !wanted.rule ? {mask: 0, typed: []} : only(restOf(got, had), wanted.mask);
-    return [...named, ...ofMask(wanted.rule, sid, numbers, rest, more)];
+    const had = abilitiesOf(sid, got, where, answers, isOfEverybody(wanted), domain);
+    const named = had.map(({rule, mask, object, types, severity, says}) => {
+        const numbers = answers.numbersOf(mask, types);
+        return {rule, severity, who: sid, numbers, mask, says, ...(object ? {object} : {}), ...more};
+    });
+    const rest = isOfEverybody(wanted) ? only(restOf(got, had, where), wanted.mask) : {mask: 0, typed: []};
+    return [...named, ...ofMask(wanted.rule, kind, sid, view, rest, more)];
 }
 
 // The findings about a descriptor, with the numbers of their ACEs: {rule, severity, who, mask, object, says, isBelow,
-// numbers}, and the kind that the mask is one of, if it is another. CLASSES are those of a directory object, if they are known.
-export function risksOf(library, model, {kind, domain, classes = [], hasAccounts = true}) {
+// numbers}, and the kind that the mask is one of, if it is another. CLASSES are those of a directory object, if they
+// are known.
+export function risksOf(library, model, {kind, domain, classes = [], named = "", hasAccounts = true}) {
     if (kind === "authority" && model.dacl.aces.some(({object}) => object)) {
         // The object of the authority in the directory.
         const options = {kind: "ds", domain, classes: ["pKIEnrollmentService"], hasAccounts};
@@ -207,56 +283,74 @@ export function risksOf(library, model, {kind, domain, classes = [], hasAccounts
     const {state, aces} = model.dacl;
     if (state !== "list") {
         const mask = tableOf(kind).mapping[3];
-        return [finding(state === "absent" ? "no-dacl" : "null-dacl", EVERYONE, [], {mask})];
+        return [finding(state === "absent" ? "no-dacl" : "null-dacl", kind, EVERYONE, [], {mask})];
     }
     const ofKind = kind === "template" && classes.length === 0 ? ["pKICertificateTemplate"] : classes;
     return [
-        ...(aces.length ? [] : [finding("empty-dacl", null, [], {})]),
-        ...ofList(library, model, {kind, domain, classes: ofKind, hasAccounts}),
+        ...(aces.length ? [] : [finding("empty-dacl", kind, null, [], {})]),
+        ...asked(() => ofList(library, model, {kind, domain, classes: ofKind, named, hasAccounts})),
     ];
 }
 
+// What is found, or that it isn't known.
+function asked(question) {
+    try {
+        return question();
+    } catch (fault) {
+        if (fault instanceof TooMany) {
+            return [{rule: "manyPairs", severity: "medium", who: null, numbers: []}];
+        }
+        throw fault;
+    }
+}
+
 function ofList(library, model, options) {
-    const {kind, domain} = options;
+    const {kind, domain, classes, hasAccounts} = options;
     const {here, below, kept} = caseOf(model, options);
     const owner = askedOwner(model, kind, domain);
     if (!here.size && !below.size && !owner) {
         return [];
     }
-    const texts = (all) => all.map(({ace, mask}) => aceText(ace, ace.flags, mask));
     const ownerSid = model.owner?.sid ?? null;
-    const own = viewOf(library, kind, ownerSid, texts(kept));
-    const whole = viewOf(library, kind, ownerSid,
-        texts(model.dacl.aces.map((ace) => ({ace, mask: withoutGeneric(ace.mask, kind)}))));
-    const types = isDirectory(kind) ? [...new Set(kept.map(({ace}) => ace.object).filter(Boolean))] : [];
+    const own = viewOf(library, kind, ownerSid, kept);
+    const whole =
+        viewOf(library, kind, ownerSid, model.dacl.aces.map((ace) => ({ace, mask: withoutGeneric(ace.mask, kind)})));
     const wanted = (sid) => wantedOf(sid, kind, domain);
     // What a trustee gets beyond what is found of wider groups.
-    const beyond = (view, sid, among) => meaningOfSid(sid)
-        .also.filter((group) => among.has(group) && wanted(group).rule)
-        .reduce((got, group) => without(got, only(view.got(group, types), wanted(group).mask)), view.got(sid, types));
+    const beyond =
+        (view, sid, among) => meaningOfSid(
+            sid).also.filter((group) => among.has(group) && wanted(group).rule)
+                                  .reduce((got, group) => without(got, only(view.got(group), wanted(group).mask)),
+                                      view.got(sid));
     const ofOwner = owner ? (own.mask(owner, "") & WRITE_DAC) >>> 0 : 0;
-    const found = ofOwner ? [finding("foreign-owner", owner, [], {mask: ofOwner})] : [];
-    const ofSid = (sid, numbers, got) => {
-        if (!isDirectory(kind)) {
-            return ofMask(wanted(sid).rule, sid, numbers, only(got, wanted(sid).mask));
-        }
-        const masks = new Map(WHOLE_TYPES.map((object) => [object, whole.mask(sid, object)]));
-        return ofDirectory(sid, numbers, wanted(sid), got, masks, options, {});
-    };
-    for (const [sid, numbers] of here) {
+    const found = ofOwner ? ofMask("foreign-owner", kind, owner, own, {mask: ofOwner, typed: []}) : [];
+    const where = {classes, own: classes.slice(-1), hasAccounts};
+    const ofSid = (sid, got) => (isDirectory(kind) ?
+            ofDirectory(sid, own, wanted(sid), got, where, answersOf(own, whole, sid, where), options, {}) :
+            ofMask(wanted(sid).rule, kind, sid, own, only(got, wanted(sid).mask)));
+    for (const sid of here) {
         if (sid === ownerSid && tableOf(kind).owner === "usual" && !everybodyClass(sid)) {
             continue;
         }
         const got = beyond(own, sid, here);
-        found.push(...ofSid(sid, numbers, sid === owner ? without(got, {mask: ofOwner, typed: []}) : got));
+        found.push(...ofSid(sid, sid === owner ? without(got, {mask: ofOwner, typed: []}) : got));
     }
-    return [...found, ...ofBelow(library, {below, kept, own, types, beyond, wanted, ofSid}, options)];
+    return [...found, ...ofBelow(library, {below, kept, own, beyond, wanted, ofSid}, options)];
 }
+
+// What answers about a trustee, of an object without what is excused and of all of it.
+const answersOf = (view, whole, sid, {own}) => ({
+    gives: (right, types) => view.keeps(sid, own, right, types),
+    givesAll: (right, types) => whole.gives(sid, own, right, types),
+    numbersOf: (mask,
+        types) => [...new Set(types.flatMap((object) => (types.length > 1 ? whole : view).granting(sid, mask, object)))]
+                      .sort((one, other) => one - other),
+});
 
 const keyOf = ({rule, mask}) => `${rule} ${mask}`;
 
 // What is granted in what is made in an object, and not here.
-function ofBelow(library, {below, kept, own, types, beyond, wanted, ofSid}, options) {
+function ofBelow(library, {below, kept, own, beyond, wanted, ofSid}, options) {
     const {kind} = options;
     if (!below.size) {
         return [];
@@ -264,25 +358,30 @@ function ofBelow(library, {below, kept, own, types, beyond, wanted, ofSid}, opti
     const inherited = inheritedBy(kind);
     // An ACE that denies for one class of children, or one level, stops what is for others too only there.
     const listed = [...below.values()].flat();
-    const isOfAll = ({flags, inherited: of}) => listed.every((one) =>
-        (!of || of === one.inherited) && (!flags.includes("NP") || one.flags.includes("NP")));
-    const children = inherited.map((flag) => viewOf(library, kind, null, kept.filter(({ace}) => ace.flags.includes(flag) &&
-        (ALLOWS.includes(ace.kind) || (DENIES.includes(ace.kind) && isOfAll(ace))))
-        .map(({ace, ofChildren}) => aceText(ace, [], ofChildren))));
+    const isOfAll = ({flags, inherited: of}) =>
+        listed.every((one) => (!of || of === one.inherited) && (!flags.includes("NP") || one.flags.includes("NP")));
+    const children =
+        inherited.map((flag) => viewOf(library, kind, null,
+                          kept.filter(({ace}) => ace.flags.includes(flag) &&
+                                      (ALLOWS.includes(ace.kind) || (DENIES.includes(ace.kind) && isOfAll(ace))))
+                              .map(({ace, ofChildren}) => ({ace, mask: ofChildren})),
+                          []));
     return [...below].flatMap(([sid, aces]) => {
-        const numbers = aces.map(({number}) => number);
-        let had = own.got(sid, types);
-        const told = new Set(ofSid(sid, numbers, had).map(keyOf));
+        let had = own.got(sid);
+        const told = new Set(ofSid(sid, had).map(keyOf));
         const classes = classesOf(aces.map((ace) => ace.inherited));
+        const where = {classes, own: classes, hasAccounts: false};
         return children.flatMap((child) => {
             const got = beyond(child, sid, below);
             if (!isDirectory(kind)) {
                 const more = only(without(got, had), wanted(sid).mask);
                 had = {...had, mask: had.mask | more.mask};
-                return ofMask("children-change", sid, numbers, more, {isBelow: true});
+                return ofMask("children-change", kind, sid, child, more, {isBelow: true});
             }
-            return ofDirectory(sid, numbers, wanted(sid), got, new Map(), {...options, classes, hasAccounts: false}, {isBelow: true})
-                .filter((one) => !told.has(keyOf(one)) && told.size < told.add(keyOf(one) + one.object).size);
+            const answers = answersOf(child, child, sid, where);
+            return ofDirectory(sid, child, wanted(sid), got, where, answers, options, {
+                isBelow: true
+            }).filter((one) => !told.has(keyOf(one)) && told.size < told.add(keyOf(one) + one.object).size);
         });
     });
 }

@@ -2,8 +2,8 @@
 // memory for than a browser has for one search, is read here once.
 import {valueIn} from "./tables.mjs";
 
-const [TAB, CR, LF, SPACE, QUOTE, COMMA, BACKSLASH, ZERO, NINE, LOWER] =
-    [..."\t\r\n \",\\09 "].map((character) => character.charCodeAt(0));
+const [TAB, CR, SPACE, QUOTE, COMMA, BACKSLASH, ZERO, NINE, LOWER] =
+    [..."\t\r \",\\09 "].map((character) => character.charCodeAt(0));
 const LAST_ASCII = 0x7f;
 const MOST_DIGITS = 3; // of a byte in decimal
 
@@ -35,7 +35,8 @@ export function afterBlanks(text, from) {
     return at;
 }
 
-// Where the digits of a value of a .reg file end: pairs of hex digits, commas, blanks, and line ends behind a backslash.
+// Where the digits of a value of a .reg file end: pairs of hex digits, commas, blanks, and line ends behind a
+// backslash.
 export function endOfPairs(text, from) {
     for (let at = from;;) {
         const code = text.charCodeAt(at); // NaN behind the end
@@ -117,15 +118,20 @@ export function decimalBytes(text) {
     return bytes.subarray(0, length);
 }
 
-const PARTS = {O: "owner", G: "group", D: "dacl", S: "sacl"};
+const PARTS = {
+    O: "owner",
+    G: "group",
+    D: "dacl",
+    S: "sacl"
+};
 const MOST_TYPE = 20; // characters in which the type of an ACE ends
 
 // The type of the ACE that begins at a place, as it is written.
-export const typeAt = (text, start) =>
-    text.slice(start + 1, start + MOST_TYPE).split(/[;)]/)[0].trim().toUpperCase();
+export const typeAt = (text, start) => text.slice(start + 1, start + MOST_TYPE).split(/[;)]/)[0].trim().toUpperCase();
 
 // The ACEs of a text that is refused, as they are written, so that a reader sees what the refusal is about. Nothing is
-// said of what they grant. An ACE has the parentheses inside it, and ends with the text where one of its own is missing.
+// said of what they grant. An ACE has the parentheses inside it, and ends with the text where one of its own is
+// missing.
 export function writtenAces(text) {
     const aces = [];
     let [part, number, depth, start, isQuoted] = [null, 0, 0, 0, false];

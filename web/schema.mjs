@@ -3,7 +3,13 @@ import {valueIn} from "./tables.mjs";
 import {BITS_OF_TYPE, TYPES} from "./windows.mjs";
 
 // What the page calls each type.
-const TYPE_NAMES = {right: "right", write: "validated write", set: "property set", class: "class", attribute: "property"};
+const TYPE_NAMES = {
+    right: "right",
+    write: "validated write",
+    set: "property set",
+    class: "class",
+    attribute: "property"
+};
 
 const NAMES = new Map();
 
@@ -16,7 +22,10 @@ for (const [type, words] of Object.entries(TYPES)) {
             at += 1;
         }
         const guid = all[at] + end;
-        NAMES.set(guid, [...(NAMES.get(guid) ?? []), {guid, name: all[at + 1], type: valueIn(TYPE_NAMES, type), bits: valueIn(BITS_OF_TYPE, type)}]);
+        NAMES.set(guid, [
+            ...(NAMES.get(guid) ?? []),
+            {guid, name: all[at + 1], type: valueIn(TYPE_NAMES, type), bits: valueIn(BITS_OF_TYPE, type)}
+        ]);
     }
 }
 

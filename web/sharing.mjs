@@ -1,10 +1,10 @@
-// The state of the page in its address, behind '#', which no browser sends; and the command line with the same
-// answer.
+// The state of the page as a link, behind '#', which no browser sends; and the command line with the same answer.
 import {bitsOf} from "./access.mjs";
 import {wordsOf} from "./lines_view.mjs";
 import {hasOwnMapping, mappingOf, rightsOfKind} from "./meanings.mjs";
 import {HIDDEN, rightsOf} from "./naming.mjs";
 import {between} from "./scanning.mjs";
+import {MOST_LIST, MOST_TEXT, MOST_WORD} from "./state.mjs";
 import {valueIn} from "./tables.mjs";
 import {KINDS as TABLE_OF_KINDS} from "./windows.mjs";
 
@@ -15,17 +15,19 @@ const FORMS = ["auto", "sddl", "hex", "base64"];
 const MOST_LEVEL = 0xffffffff;
 const MAXIMUM_ALLOWED = 0x2000000;
 
+// The name of each field, whose it is, and how many characters it takes.
 const FIELDS = [
-    ["d", (state) => state, "text"],
+    ["d", (state) => state, "text", MOST_TEXT],
     ["domain", (state) => state, "domain"],
     ["object", (state) => state, "object"],
-    ["token", (state) => state.ask, "token"],
+    ["class", (state) => state, "classes"],
+    ["token", (state) => state.ask, "token", MOST_LIST],
     ["want", (state) => state.ask, "want"],
     ["self", (state) => state.ask, "self"],
     ["owner", (state) => state.made, "owner"],
     ["group", (state) => state.made, "group"],
-    ["creator", (state) => state.made, "creator"],
-    ["other", (state) => state.other, "text"],
+    ["creator", (state) => state.made, "creator", MOST_TEXT],
+    ["other", (state) => state.other, "text", MOST_TEXT],
 ];
 const FLAGS = [
     ["common", (state) => state, "common"],
@@ -57,10 +59,11 @@ export function addressOf(state, fresh) {
             words.set(name, holder(state)[key] ? "1" : "0");
         }
     }
-    for (const [name, holder, key] of CHOICES) {
+    for (const [name, holder, key, known] of CHOICES) {
+        const value = holder(state)[key];
         // A kind that somebody chose stands against what the text tells of.
-        if (holder(state)[key] !== holder(fresh)[key] || (name === "kind" && state.isKindChosen)) {
-            words.set(name, holder(state)[key]);
+        if (known.includes(value) && (value !== holder(fresh)[key] || (name === "kind" && state.isKindChosen))) {
+            words.set(name, value);
         }
     }
     if (state.ask.level !== fresh.ask.level) {
@@ -78,20 +81,24 @@ export function addressOf(state, fresh) {
 
 // How each name of an address is taken into a state: whether it could be read. What can't stays as it was.
 const READERS = new Map([
-    ...FIELDS.map(([name, holder, key]) => [name, (state, value) => {
-        holder(state)[key] = value;
-        return true;
-    }]),
-    ...FLAGS.map(([name, holder, key]) => [name, (state, value) => {
-        holder(state)[key] = value === "1";
-        return value === "0" || value === "1";
-    }]),
-    ...CHOICES.map(([name, holder, key, known]) => [name, (state, value) => {
-        const isKnown = known.includes(value);
-        holder(state)[key] = isKnown ? value : holder(state)[key];
-        state.isKindChosen ||= isKnown && name === "kind";
-        return isKnown;
-    }]),
+    ...FIELDS.map(([name, holder, key, most = MOST_WORD]) => [name,
+                      (state, value) => {
+                          const isShort = value.length <= most;
+                          holder(state)[key] = isShort ? value : holder(state)[key];
+                          return isShort;
+                      }]),
+    ...FLAGS.map(([name, holder, key]) => [name,
+                     (state, value) => {
+                         holder(state)[key] = value === "1";
+                         return value === "0" || value === "1";
+                     }]),
+    ...CHOICES.map(([name, holder, key, known]) => [name,
+                       (state, value) => {
+                           const isKnown = known.includes(value);
+                           holder(state)[key] = isKnown ? value : holder(state)[key];
+                           state.isKindChosen ||= isKnown && name === "kind";
+                           return isKnown;
+                       }]),
     ["level", takeLevel],
     ["rights", takeRights],
     ["chosen", takeChosen],
@@ -123,21 +130,24 @@ function takeChosen(state, value) {
     return true;
 }
 
-// Takes an address into a state, and gives what of it can't be read, of which a name that comes twice is a part. An address
-// is written by strangers.
+// Takes an address into a state, and gives what of it can't be read, of which a name that comes twice is a part. An
+// address is written by strangers.
 export function takeAddress(state, text) {
     const words = [...new URLSearchParams(text)];
     const seen = new Set();
     // The kind comes first, since rights depend on it.
     const inOrder = [...words.filter(([name]) => name === "kind"), ...words.filter(([name]) => name !== "kind")];
-    return inOrder.filter(([name, value]) => {
-        const isRead = !seen.has(name) && READERS.get(name)?.(state, value);
-        seen.add(name);
-        return !isRead;
-    }).map(([name, value]) => `${name}=${value}`);
+    return inOrder
+        .filter(([name, value]) => {
+            const isRead = !seen.has(name) && READERS.get(name)?.(state, value);
+            seen.add(name);
+            return !isRead;
+        })
+        .map(([name, value]) => `${name}=${value}`);
 }
 
-const octal = (text) => [...new TextEncoder().encode(text)].map((byte) => `\\0${byte.toString(8).padStart(3, "0")}`).join("");
+const octal =
+    (text) => [...new TextEncoder().encode(text)].map((byte) => `\\0${byte.toString(8).padStart(3, "0")}`).join("");
 
 const plainQuoted = (text) => `'${text.replace(/'/g, "'\\''")}'`;
 
@@ -153,7 +163,8 @@ function spelledQuoted(text) {
     return `"$(printf '%b' ${plainQuoted(text.replace(/\\/g, "\\\\").replace(HIDDEN, spell))})"`;
 }
 
-// A word as a POSIX shell reads it. Line ends at its end, which printf would lose, stay as they are inside the quotation marks.
+// A word as a POSIX shell reads it. Line ends at its end, which printf would lose, stay as they are inside the
+// quotation marks.
 function quoted(word) {
     if (/^[A-Za-z0-9_,.:=@%+-]+$/.test(word)) {
         return word;
@@ -197,8 +208,8 @@ function askWords(state, result) {
 const inheritWords = ({made, ...state}) => ["derive", "--kind", made.kind, "--owner", made.owner.trim(), "--group",
     made.group.trim(), ...(made.creator.trim() ? ["--creator", made.creator.trim()] : []), ...typeWords(state)];
 
-// The words after the program's name that answer the question of a view, and the lines that they read: of a kind that the
-// program has no mapping for, the descriptor that the library was asked about.
+// The words after the program's name that answer the question of a view, and the lines that they read: of a kind that
+// the program has no mapping for, the descriptor that the library was asked about.
 export function commandOf(state, look, asked) {
     const words = {
         look: () => ["explain"],

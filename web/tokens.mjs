@@ -1,4 +1,5 @@
-// The token that a text tells of: SIDs and aliases, or what whoami prints. sdtool-audit reads listings by the same table.
+// The token that a text tells of: SIDs and aliases, or what whoami prints. sdtool-audit reads listings by the same
+// table.
 import {sidBytes, sidText} from "./library.mjs";
 import {meaningOfSid} from "./meanings.mjs";
 import {endOfQuoted} from "./scanning.mjs";
@@ -48,18 +49,21 @@ function quotedFields(line) {
 function isListed(line) {
     const at = line.search(SID);
     return isRule(line) || privilegeIn(line) || OF_A_LIST.test(line) ||
-        (at > 0 && (line.slice(0, at).includes("\\") || says(line.slice(at), "deny-only") || says(line.slice(at), "enabled")));
+        (at > 0 &&
+            (line.slice(0, at).includes("\\") || says(line.slice(at), "deny-only") || says(line.slice(at), "enabled")));
 }
 
 class Reader {
     constructor(library, domain) {
-        const token = {entries: [], level: null, privileges: [], notes: [], faults: [], refused: null, lacksUser: false};
+        const token =
+            {entries: [], level: null, privileges: [], notes: [], faults: [], refused: null, lacksUser: false};
         Object.assign(this, {library, domain, token, users: 0, groups: 0, typed: 0, hasPrivileges: false});
     }
 
     // Behind one SID more than a token can have, or as many texts that are none as are shown, the rest is not read.
     get isOver() {
-        return this.token.entries.length > MOST_SIDS || this.token.faults.length >= MOST_FAULTS || this.token.refused !== null;
+        return this.token.entries.length > MOST_SIDS || this.token.faults.length >= MOST_FAULTS ||
+            this.token.refused !== null;
     }
 
     add(sid, denyOnly, name) {
@@ -75,8 +79,8 @@ class Reader {
         }
     }
 
-    fail(text, {number, faultName} = {}) {
-        this.token.faults.push({text, number: number ?? 25, faultName: faultName ?? "sid-form"});
+    fail(text, {number, name} = {}) {
+        this.token.faults.push({text, number: number ?? 25, faultName: name ?? "sid-form"});
     }
 
     readWords(line) {
@@ -169,9 +173,9 @@ class Reader {
     }
 }
 
-// A token that was typed or pasted: SIDs and aliases between commas or blanks, '!' for deny-only, or what whoami prints, as a
-// table, a list or CSV. Unless it is exact, SIDs get what whoever has them has besides. The answer is {entries, level,
-// privileges, notes, faults, refused, lacksUser}; notes are privileges that no check knows.
+// A token that was typed or pasted: SIDs and aliases between commas or blanks, '!' for deny-only, or what whoami
+// prints, as a table, a list or CSV. Unless it is exact, SIDs get what whoever has them has besides. The answer
+// is {entries, level, privileges, notes, faults, refused, lacksUser}; notes are privileges that no check knows.
 export function readToken(library, text, domain, isExact = false) {
     const reader = new Reader(library, domain);
     const lines = text.split(/\r?\n/);

@@ -2,8 +2,9 @@
 // 'note'. The words are in words.mjs. What is risky is found by the rules of risks.mjs, which sdtool-audit has too.
 // Whether somebody gets a right is always an answer of check.
 import {DECIDING, has, labelOf, reasonsOf, tokenOf} from "./access.mjs";
-import {descriptorOfPieces, guidBytes, piecesOf} from "./library.mjs";
-import {doing, isForNothing} from "./meanings.mjs";
+import {risksOfAny} from "./classes.mjs";
+import {guidBytes} from "./library.mjs";
+import {doing, isForNothing, relativeOf} from "./meanings.mjs";
 import {risksOf} from "./risks.mjs";
 import {valueIn} from "./tables.mjs";
 
@@ -13,10 +14,18 @@ const EVERYONE = "S-1-1-0";
 const OWNER_RIGHTS = "S-1-3-4";
 const CREATORS = ["S-1-3-0", "S-1-3-1"];
 // With this ACE a list has one for OWNER RIGHTS that grants nothing, so all that is granted is granted by ACEs.
-const NO_OWNER_RULE = `(A;;0x0;;;${OWNER_RIGHTS})`;
-const LEVEL_OF = {high: "danger", medium: "caution", low: "caution", note: "note"};
-// Rules that the page has in words of its own.
-const OWN_WORDS = ["order", "inheritance-cut", "unknown-sid"];
+const NO_OWNER_RULE = {
+    kind: 0,
+    flags: 0,
+    mask: 0,
+    sid: OWNER_RIGHTS
+};
+const LEVEL_OF = {
+    high: "danger",
+    medium: "caution",
+    low: "caution",
+    note: "note"
+};
 
 // The rights of a kind that change an object.
 export const changing = (kind) => doing(kind, "change");
@@ -25,20 +34,23 @@ const numbersOf = (aces) => aces.map((ace) => ace.number);
 
 // What the rules find. A right that is one of an object type is told with it.
 function ofRisks(library, model, options) {
-    const aliases = new Map(
-        [model.owner, ...model.dacl.aces].filter((one) => one?.alias).map(({sid, alias}) => [sid, alias]));
-    return risksOf(library, model, options)
-        .filter(({rule}) => !OWN_WORDS.includes(rule))
-        .map(({rule, severity, who, numbers, mask, object, says, isBelow, kind}) => ({
+    const aliases =
+        new Map([model.owner, ...model.dacl.aces].filter((one) => one?.alias).map(({sid, alias}) => [sid, alias]));
+    const find = options.kind === "ds" && options.classes.length === 0 ? risksOfAny : risksOf;
+    return find(library, model, options)
+        .map(({rule, severity, who, numbers, mask, object, says, isBelow, kind, onlyOf, exceptOf}) => ({
             key: object && !says ? `${rule} type` : rule,
             rule,
             level: valueIn(LEVEL_OF, severity),
             numbers,
             ...(who ? {who, alias: aliases.get(who) ?? null} : {}),
+            ...(says ? {says} : {}),
             ...(mask === undefined ? {} : {mask}),
             ...(object ? {object} : {}),
             ...(isBelow ? {isBelow} : {}),
             ...(kind ? {kind} : {}),
+            onlyOf,
+            exceptOf,
         }));
 }
 
@@ -117,9 +129,9 @@ function ofLateDenies(library, model, descriptor, {mapping, object}) {
     if (!denies.length || denies.length > 200) {
         return denies.length ? [{key: "manyDenies", level: "note", numbers: []}] : [];
     }
-    const pieces = piecesOf(library, descriptor);
-    const before = [...pieces.dacl.aces.slice(0, denies.at(-1).number - 1), NO_OWNER_RULE];
-    const cut = descriptorOfPieces(library, {...pieces, dacl: {...pieces.dacl, aces: before}});
+    const parts = library.parts(descriptor);
+    const before = [...parts.dacl.aces.slice(0, denies.at(-1).number - 1), NO_OWNER_RULE];
+    const cut = library.build({...parts, dacl: before});
     return denies
         .filter((ace) => {
             const wanted = (ace.meaning & ~0x0f000000) >>> 0;
@@ -127,14 +139,13 @@ function ofLateDenies(library, model, descriptor, {mapping, object}) {
             const request = {mapping, objectType: guidBytes(library, ace.object ?? object)};
             const reasons = reasonsOf(library, cut, tokenOf(library, [sid, EVERYONE]), request);
             return wanted !== 0 &&
-                reasons.every(({bit, kind, number}) => !has(wanted, bit) || (kind === "granted" && number < ace.number));
+                reasons.every(
+                    ({bit, kind, number}) => !has(wanted, bit) || (kind === "granted" && number < ace.number));
         })
         .map((ace) => ({key: "lateDeny", level: "caution", numbers: [ace.number], who: ace.sid, alias: ace.alias}));
 }
 
-function ofInheritance(model) {
-    return has(model.control, PROTECTED) ? [{key: "protected", level: "note"}] : [];
-}
+function ofInheritance(model) { return has(model.control, PROTECTED) ? [{key: "protected", level: "note"}] : []; }
 
 function ofLabel(model) {
     const label = labelOf(model);
@@ -145,17 +156,15 @@ function ofLabel(model) {
         numbers: [label.number],
         who: label.sid,
         alias: label.alias,
-        policy: label.rights
+        policy: label.mask
     }] :
                    [];
 }
 
-const domainOf = (sid) => /^(S-1-5-21-\d+-\d+-\d+)-\d+$/.exec(sid ?? "")?.[1] ?? null;
-
 function ofDomains(model, domain) {
     const sids =
         [model.owner?.sid, model.group?.sid, ...[...model.dacl.aces, ...model.sacl.aces].map((ace) => ace.sid)];
-    const domains = [...new Set([...new Set(sids)].map(domainOf).filter(Boolean))];
+    const domains = [...new Set([...new Set(sids)].map((sid) => sid && relativeOf(sid)?.domain).filter(Boolean))];
     const others = domain ? domains.filter((one) => one !== domain) : domains;
     if (domain ? others.length === 0 : others.length < 2) {
         return [];
@@ -175,17 +184,17 @@ function ofObjectTypes(model, object, grid) {
 }
 
 function ofUnnamedRights(model, grid) {
-    const unnamed = model.dacl.aces.filter((ace) => DECIDING.includes(ace.kind) &&
-            (ace.meaning & ~grid.rights & ~SYNCHRONIZE) !== 0);
+    const unnamed = model.dacl.aces.filter(
+        (ace) => DECIDING.includes(ace.kind) && (ace.meaning & ~grid.rights & ~SYNCHRONIZE) !== 0);
     return unnamed.length ? [{key: "unnamedRights", level: "note", numbers: numbersOf(unnamed)}] : [];
 }
 
 const LEVELS = ["danger", "caution", "note"];
 
 export function warningsOf(library, descriptor, model, grid, options) {
-    const {kind, domain, object} = options;
+    const {kind, domain, object, place} = options;
     const all = [
-        ...ofRisks(library, model, {kind, domain}),
+        ...ofRisks(library, model, {kind, domain, ...place}),
         ...ofOrder(model),
         ...ofUseless(model, kind),
         ...ofMaskZero(model),

@@ -1,21 +1,23 @@
 // Every word that the page shows, so that it can be translated: change this file, and windows/, which has the names of
-// rights, of SIDs and of kinds of objects, and what the rules of risk say. '{name}' is replaced by a value.
-import {ABILITIES, FAMILIES, KINDS, OF_A_DOMAIN, RULES, SIDS} from "./windows.mjs";
+// rights, of SIDs and of kinds of objects, and what the rules of risk and errors say. '{name}' is replaced by a value.
+import {ABILITIES, CONDITION, ERRORS, FAMILIES, KINDS, OF_A_DOMAIN, RULES, SIDS} from "./windows.mjs";
 
 const mapped = (table, valueOf) => Object.fromEntries(Object.entries(table).map(([key, row]) => [key, valueOf(row)]));
 
 // Of each right that a kind has: the name behind "can", the name over a column, and the group that it belongs to.
 function rightsOfKind({rights, mapping}) {
     const named = rights.filter(([bit]) => bit < 0x100000 || (mapping[3] & bit) !== 0);
-    return Object.fromEntries(named.map(([bit, , short, says, column]) => [bit, [says, short, column]]));
+    return Object.fromEntries(named.map(([bit, short, says, column]) => [bit, [says, short, column]]));
 }
 
-// What is said of a trustee that has an ability, by the ability's name.
-const abilities = Object.fromEntries(ABILITIES.map(({name, says}) => [name, `{who} can ${says}.`]));
+const capital = (text) => text[0].toUpperCase() + text.slice(1);
+
+// What is said of a trustee that has an ability, by the ability's name. One of several ways has words of its own.
+const abilities = Object.fromEntries(ABILITIES.map(({name}) => [name, "{who} can {says}."]));
 
 // The same for a right that an ACE gives for one object type.
-const forTypes = Object.fromEntries(RULES.filter(([, , , , page]) => page.includes("{rights}"))
-                                        .map(([name, , , , page]) => [`${name} type`, page.replace("{rights}", "{rights} for {object}")]));
+const forTypes = Object.fromEntries(RULES.filter(([, , page]) => page.includes("{rights}")).map(([name, ,
+    page]) => [`${name} type`, page.replace("{rights}", "{rights} for {object}")]));
 
 export const WORDS = {
     language: "en",
@@ -33,7 +35,8 @@ export const WORDS = {
     busy: "Working ..",
     broke: "The page can't answer this: {reason}",
     tooSlow: "This took longer than {seconds} seconds, so the page stopped it. Nothing is known of this text.",
-    address: "The address has something that this page can't read, and it is left out: {what}",
+    address: "The address has something that is too long or that this page can't read, and it is left out: {what}",
+    addressLong: "{text} .. ({count} characters)",
     version: "sdtool {version}. The answers are those of the proved library; " +
         "words, colours, reasons and warnings are this page's own.",
     theme: "Dark or light",
@@ -50,13 +53,14 @@ export const WORDS = {
     },
     clear: "Clear",
     large: "{count} characters are pasted. They are kept aside, so that the field stays quick.",
+    tooLong: "{count} characters are more than this field takes ({most}), so it takes none of them.",
     formLabel: "Form",
     forms: {auto: "found by itself", sddl: "SDDL", hex: "hex", base64: "base64"},
     kindLabel: "Object",
     kindHint: "It says what the bits of a mask mean. A text may tell of it.",
     kindAskedHeading: "What is it?",
     kindAsked: {
-        rights: "These rights fit no file or folder, so choose the kind of object.",
+        rights: "Nothing tells the kind of object, and its rights fit several, so choose it.",
         texts: "The two texts don't tell the same kind of object, so choose it.",
     },
     kinds: {
@@ -77,6 +81,8 @@ export const WORDS = {
         com: "COM permission",
         template: "Certificate template",
         authority: "Certification authority",
+        delegation: "Who may act for others (attribute)",
+        "managed-password": "Who may read a password (attribute)",
     },
     domainLabel: "Domain SID",
     domainHint: "for aliases such as DA",
@@ -84,6 +90,8 @@ export const WORDS = {
     objectLabel: "Object type (GUID)",
     objectHint: "a property, right or class; empty: the object itself",
     objectFault: "This is no GUID.",
+    classesLabel: "Class",
+    classesHint: "of a directory object, such as user; LDIF and a report tell it",
     commonLabel: "Count Everyone and Authenticated Users in each row",
     moreOptions: "Names, domain, options",
     namesLabel: "Your names of SIDs",
@@ -101,7 +109,8 @@ export const WORDS = {
     },
     share: {link: "Copy link", command: "Copy command", print: "Print report"},
     copied: "Copied: {what}",
-    copyFailed: "The browser did not copy. The text is selected below.",
+    copyFailed: "The browser did not copy. Copy the text below.",
+    showCopied: "Show all {count} characters",
     linkTooLong: "The text is too long for a link. Use the command instead.",
     linkWarning:
         "The link contains the whole descriptor. Whoever gets it can read it, and so can your browser's history.",
@@ -312,17 +321,21 @@ export const WORDS = {
     noWarnings: "Nothing stands out.",
     warningLevels: {danger: "Danger", caution: "Caution", note: "Note"},
     warnings: {
-        ...Object.fromEntries(RULES.map(([name, , , , page]) => [name, page])),
+        ...Object.fromEntries(RULES.map(([name, , page]) => [name, page])),
         ...abilities,
         ...forTypes,
+        manyClasses: "More may stand out for an object of its class, which isn't known. Give it (options above).",
         manyTypes: "The ACEs are for so many object types that the page asked about the first 200 alone.",
+        manyPairs: "The ACEs name more than 20,000 pairs of a trustee and an object type, so it isn't known what is " +
+            "risky here.",
         order: "The order is not the one that Windows keeps (denied, allowed, inherited). ACE {second} comes " +
             "after ACE {first}. Windows' own editor would reorder them, and that can change who has access.",
         useless: "ACE {number} can't apply to anything: {why}",
         creatorHere: "{aces} for Creator Owner or Creator Group without inherit-only: " +
             "here they match only that very SID, not the owner.",
         maskZero: "ACE {number} has mask 0: it allows, denies or audits nothing.",
-        ownerLimited: "ACE {number} is for Owner Rights: so the owner may read and change the permissions only where an ACE allows it.",
+        ownerLimited: "ACE {number} is for Owner Rights: so the owner may read and change the permissions " +
+            "only where an ACE allows it.",
         lateDeny: "ACE {number} denies {who} what earlier ACEs already allow. It changes nothing for a token of {who}.",
         manyDenies: "There are too many denying ACEs to ask about each whether it comes too late.",
         protected: "Inheritance is switched off: changes above don't reach this object.",
@@ -338,6 +351,9 @@ export const WORDS = {
         manyTrustees: "{count} more trustees are not asked about. Choose \u201cAsk about all trustees\u201d below.",
         noOwner: "It has no owner, so nobody has an owner's rights. The source may have left it out.",
     },
+    onlyOf: `${capital(CONDITION.only)}: {text}`,
+    exceptOf: `${capital(CONDITION.except)}: {text}`,
+    or: CONDITION.or,
     acesOne: "ACE {numbers} is",
     acesMany: "ACEs {numbers} are",
     useless: {
@@ -391,42 +407,7 @@ export const WORDS = {
         reason: "refused",
     },
     // Numbers of docs/FORMAT.md: what the error means, and what to do.
-    faults: {
-        1: ["The line is longer than any descriptor.", "look for two records on one line."],
-        2: ["A character is no hex digit.", "choose the form, or remove the character."],
-        3: ["The number of hex digits is odd.", "look for a line that was cut."],
-        4: ["This is no base64.", "restore the padding (=), remove blanks."],
-        5: ["Fewer than 20 bytes are no descriptor.", "look for a line that was cut or folded."],
-        6: ["The bytes don't begin with revision 1.", "these bytes are no descriptor, or something precedes it."],
-        7: ["The descriptor is not self-relative.", "export the self-relative form."],
-        8: ["An offset leads outside the bytes.", "the descriptor is cut or damaged."],
-        9: ["A SID is damaged.", "the descriptor is damaged."],
-        10: ["The list is damaged: revision, size or end.", "the descriptor is damaged."],
-        11: ["The size of an ACE is impossible.", "the descriptor is damaged."],
-        12: ["The type of an ACE is not supported.", "treat the descriptor as unknown."],
-        13: ["An ACE has a flag that is not supported (0x20).", "treat the descriptor as unknown."],
-        14: ["Two parts share bytes.", "the descriptor is damaged."],
-        20: [
-            "The text has not the shape of SDDL.",
-            "close parentheses, give each ACE six fields, begin with O:, G:, D: or S:."
-        ],
-        21: ["A part comes twice.", "look for two records on one line."],
-        22: ["These two letters are no alias of a SID.", "write the SID as numbers (S-1-..)."],
-        23: [
-            "This alias belongs to a domain, and none is given.",
-            "give the domain's SID above, or write the SID as numbers."
-        ],
-        24: ["A number in the SID is too large.", "correct the SID."],
-        25: ["This is no SID.", "replace the name by its SID, and remove blanks."],
-        26: ["These flags are unknown.", "remove blanks; otherwise treat it as unknown."],
-        27: ["These rights are unknown.", "remove blanks and commas, or write a number such as 0x1200a9."],
-        28: ["This is no GUID, or this type of ACE has none.", "remove braces."],
-        29: ["There is no such type of ACE, or it is not supported.", "treat the descriptor as unknown."],
-        30: ["The list is longer than a list may be (65,535 bytes).", "shorten the list."],
-        40: ["The new list would be longer than a list may be.", "shorten the folder's list, or the creator's."],
-        50: ["Nothing is asked for.", "choose a right, or all that is granted."],
-        51: ["Bits 26 and 27 can't be asked for.", "correct the number."],
-    },
+    faults: ERRORS,
     refusedKinds: {
         XA: "conditional allow (callback)",
         XD: "conditional deny (callback)",
@@ -514,7 +495,8 @@ export const WORDS = {
         exact: "These SIDs alone, without what their holders have besides",
         listing: {
             noGroups: "whoami lists no groups. Paste all that whoami /all prints.",
-            attributes: "This does not say whether the group is enabled: {what}. List SIDs, with ! before those that are for deny only.",
+            attributes: "This does not say whether the group is enabled: {what}. " +
+                "List SIDs, with ! before those that are for deny only.",
             cut: "Nothing is behind this group: {what}. Paste the lines of whoami as they are.",
         },
         lacksUser: "whoami lists no user here, so this is about the groups alone. Paste all that whoami /all prints.",
@@ -553,7 +535,8 @@ export const WORDS = {
         columns: {state: "", one: "First", other: "Second"},
         rights: "Whose rights differ",
         rightsNone: "Nobody's rights to this object differ: check grants each trustee the same.",
-        rightsLeft: "There are so many trustees and object types that the page did not ask about all. It compared the rights " +
+        rightsLeft:
+            "There are so many trustees and object types that the page did not ask about all. It compared the rights " +
             "of {count} trustees of {all}, and only of these it says what differs.",
         below: "ACEs that children inherit differ. The view Inherit shows what a new object gets.",
         rightsCount: "Trustees whose rights differ: {count}.",
@@ -644,6 +627,7 @@ export const WORDS = {
         more: ".. and {count} more",
         none: "No object.",
         noName: "(no name)",
+        named: "{name} (a name of the report)",
         noWords: "This page has no words for the rights of this kind of object ({kind}). Its descriptor:",
         open: "Object of the report",
         back: "Back to the report",

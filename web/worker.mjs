@@ -1,6 +1,6 @@
-// Both ends of a worker, so that no question, however long, stops the page. A worker that needs too long for a question, or
-// breaks, is ended, and another one is started. Where a browser refuses workers, the page asks the library itself, and then
-// there is no limit.
+// Both ends of a worker, so that no question, however long, stops the page. A worker that needs too long for a
+// question, or breaks, is ended, and another one is started. Where a browser refuses workers, the page asks the library
+// itself, and then there is no limit.
 import {load} from "../javascript/sdtool.mjs";
 
 import {questionOf} from "./desk.mjs";
@@ -32,12 +32,12 @@ export function serve(scope) {
         } else if (data.file) {
             run(data);
         } else {
-            scope.postMessage({id: data.id, ...tried(() => questionOf(library, data.name, data.about))});
+            scope.postMessage({id: data.id, ...answered(() => questionOf(library, data.name, data.about))});
         }
     };
 }
 
-function tried(question) {
+function answered(question) {
     try {
         return {value: question()};
     } catch (error) {
@@ -74,8 +74,8 @@ const ready = (worker, bytes) => new Promise((resolve, reject) => {
 // A question that was stopped.
 export class TooSlow extends Error {}
 
-// Asks one question at a time, of an end that START gives. Of each kind only the newest waits: an answer to what was typed
-// before is of no use.
+// Asks one question at a time, of an end that START gives. Of each kind only the newest waits: an answer to what was
+// typed before is of no use.
 export class Desk {
     constructor(start, seconds = SECONDS_TO_ANSWER) {
         Object.assign(this, {start, seconds, waiting: new Map(), current: null, last: 0, end: null, timer: null});
@@ -104,7 +104,8 @@ export class Desk {
             this.settle(() => current.reject(error));
             return;
         }
-        this.timer = setTimeout(() => this.breakOff(new TooSlow(`no answer in ${this.seconds} seconds`)), 1000 * this.seconds);
+        this.timer =
+            setTimeout(() => this.breakOff(new TooSlow(`no answer in ${this.seconds} seconds`)), 1000 * this.seconds);
         this.end.postMessage({id: current.id, name: current.name, about: current.about});
     }
 
@@ -144,7 +145,7 @@ export class Desk {
 function ownEnd(library) {
     const end = {
         postMessage: ({id, name, about}) =>
-            queueMicrotask(() => end.onmessage({data: {id, ...tried(() => questionOf(library, name, about))}})),
+            queueMicrotask(() => end.onmessage({data: {id, ...answered(() => questionOf(library, name, about))}})),
         terminate: () => {}
     };
     return end;
@@ -168,9 +169,7 @@ export async function startDesk(source, bytes) {
 
 // Answers files, one at a time, in a worker of its own where there can be one: {answerFile, stop}.
 export class FileDesk {
-    constructor(source, bytes, isWorker) {
-        Object.assign(this, {source, bytes, isWorker, last: 0, current: null});
-    }
+    constructor(source, bytes, isWorker) { Object.assign(this, {source, bytes, isWorker, last: 0, current: null}); }
 
     // What of the library or the worker is needed is started with the first file, and kept.
     async answerFile(about, hear) {

@@ -1,34 +1,39 @@
 #!/usr/bin/env python3
 """write.py [--check]
 
-Writes what the tables of this folder say into python/sdtool/_windows.py, web/windows.mjs, and the tables of docs/FORMAT.md and
-docs/AUDIT.md between their marker comments. With --check it writes nothing: a stale file is a failure, and so is a table that
-contradicts itself. The last line is then 'N passed, M failed'. It needs Python 3.11; what it writes doesn't.
+Writes what the tables of this folder say into python/sdtool/_windows.py, web/windows.mjs, and the BLOCKS of other
+files. With --check it writes nothing: a stale file is a failure, and so is a table that contradicts itself. The last
+line is then 'N passed, M failed'. It needs Python 3.11; what it writes doesn't.
 """
 import argparse
 import json
 import pathlib
 import re
 import sys
+import textwrap
 import tomllib
 
 sys.dont_write_bytecode = True
 HERE = pathlib.Path(__file__).resolve().parent
 TOP = HERE.parent
-WIDTH = 124
+WIDTH = 120
 # SDDL's names of rights.
 RIGHTS = {"CC": 0x1, "DC": 0x2, "LC": 0x4, "SW": 0x8, "RP": 0x10, "WP": 0x20, "DT": 0x40, "LO": 0x80, "CR": 0x100,
           "SD": 0x10000, "RC": 0x20000, "WD": 0x40000, "WO": 0x80000}
-DOES = ("change", "write", "delete", "permissions", "owner", "read", "execute", "attributes", "start", "stop", "control", "remote")
+DOES = ("change", "write", "delete", "permissions", "owner", "read", "execute", "attributes", "start", "stop",
+        "control", "remote")
 RISKS = ("takeover", "everybody", "anyone", "anonymous")
 WHO = ("anyone", "logged-on", "application", "package", "service", "trusted", "stand-in", "other")
 SEVERITIES = ("high", "medium", "low", "note")
 TYPES = ("right", "write", "set", "class", "attribute")
+COLUMNS = ("text", "count", "flag", "answer", "texts", "counts")
 # What an ACE may grant for each type: MS-ADTS 5.1.3.3.
 BITS_OF_TYPE = {"right": 0x100, "write": 0x8, "set": 0x30, "class": 0x3, "attribute": 0x30}
-# Attributes that LAPS adds to a schema. Their GUIDs are those of the forest.
-OF_LAPS = ("ms-Mcs-AdmPwd", "msLAPS-Password", "msLAPS-EncryptedPassword", "msLAPS-EncryptedPasswordHistory",
-           "msLAPS-EncryptedDSRMPassword", "msLAPS-EncryptedDSRMPasswordHistory")
+# Attributes that --schema alone names: LAPS adds them with GUIDs of the forest, and the last one came with Windows
+# Server 2025.
+OF_A_SCHEMA = ("ms-Mcs-AdmPwd", "msLAPS-Password", "msLAPS-EncryptedPassword", "msLAPS-EncryptedPasswordHistory",
+               "msLAPS-EncryptedDSRMPassword", "msLAPS-EncryptedDSRMPasswordHistory",
+               "msDS-ManagedAccountPrecededByLink")
 GUID = re.compile(r"[0-9a-f]{8}-[0-9a-f]{4}-[0-9a-f]{4}-[0-9a-f]{4}-[0-9a-f]{12}")
 SID = re.compile(r"S-1(-[0-9]+)+")
 
@@ -83,25 +88,31 @@ def read_kinds():
     given = table("kinds")
     kinds = {}
     for row in given["kind"]:
-        expect(set(row) <= {"name", "title", "library", "mapping", "alone", "inherits", "child", "below", "owner", "masks", "rights", "like"},
+        expect(set(row) <= {"name", "title", "library", "mapping", "alone", "inherits", "child", "below", "owner",
+                            "rule", "masks", "rights",
+                            "like"},
                f"{row['name']}: another key")
         expect(row["inherits"] in ("", "CI", "OICI"), f"{row['name']}: inherits")
         own = row.get("rights") or next(other["rights"] for other in given["kind"] if other["name"] == row["like"])
         rights = []
-        for right in own + given["standard"]:
+        for right in own if row.get("rule") else own + given["standard"]:
             expect(set(right["does"]) <= set(DOES) | {"look"}, f"{row['name']}: {right}")
             expect(right.get("risk", "") in ("", *RISKS), f"{row['name']}: {right}")
             expect(right["bit"].bit_count() == 1, f"{row['name']}: {right}")
             rights.append((right["bit"], right["name"], right["short"], right.get("says", right["name"]),
-                           column(right["does"]), tuple(word for word in right["does"] if word != "look"), right.get("risk", "")))
+                           column(right["does"]), tuple(word for word in right["does"] if word != "look"),
+                           right.get("risk", "")))
         distinct((right[0] for right in rights), f"{row['name']}: a bit")
         mapping = mapping_of(row["mapping"])
-        expect(all(mask & ~mapping[3] == 0 for mask in mapping), f"{row['name']}: GENERIC_ALL lacks rights of another one")
+        expect(all(mask & ~mapping[3] == 0 for mask in mapping),
+               f"{row['name']}: GENERIC_ALL lacks rights of another one")
         expect(all(flag in row["inherits"] for flag in row.get("below", ())), f"{row['name']}: below")
         kinds[row["name"]] = {
-            "title": row["title"], "library": row.get("library", ""), "mapping": mapping, "alone": tuple(row.get("alone", ())),
+            "title": row["title"], "library": row.get("library", ""), "mapping": mapping,
+            "alone": tuple(row.get("alone", ())),
             "below": tuple((flag, mapping_of(of_flag)) for flag, of_flag in row.get("below", {}).items()),
             "inherits": row["inherits"], "child": row.get("child", ""), "owner": row.get("owner", ""),
+            "rule": row.get("rule", ""),
             "masks": tuple((mask, name) for name, mask in sorted(row["masks"].items(), key=lambda one: -one[1])),
             "rights": tuple(rights)}
     distinct((row["name"] for row in given["kind"]), "a kind")
@@ -135,30 +146,40 @@ class Schema:
         return self.rows["attribute"].get(name, {}).get("set", "")
 
 
-def read_directory(schema):
+def read_directory(schema, kinds):
     given = table("directory")
-    kinds_of_right = {"CR": ("right", "set"), "WP": ("attribute", "set"), "RP": ("attribute", "set"), "SW": ("write",)}
+    kinds_of_right = {"CR": ("right", "set", "attribute"), "WP": ("attribute", "set"), "RP": ("attribute", "set"),
+                      "SW": ("write",),
+                      "CC": ("class",)}
     abilities = []
     for row in given["ability"]:
-        expect(set(row) <= {"name", "right", "types", "all", "unless", "on", "only", "also", "known", "severity", "says"}, f"{row['name']}: another key")
+        expect(set(row) <= {"name", "right", "types", "all", "unless", "on", "only", "also", "known", "severity",
+                            "says"}, f"{row['name']}: another key")
         expect(row["severity"] in SEVERITIES, f"{row['name']}: severity")
         types, named = [], []
         for name in row["types"]:
-            if name in ("", "*"):
-                types.append(name)
-            elif name in OF_LAPS:
+            if name in OF_A_SCHEMA:
                 named.append(name)
+            elif name in ("", "*", "?"):
+                types.append((name,))
             else:
-                types.append(schema.guid(name, *kinds_of_right[row["right"]]))
-                if schema.set_of(name) and not row.get("all"):
-                    types.append(schema.set_of(name))
+                of_set = "" if row.get("all") else schema.set_of(name)
+                types.append((schema.guid(name, *kinds_of_right[row["right"]]), *filter(None, (of_set,))))
         for name in row.get("on", ()):
             expect(name in schema.guids["class"], f"{row['name']}: {name} is no class")
-        abilities.append({"name": row["name"], "right": RIGHTS[row["right"]], "types": tuple(types), "named": tuple(named),
-                          "all": row.get("all", False), "unless": row.get("unless", ""), "on": tuple(row.get("on", ())), "only": row.get("only", ""),
-                          "also": tuple(row.get("also", ())), "known": row.get("known", False), "severity": row["severity"], "says": row["says"]})
+        abilities.append({"name": row["name"], "right": RIGHTS[row["right"]], "types": tuple(types),
+                          "named": tuple(named),
+                          "all": row.get("all", False), "unless": row.get("unless", ""), "on": tuple(row.get("on", ())),
+                          "only": row.get("only", ""),
+                          "also": tuple(row.get("also", ())), "known": row.get("known", False),
+                          "severity": row["severity"], "says": row["says"]})
     harmless = tuple(schema.guid(name, "right") for name in given["harmless"]["rights"])
-    return {"ABILITIES": tuple(abilities), "HARMLESS": harmless}
+    protecting = given["protecting"]
+    expect(set(given["condition"]) == {"only", "except", "or", "many"}, "directory.toml: another condition")
+    expect(all(kind in ("", *kinds) for kind in given["descriptor"].values()),
+           "directory.toml: an attribute of another kind")
+    return {"ABILITIES": tuple(abilities), "HARMLESS": harmless, "DESCRIPTORS": given["descriptor"],
+            "PROTECTING": (protecting["name"], tuple(protecting["classes"])), "CONDITION": given["condition"]}
 
 
 def mask_of(row):
@@ -168,13 +189,14 @@ def mask_of(row):
 def read_defaults(schema, kinds):
     defaults = []
     for row in table("defaults")["default"]:
-        expect(set(row) <= {"kinds", "classes", "at", "sid", "number", "account", "mask", "rights", "object", "inherited", "known",
-                             "below"}, f"{row}: another key")
+        expect(set(row) <= {"kinds", "classes", "at", "sid", "number", "account", "mask", "rights", "object",
+                            "inherited", "known",
+                            "below"}, f"{row}: another key")
         expect(len({"sid", "number", "account"} & set(row)) == 1, f"{row}: one trustee")
         expect(set(row.get("kinds", ())) <= set(kinds), f"{row}: no such kind")
         expect(set(row.get("classes", ())) <= set(schema.guids["class"]), f"{row}: no such class")
-        defaults.append((tuple(row.get("kinds", ("ds", "template"))), tuple(row.get("classes", ())), tuple(row.get("at", ())),
-                         row.get("sid") or row.get("account") or row["number"], mask_of(row),
+        defaults.append((tuple(row.get("kinds", ("ds", "template"))), tuple(row.get("classes", ())),
+                         tuple(row.get("at", ())), row.get("sid") or row.get("account") or row["number"], mask_of(row),
                          schema.guid(row["object"]) if row.get("object") else row.get("object", "*"),
                          schema.guid(row["inherited"], "class") if "inherited" in row else "", row.get("below", False),
                          row.get("known", False)))
@@ -182,46 +204,116 @@ def read_defaults(schema, kinds):
 
 
 def read_rules():
-    rules = []
-    for row in table("rules")["rule"]:
-        expect(set(row) <= {"name", "severity", "off", "reason", "page"} and row["severity"] in SEVERITIES, f"{row}: another key")
-        rules.append((row["name"], row["severity"], row.get("off", False), row["reason"], row.get("page", "")))
-    return {"RULES": tuple(rules)}
+    given, rules = table("rules"), []
+    for row in given["rule"]:
+        in_directory = row.get("directory", row["severity"])
+        expect(set(row) <= {"name", "severity", "directory", "off", "reason", "page"}, f"{row}: another key")
+        expect({row["severity"], in_directory} <= set(SEVERITIES), f"{row}: severity")
+        rules.append((row["name"], row["severity"], row.get("off", False), row["reason"], row.get("page", ""),
+                      in_directory))
+    everybody = given["everybody"]
+    expect(set(everybody) | set(given["quiet"]) <= set(WHO), "rules.toml: no such class")
+    named = {row["rule"] for row in everybody.values()}
+    expect(named <= {rule[0] for rule in rules}, "rules.toml: no such rule for everybody")
+    expect(all(set(row["risks"]) <= set(RISKS) for row in everybody.values()), "rules.toml: no such risk")
+    return {"SEVERITIES": SEVERITIES, "RULES": tuple(rules), "QUIET": tuple(given["quiet"]),
+            "RULE_OF": {who: row["rule"] for who, row in everybody.items()},
+            "RISKS_OF": {who: tuple(row["risks"]) for who, row in everybody.items()}}
+
+
+def read_hints(kinds):
+    given = table("hints")["hints"]
+    for row in given:
+        expect(set(row) <= {"kind", "property", "key", "value", "name", "before", "text"}, f"{row}: another key")
+        expect(row["kind"] in kinds, f"{row}: no such kind")
+        patterns = [row[key] for key in ("key", "name", "before", "text") if key in row]
+        expect(not any(re.compile(pattern).groups for pattern in patterns), f"{row}: a group that captures")
+    return {"HINTS": tuple({key: tuple(value) if isinstance(value, list) else value for key, value in row.items()}
+                           for row in given)}
 
 
 def read_listings():
     given = table("listings")
     words = {name: tuple(given["attributes"][name]) for name in ("deny-only", "enabled")}
     expect(set(given["attributes"]) == set(words), "listings.toml: another kind of attributes")
-    expect(all(word == word.lower() for row in words.values() for word in row), "listings.toml: a word isn't in lower case")
+    expect(all(word == word.lower() for row in words.values() for word in row),
+           "listings.toml: a word isn't in lower case")
     distinct((word for row in words.values() for word in row), "listings.toml: a word")
     for row in given["privilege"]:
         expect(set(row) in ({"name", "check"}, {"name", "lets"}), f"{row}: another key")
         expect(row.get("check", "security") in ("security", "take-ownership"), f"{row}: no check has this privilege")
     distinct((row["name"] for row in given["privilege"]), "a privilege")
-    return {"ATTRIBUTES": words, "PRIVILEGES": {row["name"]: (row.get("check", ""), row.get("lets", "")) for row in given["privilege"]}}
+    return {"ATTRIBUTES": words, "PRIVILEGES": {row["name"]: (row.get("check", ""), row.get("lets", ""))
+                                                for row in given["privilege"]}}
+
+
+def read_errors():
+    """The rows of errors by their numbers, each with its name, its parts and what it means without marks and links."""
+    errors = {}
+    for line, row in table("errors").items():
+        number, name, *parts = line.split(" ")
+        expect(set(row) <= {"means", "audit", "page", "header"}, f"error {line}: another key")
+        expect({2} == {len(pair) for key, pair in row.items() if key != "header"}, f"error {line}: no pair")
+        expect(int(number) > max(errors, default=0), f"error {line}: the numbers aren't in order")
+        expect(set(parts) <= {"PART"}, f"error {line}: a part")
+        expect(("page" in row) == (int(number) < 60), f"error {line}: the page's words")
+        errors[int(number)] = {**row, "name": name, "parts": parts, "meaning": without_marks(row["means"][0])}
+    return {"ERRORS": errors}
+
+
+def without_marks(text):
+    """A text without links and backticks."""
+    return re.sub(r"\[([^]]*)\]\([^)]*\)", r"\1", text).replace("`", "")
+
+
+def read_report():
+    given = table("report")
+    rows = given["row"]
+    expect(not set(rows) & set(COLUMNS), "report.toml: a row has the name of a type")
+    named = {kind for row in rows.values() for kind in row.values()}
+    expect(named <= {*rows, *COLUMNS}, "report.toml: a column of another type")
+    return {"REPORT": {"version": given["version"], "rows": rows}}
 
 
 def all_tables():
     schema = Schema()
     kinds = read_kinds()
-    tables = {**read_sids(), **kinds, **read_directory(schema), **read_defaults(schema, kinds["KINDS"]), **read_rules(), **read_listings()}
+    tables = {**read_sids(), **kinds, **read_directory(schema, kinds["KINDS"]), **read_defaults(schema, kinds["KINDS"]),
+              **read_rules(), **read_listings(), **read_hints(kinds["KINDS"]), **read_report(), **read_errors()}
     return tables, schema
 
 
 # How Python and JavaScript spell it.
 
-def python_value(value, indent):
-    """A value in Python: what fits in a line stays in one."""
-    line = repr(value).replace("'", '"') if not isinstance(value, str) else json.dumps(value, ensure_ascii=False)
+def in_lines(items, indent, most):
+    """The lines of spelled items, (text, value). Texts and numbers share a line while they fit."""
+    lines, shares = [], False
+    for text, value in items:
+        is_plain = not isinstance(value, (dict, list, tuple)) and "\n" not in text
+        if is_plain and shares and len(lines[-1]) + len(text) + 1 < most:
+            lines[-1] += f" {text},"
+        else:
+            lines.append(f"{indent}{text},")
+        shares = is_plain
+    return "\n".join(lines)
+
+
+def python_value(value, indent, before=0):
+    """A value in Python, behind so many columns of a line: what fits in the line stays in it, and rows are lines."""
     line = spelled(value)
-    if len(line) + len(indent) <= WIDTH - 2 or not isinstance(value, (dict, tuple)):
+    if len(indent) + before + len(line) < WIDTH:
         return line
+    if isinstance(value, str):  # over two lines
+        at = line.rindex(" ", 0, WIDTH - len(indent) - before - 1) + 1
+        return f'{line[:at]}"\n{indent}"{line[at:]}'
     more = indent + "    "
     if isinstance(value, dict):
-        rows = [f"{more}{spelled(key)}: {python_value(item, more)}," for key, item in value.items()]
-        return "{\n" + "\n".join(rows) + f"\n{indent}}}"
-    return "(\n" + "\n".join(f"{more}{python_value(item, more)}," for item in value) + f"\n{indent})"
+        rows = [(f"{spelled(key)}: {python_value(item, more, len(spelled(key)) + 2)}", item)
+                for key, item in value.items()]
+        return "{\n" + in_lines(rows, more, WIDTH) + f"\n{indent}}}"
+    if isinstance(value, tuple):
+        return "(\n" + in_lines([(python_value(item, more), item) for item in value], more, WIDTH) + f"\n{indent})"
+    return line
 
 
 def spelled(value):
@@ -242,27 +334,53 @@ def python_text(tables, schema):
     for kind in ("attribute", "set", "class", "right", "write"):  # the first one names a GUID that is several things
         for name, guid in schema.guids[kind].items():
             names.setdefault(guid, name)
-    attributes = {name: guid for name, guid in schema.guids["attribute"].items()}
-    lines = ['"""What Windows means by SIDs, rights, kinds of objects and object types. windows/write.py writes this file."""',
-             "from typing import Any, Dict, Tuple", ""]
+    lines = ['"""What Windows means by SIDs, rights, kinds of objects and types, and what errors mean, by '
+             'windows/write.py."""', "from typing import Any, Dict, Tuple", ""]
     comments = {
-        "SIDS": ("Dict[str, Tuple[str, str, str, Tuple[str, ...]]]", "By SID: the alias, the name, who has it, what a token has besides."),
-        "OF_A_DOMAIN": ("Dict[int, Tuple[str, str, str, Tuple[str, ...], str]]", "The same by the last number of a domain's SID, and whose domain."),
-        "FAMILIES": ("Tuple[Tuple[str, str, str, Tuple[str, ...]], ...]", "How SIDs begin, with name, who and what a token has besides."),
+        "SIDS": ("Dict[str, Tuple[str, str, str, Tuple[str, ...]]]",
+                 "By SID: the alias, the name, who has it, what a token has besides."),
+        "OF_A_DOMAIN": ("Dict[int, Tuple[str, str, str, Tuple[str, ...], str]]",
+                        "The same by the last number of a domain's SID, and whose domain."),
+        "FAMILIES": ("Tuple[Tuple[str, str, str, Tuple[str, ...]], ...]",
+                     "How SIDs begin, with name, who and what a token has besides."),
         "USUAL": ("Tuple[str, ...]", "What a token has besides its SID, if nothing else is said."),
-        "KINDS": ("Dict[str, Dict[str, Any]]", "Kinds of objects. A right is (bit, name, short, says, column, does, risk)."),
-        "ABILITIES": ("Tuple[Dict[str, Any], ...]", "What rights of a directory object let somebody do."),
+        "KINDS": ("Dict[str, Dict[str, Any]]",
+                  "Kinds of objects. A right is (bit, name, short, says, column, does, risk)."),
+        "ABILITIES": ("Tuple[Dict[str, Any], ...]",
+                      "What rights of a directory object let somebody do. A type has its property set behind it."),
         "HARMLESS": ("Tuple[str, ...]", "Extended rights that do nothing that counts."),
-        "DEFAULTS": ("Tuple[Tuple[Any, ...], ...]", "Windows' own ACEs: kinds, classes, places, trustee, mask, object type, inherited type, below, known."),
-        "RULES": ("Tuple[Tuple[str, str, bool, str, str], ...]", "Rules of risks: name, severity, whether it is off, reason, words of the page."),
-        "ATTRIBUTES": ("Dict[str, Tuple[str, ...]]", "What whoami says of a group that counts against its holder alone, and of one that is enabled."),
-        "PRIVILEGES": ("Dict[str, Tuple[str, str]]", "By privilege: its word in a check, and what it lets its holder do beside checks."),
+        "DESCRIPTORS": ("Dict[str, str]", "Attributes whose values are descriptors, with the kind that their ACEs are "
+                        "for, if it is known."),
+        "PROTECTING": ("Tuple[str, Tuple[str, ...]]",
+                       "The first part of an object's name, and the classes that get its DACL."),
+        "CONDITION": ("Dict[str, str]",
+                      "How a finding begins that depends on the class of an object, which isn't known."),
+        "DEFAULTS": ("Tuple[Tuple[Any, ...], ...]", "Windows' own ACEs: kinds, classes, places, trustee, mask, object "
+                     "type, inherited type, below, known."),
+        "SEVERITIES": ("Tuple[str, ...]", "How grave a finding is, the gravest first."),
+        "RULES": ("Tuple[Tuple[str, str, bool, str, str, str], ...]",
+                  "Rules of risks: name, severity, whether it is off, reason, words of the page, severity for "
+                  "directory objects."),
+        "ATTRIBUTES": ("Dict[str, Tuple[str, ...]]",
+                       "What whoami says of a group that counts against its holder alone, and of one that is enabled."),
+        "PRIVILEGES": ("Dict[str, Tuple[str, str]]",
+                       "By privilege: its word in a check, and what it lets its holder do beside checks."),
+        "RULE_OF": ("Dict[str, str]", "The rule for each class of everybody,"),
+        "RISKS_OF": ("Dict[str, Tuple[str, ...]]", "and the risks of rights that count for it."),
+        "QUIET": ("Tuple[str, ...]", "Classes whose having a right is no finding."),
+        "HINTS": ("Tuple[Dict[str, Any], ...]", "What tells the kind of an object, the first that fits."),
+        "REPORT": ("Dict[str, Any]",
+                   "The report in the page: its version, and of each row the columns with their types."),
     }
     for name, (kind, comment) in comments.items():
         lines += [f"# {comment}", f"{name}: {kind} = {python_value(tables[name], '')}"]
-    lines += ["# Names of object types.", f"OBJECT_TYPES: Dict[str, str] = {python_value(dict(sorted(names.items())), '')}",
-              "# GUIDs of classes.", f"CLASSES: Dict[str, str] = {python_value(schema.guids['class'], '')}"]
-    del attributes
+    lines += ["# Names of object types.",
+              f"OBJECT_TYPES: Dict[str, str] = {python_value(dict(sorted(names.items())), '')}", "# GUIDs of classes.",
+              f"CLASSES: Dict[str, str] = {python_value(schema.guids['class'], '')}"]
+    errors_of_audit = {number: tuple(row.get("audit", ("", without_marks(row["means"][1]))))
+                       for number, row in tables["ERRORS"].items() if number < 60}
+    lines += ["# What an error means to somebody with an object, if that isn't what Fault.meaning says, and what "
+              "would help.", f"ERRORS: Dict[int, Tuple[str, str]] = {python_value(errors_of_audit, '')}"]
     return "\n".join(lines) + "\n"
 
 
@@ -279,13 +397,14 @@ def json_value(value, indent):
         return line
     more = indent + "    "
     if isinstance(value, dict):
-        rows = [f"{more}{json.dumps(key)}: {json_value(item, more)}" for key, item in value.items()]
-        return "{\n" + ",\n".join(rows) + f",\n{indent}}}"
-    return "[\n" + ",\n".join(more + json_value(item, more) for item in value) + f",\n{indent}]"
+        rows = [(f"{json.dumps(key)}: {json_value(item, more)}", item) for key, item in value.items()]
+        return "{\n" + in_lines(rows, more, 120) + f"\n{indent}}}"
+    return "[\n" + in_lines([(json_value(item, more), item) for item in value], more, 120) + f"\n{indent}]"
 
 
 def folded_types(rows):
-    """GUIDs and names of a type: the end of GUIDs, and then for each with that end its first eight digits and its name."""
+    """GUIDs and names of a type: the end of GUIDs, and then for each with that end its first eight digits and its
+    name."""
     by_end = {}
     for name, row in rows.items():
         by_end.setdefault(row["guid"][8:], []).append((row["guid"][:8], name))
@@ -297,24 +416,41 @@ def folded_types(rows):
 
 
 def of_page(name, tables):
-    """A table as the page needs it: nobody gives it a schema, and what a token has besides is null where it is the usual."""
+    """A table as the page needs it: without a schema's names and what documents say. What a token has besides is null
+    where it is the usual."""
     table_of = tables[name]
     if name == "ABILITIES":
         return tuple({key: value for key, value in row.items() if key != "named"} for row in table_of)
-    if name in ("SIDS", "OF_A_DOMAIN"):
+    if name == "KINDS":
+        return {kind: {**{key: value for key, value in row.items() if key not in ("title", "child")},
+                       "rights": tuple((bit, *more) for bit, _, *more in row["rights"])}
+                for kind, row in table_of.items()}
+    if name == "ERRORS":
+        return {number: tuple(row["page"]) for number, row in table_of.items() if "page" in row}
+    if name == "RULES":
+        return tuple((rule, severity, *more) for rule, severity, _, _, *more in table_of)
+    if name == "HINTS":
+        return tuple(hint for hint in table_of if "name" not in hint or "before" in hint)
+    if name == "OF_A_DOMAIN":
+        return {key: without_usual(row[:4], tables) for key, row in table_of.items()}
+    if name == "SIDS":
         return {key: without_usual(row, tables) for key, row in table_of.items()}
     return tuple(without_usual(row, tables) for row in table_of) if name == "FAMILIES" else table_of
 
 
 def without_usual(row, tables):
-    return (*row[:3], None if row[3] == tables["USUAL"] else row[3], *row[4:])
+    return (*row[:3], None if row[3] == tables["USUAL"] else row[3])
 
 
 def script_text(tables, schema):
-    lines = ["// What Windows means by SIDs, rights, kinds of objects and object types. windows/write.py writes this file."]
-    for name in ("SIDS", "OF_A_DOMAIN", "FAMILIES", "USUAL", "KINDS", "ABILITIES", "HARMLESS", "DEFAULTS", "RULES", "ATTRIBUTES", "PRIVILEGES"):
+    lines = ["// What Windows means by SIDs, rights, kinds of objects and types, and what errors mean, by "
+             "windows/write.py."]
+    for name in ("SIDS", "OF_A_DOMAIN", "FAMILIES", "USUAL", "KINDS", "ABILITIES", "HARMLESS", "DESCRIPTORS",
+                 "PROTECTING", "CONDITION", "DEFAULTS", "SEVERITIES", "RULES", "RULE_OF", "RISKS_OF", "QUIET",
+                 "ATTRIBUTES", "PRIVILEGES", "HINTS", "REPORT", "ERRORS"):
         lines.append(f"export const {name} = {json_value(plain(of_page(name, tables)), '')};")
-    lines.append("// Of each type the end of GUIDs, and then for each GUID with that end its first eight digits and its name.")
+    lines.append("// Of each type the end of GUIDs, and then for each GUID with that end its first eight digits and "
+                 "its name.")
     lines.append(f"export const TYPES = {json_value({kind: folded_types(schema.rows[kind]) for kind in TYPES}, '')};")
     lines.append("// The rights that an ACE may grant for an object type of a type.")
     lines.append(f"export const BITS_OF_TYPE = {json_value(BITS_OF_TYPE, '')};")
@@ -323,63 +459,128 @@ def script_text(tables, schema):
 
 # The tables of documents.
 
-def alias_table(tables):
-    rows = ["| Alias | SID | Name |", "|---|---|---|"]
-    return rows + [f"| `{alias}` | {sid} | {name} |" for sid, (alias, name, _, _) in tables["SIDS"].items() if alias]
+def alias_block(tables):
+    rows = [(alias, sid, name) for sid, (alias, name, _, _) in tables["SIDS"].items() if alias]
+    return ["```", *(f"{alias}  {sid:18}  {name}" for alias, sid, name in rows), "```"]
 
 
-OWNERS = {"machine": "machine, or the domain of a domain controller", "domain": "domain", "root": "forest's root domain"}
+def relative_block(tables):
+    rows = sorted((number, row[:2]) for number, row in tables["OF_A_DOMAIN"].items() if row[0])
+    return ["```", *(f"{alias}  {number}  {name}" for number, (alias, name) in rows), "```"]
 
 
-def relative_table(tables):
-    rows = ["| Alias | Number | Name | Belongs to |", "|---|---|---|---|"]
-    named = [(number, row) for number, row in tables["OF_A_DOMAIN"].items() if row[0]]
-    named.sort(key=lambda one: (one[1][4] == "root", one[0]))
-    return rows + [f"| `{row[0]}` | {number} | {row[1]} | {OWNERS[row[4]]} |" for number, row in named]
-
-
-def kind_table(tables):
-    rows = ["| `--type` | Object | Rights that everybody has to lack, besides the standard ones |", "|---|---|---|"]
+def kind_list(tables):
     for name, kind in tables["KINDS"].items():
         risky = ", ".join(right[1] for right in kind["rights"] if right[6] and right[0] < 0x10000)
-        rows.append(f"| `{name}` | {kind['title']} | {risky} |")
-    return rows
+        yield f"- `{name}`, {kind['title']}: {risky}"
 
 
-def rule_table(tables):
-    rows = ["| Rule | Severity | Finds |", "|---|---|---|"]
-    for name, severity, off, reason, _ in tables["RULES"]:
-        rows.append(f"| `{name}` | {severity}{', off' if off else ''} | {reason} |")
-    return rows
+def rule_list(tables):
+    for name, severity, off, reason, _, in_directory in tables["RULES"]:
+        said = [severity, "off" if off else "", f"directory: {in_directory}" if in_directory != severity else ""]
+        yield f"- `{name}` ({', '.join(filter(None, said))}): {reason}"
 
 
-def ability_table(tables):
-    rows = ["| Rule | Severity | Somebody who isn't trusted can |", "|---|---|---|"]
+def ability_list(tables):
     for name in dict.fromkeys(one["name"] for one in tables["ABILITIES"]):
         first = next(one for one in tables["ABILITIES"] if one["name"] == name)
-        rows.append(f"| `{name}` | {first['severity']} | {first['says']} |")
-    return rows
+        said = "" if first["severity"] == "high" else f" ({first['severity']})"
+        yield f"- `{name}`{said}: {first['says']}"
 
 
-DOCUMENTS = {"docs/FORMAT.md": {"aliases": alias_table, "relative aliases": relative_table},
-             "docs/AUDIT.md": {"kinds": kind_table, "rules": rule_table, "abilities": ability_table}}
+# What errors mean: the lines of each.
+
+def sentence(row):
+    return f"{row['meaning'][0].upper()}{row['meaning'][1:]}."
 
 
-def with_tables(text, tables, makers):
-    for name, make in makers.items():
-        start, end = f"<!-- {name}, written by make figures -->\n", f"<!-- end of {name} -->\n"
-        before, found, rest = text.partition(start)
-        _, ended, after = rest.partition(end)
-        expect(found and ended, f"no place for {name}")
-        text = before + start + "\n" + "\n".join(make(tables)) + "\n\n" + end + after
-    return text
+def document_rows(number, row):
+    return [f"| `error {' '.join([str(number), row['name'], *row['parts']])}` | {' | '.join(row['means'])} |"]
+
+
+def manual_rows(number, row):
+    parts = f" \\fI{' '.join(row['parts']).lower()}\\fP" if row["parts"] else ""
+    line = f"\\fB{'sdtool: ' if number >= 50 else ''}error {number} {row['name']}\\fP{parts}"
+    return [f'.IP "{line}" 34', *textwrap.wrap(sentence(row), 79)]
+
+
+def python_rows(number, row):
+    pieces = textwrap.wrap(row["meaning"], 108, drop_whitespace=False)
+    return [f"    {number}: " + "\n        ".join(map(json.dumps, pieces)) + ","]
+
+
+def header_rows(number, row):
+    name = ("" if number >= 70 else "FAULT_") + row["name"].upper().replace("-", "_")
+    comment = f"/* {row.get('header') or sentence(row)} */"
+    comment = textwrap.fill(comment, 118, initial_indent="    ", subsequent_indent="     * ")
+    return [f"{comment}\n    SDTOOL_{name} = {number}"]
+
+
+def arms(key):
+    """Arms of a match, each in a line if that has at most 100 characters."""
+    def arm(number, row):
+        line = f'        {number} => "{row[key]}",'
+        return [line if len(line) <= 100 else f'        {number} =>\n            "{row[key]}",']
+    return arm
+
+
+def cases(key):
+    return lambda number, row: [f'    {"else " if number > 1 else ""}if nat_eq number {number} then codes "{row[key]}"']
+
+
+def errors(rows, first=1, last=99, heads=()):
+    def make(tables):
+        within = [(number, row) for number, row in tables["ERRORS"].items() if first <= number <= last]
+        return [*heads, *(line for number, row in within for line in rows(number, row))]
+    return make
+
+
+def marked(name):
+    return f"<!-- {name}, written by make figures -->\n\n", f"\n<!-- end of {name} -->\n"
+
+
+def marked_in_manual(name):
+    return f'.\\" {name}, written by make figures\n', f'.\\" end of {name}\n'
+
+
+HEAD = ["| Line | Meaning | What to do |", "|---|---|---|"]
+# What stands in a file between a start and an end, and what makes it.
+BLOCKS = [
+    ("docs/FORMAT.md", marked("aliases"), alias_block),
+    ("docs/FORMAT.md", marked("relative aliases"), relative_block),
+    ("docs/FORMAT.md", marked("errors of lines"), errors(document_rows, 1, 49, HEAD)),
+    ("docs/FORMAT.md", marked("errors of the program"), errors(document_rows, 50, 69, HEAD)),
+    ("docs/FORMAT.md", marked("errors of the library"), errors(document_rows, 70, 99, HEAD)),
+    ("docs/AUDIT-TABLES.md", marked("kinds"), kind_list),
+    ("docs/AUDIT-TABLES.md", marked("rules"), rule_list),
+    ("docs/AUDIT-TABLES.md", marked("abilities"), ability_list),
+    ("docs/sdtool.1", marked_in_manual("errors of lines"), errors(manual_rows, 1, 49)),
+    ("docs/sdtool.1", marked_in_manual("errors of requests"), errors(manual_rows, 50, 59)),
+    ("docs/sdtool.1", marked_in_manual("errors of runs"), errors(manual_rows, 60, 69)),
+    ("include/sdtool.h", ("    SDTOOL_OK = 0,\n", "};\n"),
+     lambda tables: [",\n".join(errors(header_rows)(tables))]),
+    ("python/sdtool/_errors.py", ("MEANINGS: Dict[int, str] = {\n", "}\n"), errors(python_rows, 1, 59)),
+    ("crates/sd_answer/src/fault_names.rt", ("    match number {\n", '        _ => "",\n'), errors(arms("name"))),
+    ("crates/sd_answer/specs/FaultNames.antt", ("\nfault_name number =\n", "    else []\n"), errors(cases("name"))),
+    ("crates/sd_call_places/src/meanings.rt", ("    match number {\n", '        _ => "",\n'), errors(arms("meaning"))),
+    ("crates/sd_call_places/specs/Meanings.antt", ("\nmeaning number =\n", "    else []\n"),
+     errors(cases("meaning"))),
+]
+
+
+def with_block(text, start, end, lines):
+    before, found, rest = text.partition(start)
+    _, ended, after = rest.partition(end)
+    expect(found and ended, f"no place behind {start!r}")
+    return before + start + "".join(f"{line}\n" for line in lines) + end + after
 
 
 def written():
     tables, schema = all_tables()
     texts = {"python/sdtool/_windows.py": python_text(tables, schema), "web/windows.mjs": script_text(tables, schema)}
-    for path, makers in DOCUMENTS.items():
-        texts[path] = with_tables((TOP / path).read_text(encoding="utf-8"), tables, makers)
+    for path, (start, end), make in BLOCKS:
+        text = texts.get(path) or (TOP / path).read_text(encoding="utf-8")
+        texts[path] = with_block(text, start, end, make(tables))
     return texts
 
 

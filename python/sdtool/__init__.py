@@ -1,7 +1,7 @@
 """Windows security descriptors (MS-DTYP 2.4.6) and SDDL (MS-DTYP 2.5.1), by the library libsdtool.
 
-The library is the file that the environment variable SDTOOL_LIBRARY names. Without that it is libsdtool.so.0, beside this
-module or where the system finds libraries. Threads may share all objects.
+The library is the file that the environment variable SDTOOL_LIBRARY names. Without that it is libsdtool.so.0, beside
+this module or where the system finds libraries. Threads may share all objects.
 
 >>> descriptor = SecurityDescriptor.from_sddl("O:BAD:(A;;FR;;;BU)")
 >>> descriptor.owner, descriptor.dacl[0].sid.alias()

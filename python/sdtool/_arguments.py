@@ -1,9 +1,10 @@
-"""The door: each value of a caller is read here, once, into an exact value of Python's own types, before anything is done with it.
+"""The door: each value of a caller is read here, once, into an exact value of Python's own types, before anything is
+done with it.
 
-The type of an object decides what it is, and its __class__ does not. Of a subclass counts what the type below it keeps: the
-bytes, the characters, the digits, the number of a UUID. So no length, truth, hash, order or conversion of an object of the
-caller is believed, and behind the door nobody looks at that object again. The extension takes values of the exact types by
-itself and lets this module read all others, so both ways to the library have the same rules.
+The type of an object decides what it is, and its __class__ does not. Of a subclass counts what the type below it keeps:
+the bytes, the characters, the digits, the number of a UUID. So no length, truth, hash, order or conversion of an object
+of the caller is believed, and behind the door nobody looks at that object again. The extension takes values of the
+exact types by itself and lets this module read all others, so both ways to the library have the same rules.
 
 A wrong type is a WrongType, a wrong value an ArgumentFault.
 """
@@ -13,7 +14,7 @@ import uuid
 from typing import Any, Dict, Iterable, Iterator, List, Mapping, Optional, Tuple, TypeVar, Union
 
 from . import _library
-from ._errors import ArgumentFault, Fault, WrongType
+from ._errors import ArgumentFault, Fault, WrongType, shown
 from ._places import InSid
 from ._slots import not_made, type_name
 
@@ -118,12 +119,14 @@ def flag(name: str, value: bool) -> bool:
 
 
 def number(name: str, value: int, most: int = _MOST_NUMBER) -> int:
-    """A number of so many bits, of 32 where nothing else is said. True and False are none: they are a flag in the wrong place."""
+    """A number of so many bits, of 32 where nothing else is said. True and False are none: they are a flag in the wrong
+    place."""
     kind = type(value)
-    found = value if kind is int else _digits_of(value) if _is_subtype(int, kind) and kind is not bool else _integer(name, value)
+    found = (value if kind is int else _digits_of(value) if _is_subtype(int, kind) and kind is not bool
+             else _integer(name, value))
     if not 0 <= found <= most:
-        shown = str(found) if found.bit_length() <= _MOST_SHOWN else f"a number of {found.bit_length()} bits"
-        raise ArgumentFault(f"{shown} is not from 0 to {most}", name)
+        what = str(found) if found.bit_length() <= _MOST_SHOWN else f"a number of {found.bit_length()} bits"
+        raise ArgumentFault(f"{what} is not from 0 to {most}", name)
     return found
 
 
@@ -142,7 +145,7 @@ def word(name: str, value: str, known: Mapping[str, int]) -> int:
     """The number of a word."""
     found = characters(name, value)
     if found not in known:
-        raise ArgumentFault(f"{found!r} is none of {', '.join(map(repr, known))}", name)
+        raise ArgumentFault(f"'{shown(found)}' is none of {', '.join(map(repr, known))}", name)
     return known[found]
 
 
@@ -178,11 +181,12 @@ def _guid_of_number(name: str, value: Any) -> bytes:
 def _guid_of_text(name: str, value: str) -> bytes:
     """A GUID as SDDL has it. UUID also reads other forms, as with braces."""
     if not _GUID_TEXT.fullmatch(value):
-        raise ArgumentFault(f"{value!r} is no GUID, such as bf967aba-0de6-11d0-a285-00aa003049e2", name)
+        raise ArgumentFault(f"'{shown(value)}' is no GUID, such as bf967aba-0de6-11d0-a285-00aa003049e2", name)
     return _in_binary(bytes.fromhex(value.replace("-", "")))
 
 
-def sid(name: str, value: Union[str, BytesLike], index: Optional[int] = None, *, domain: Optional[bytes] = None) -> bytes:
+def sid(name: str, value: Union[str, BytesLike], index: Optional[int] = None, *,
+        domain: Optional[bytes] = None) -> bytes:
     """Exactly one SID in binary, from its text or its bytes."""
     if type(value) is not bytes and is_a(value, str):
         spelled = characters(name, value)  # type: ignore[arg-type]
@@ -192,12 +196,13 @@ def sid(name: str, value: Union[str, BytesLike], index: Optional[int] = None, *,
             raise fault.of(name, index, InSid(spelled)) from None
     found = data(name, value, index)  # type: ignore[arg-type]
     if not _library.is_one_sid(found):
-        shown = (found.hex() or "no bytes") if len(found) <= _MOST_SHOWN else f"{len(found)} bytes"
-        raise ArgumentFault(f"{shown}: not exactly one SID in binary", name, index)
+        what = (found.hex() or "no bytes") if len(found) <= _MOST_SHOWN else f"{len(found)} bytes"
+        raise ArgumentFault(f"{what}: not exactly one SID in binary", name, index)
     return found
 
 
-def sid_or_none(name: str, value: Optional[Union[str, BytesLike]], *, domain: Optional[bytes] = None) -> Optional[bytes]:
+def sid_or_none(name: str, value: Optional[Union[str, BytesLike]], *,
+                domain: Optional[bytes] = None) -> Optional[bytes]:
     """A SID in binary, or None where there is none."""
     return None if value is None else sid(name, value, domain=domain)
 

@@ -40,9 +40,9 @@ def from_sddl(text: str, *, domain: Optional[SidLike] = None) -> bytes:
 
     A line that keeps its newline is refused, as error 20 where it ends with an ACE. Strip it: `line.rstrip("\n")`.
 
-    The empty text, or one of blanks, is a descriptor without parts. So is an empty line of the program. A descriptor without
-    a DACL grants everything to everyone, as Windows does, and so does this one. Where a text was lost, that is wrong: a
-    caller that has no use for objects without permissions asks whether there is a DACL.
+    The empty text, or one of blanks, is a descriptor without parts. So is an empty line of the program. A descriptor
+    without a DACL grants everything to everyone, as Windows does, and so does this one. Where a text was lost, that is
+    wrong: a caller that has no use for objects without permissions asks whether there is a DACL.
 
     >>> print(explain(from_sddl("")), end="")
     control 0x8000 SR
@@ -96,10 +96,10 @@ def check(descriptor: DescriptorLike, sids: Iterable[SidLike], *, deny_only: Ite
           take_ownership: bool = False) -> Verdict:
     """Whether a descriptor grants what is asked for, as 'sdtool check' says it.
 
-    The token is sids and deny_only, SIDs in binary; those of deny_only count only for ACEs that deny. wanted is an access
-    mask, and with maximum all that is granted is asked for as well. mapping is "file", "key" or "ds". level is an
-    integrity level, such as 8192. object_type is a uuid.UUID, or its 16 bytes in binary, as its bytes_le. principal_self
-    is the SID that PRINCIPAL SELF stands for. security and take_ownership are the two privileges.
+    The token is sids and deny_only, SIDs in binary; those of deny_only count only for ACEs that deny. wanted is an
+    access mask, and with maximum all that is granted is asked for as well. mapping is "file", "key" or "ds". level is
+    an integrity level, such as 8192. object_type is a uuid.UUID, or its 16 bytes in binary, as its bytes_le.
+    principal_self is the SID that PRINCIPAL SELF stands for. security and take_ownership are the two privileges.
 
     >>> users = bytes.fromhex("01020000000000052000000021020000")
     >>> descriptor = from_sddl("O:BAD:(A;;FR;;;BU)")
@@ -122,7 +122,8 @@ def check(descriptor: DescriptorLike, sids: Iterable[SidLike], *, deny_only: Ite
     question = _library.question(
         token, _arguments.guid("object_type", object_type), _arguments.sid_or_none("principal_self", principal_self),
         _arguments.number("wanted", wanted), _arguments.word("mapping", mapping, MAPPINGS),
-        0 if level is None else _arguments.number("level", level), level is not None, _arguments.flag("maximum", maximum),
+        0 if level is None else _arguments.number("level", level), level is not None,
+        _arguments.flag("maximum", maximum),
         _arguments.flag("security", security), _arguments.flag("take_ownership", take_ownership))
     return _library.check(question, data)
 

@@ -3,7 +3,7 @@ from typing import Any, Dict, Optional
 
 from ._places import NOWHERE, Located, Place, Where
 
-# What each number means, in the words of docs/FORMAT.md.
+# What each number means. windows/write.py writes it.
 MEANINGS: Dict[int, str] = {
     1: "the line exceeds its limit",
     2: "a character is not a hex digit",
@@ -15,8 +15,8 @@ MEANINGS: Dict[int, str] = {
     8: "the offset is below 20, or fewer than 8 bytes follow it",
     9: "the revision of a SID is not 1, its count exceeds 15, or it passes the end of the bytes or of its ACE",
     10: "the revision of the ACL is not 2 or 4, its size is below 8, or it passes the end of the bytes",
-    11: "fewer than 16 bytes of the ACL are left for an ACE; or its size is below 16, not a multiple of 4 or beyond the "
-        "ACL; or its object fields and 8 bytes of a SID do not fit in it",
+    11: "fewer than 16 bytes of the ACL are left for an ACE; or its size is below 16, not a multiple of 4 or beyond "
+        "the ACL; or its object fields and 8 bytes of a SID do not fit in it",
     12: "the type of an ACE is not supported",
     13: "an ACE has flag 0x20",
     14: "two parts share a byte",
@@ -36,6 +36,13 @@ MEANINGS: Dict[int, str] = {
     51: "bit 26 or 27 is set in the rights that are asked for",
 }
 ARGUMENT = 70
+_MOST_SHOWN = 64  # characters
+
+
+def shown(text: str) -> str:
+    """A text of the caller's as messages have it: cut, and what does not print by its numbers."""
+    found = str.__str__(text)
+    return f"{found[:_MOST_SHOWN]!r}"[1:-1] + (".." if len(found) > _MOST_SHOWN else "")
 
 
 class Error(Exception):
@@ -43,7 +50,8 @@ class Error(Exception):
 
 
 class WrongType(Error, TypeError):
-    """An argument of a type that the call does not take, or an object whose __init__ did not end. The library was not called."""
+    """An argument of a type that the call does not take, or an object whose __init__ did not end. The library was not
+    called."""
 
 
 class Unchangeable(Error, AttributeError):
@@ -65,9 +73,9 @@ class Fault(_Numbered):
     """An input that has no answer: bytes that are no descriptor, text that is no SDDL, rights that cannot be asked for.
 
     number and name are those of docs/FORMAT.md. part is "owner", "group", "sacl", "dacl" or None, and so is other_part,
-    the second part of fault 14. argument is the name of the argument that is refused, where that is not the only one that
-    could be, and index its place in a list of such. meaning says in words what the number means. place says where the fault
-    is in the descriptor or the text that was given, and where says it in words.
+    the second part of fault 14. argument is the name of the argument that is refused, where that is not the only one
+    that could be, and index its place in a list of such. meaning says in words what the number means. place says where
+    the fault is in the descriptor or the text that was given, and where says it in words.
 
     >>> import sdtool
     >>> try:
@@ -110,8 +118,8 @@ class Fault(_Numbered):
         return fault
 
     def as_answer(self) -> "Fault":
-        """The same fault, in the place of a verdict or a descriptor. That is true if it is granted, so this is neither true nor
-        false, unless it is raised: an exception is true."""
+        """The same fault, in the place of a verdict or a descriptor. That is true if it is granted, so this is neither
+        true nor false, unless it is raised: an exception is true."""
         self._is_answer = True
         return self
 
@@ -129,13 +137,14 @@ class Fault(_Numbered):
     def where(self) -> str:
         """The place in words, with which the message ends; an empty text without a place.
 
-        ACEs count from 1, as in an explanation, and bytes from 0. Those of a text are in UTF-8, while place counts characters.
+        ACEs count from 1, as in an explanation, and bytes from 0. Those of a text are in UTF-8, while place counts
+        characters.
         """
         return self._located().words
 
     def excerpt(self) -> str:
-        """At most 72 characters of the text around the place, or digits of the bytes, and carets below it, in two lines; an
-        empty text without a place."""
+        """At most 72 characters of the text around the place, or digits of the bytes, and carets below it, in two
+        lines; an empty text without a place."""
         return self._located().excerpt
 
     def _located(self) -> Located:
@@ -164,8 +173,8 @@ class Fault(_Numbered):
 class ArgumentFault(_Numbered):
     """An argument beside the descriptor or the text that the call does not take, such as a number out of its range.
 
-    It is no Fault, since it says nothing about the descriptor. argument and index say which argument, and which of a list;
-    they are None if that is not known. number is 70 and name is "argument".
+    It is no Fault, since it says nothing about the descriptor. argument and index say which argument, and which of a
+    list; they are None if that is not known. number is 70 and name is "argument".
     """
 
     number = ARGUMENT

@@ -19,7 +19,7 @@ class _Names(enum.IntFlag):
     def names(self) -> Tuple[str, ...]:
         """The names of the bits that are set, in rising order; bits without a name have none here."""
         single = {member.value: name for name, member in reversed(list(type(self).__members__.items()))}
-        return tuple(single[bit] for bit in (1 << place for place in range(32)) if self.value & bit and bit in single)
+        return tuple([single[bit] for bit in (1 << place for place in range(32)) if self.value & bit and bit in single])
 
 
 class AceFlags(_Names):

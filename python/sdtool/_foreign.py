@@ -1,5 +1,5 @@
-"""The calls of include/sdtool.h by ctypes, where _native is not there. Both have the same functions, of which _native.pyi
-has the signatures; here each call takes about ten times as long beside the library's own time."""
+"""The calls of include/sdtool.h by ctypes, where _native is not there. Both have the same functions, of which
+_native.pyi has the signatures; here each call takes about ten times as long beside the library's own time."""
 import ctypes
 from typing import Any, Callable, Dict, Iterable, Iterator, List, NoReturn, Optional, Sequence, Tuple
 
@@ -29,7 +29,8 @@ class _Request(ctypes.Structure):
 
 
 class _Asker(ctypes.Structure):
-    _fields_ = [("mapping", _U32), ("level", _U32), ("has_level", _BOOL), ("security", _BOOL), ("take_ownership", _BOOL)]
+    _fields_ = [("mapping", _U32), ("level", _U32), ("has_level", _BOOL), ("security", _BOOL),
+                ("take_ownership", _BOOL)]
 
 
 class _Reason(ctypes.Structure):
@@ -75,7 +76,8 @@ class _Bytes(ctypes.Structure):
 
 
 class _NewAce(ctypes.Structure):
-    _fields_ = [("sid", _Bytes), ("object_type", _Bytes), ("inherited_object_type", _Bytes), ("mask", _U32), ("kind", _U8),
+    _fields_ = [("sid", _Bytes), ("object_type", _Bytes), ("inherited_object_type", _Bytes), ("mask", _U32),
+                ("kind", _U8),
                 ("flags", _U8)]
 
 
@@ -108,7 +110,8 @@ _CALLS: Tuple[Tuple[str, Sequence[Any], Any], ...] = (
     ("check_with", (*_IN, ctypes.POINTER(_U32), _SIZE, *_IN * 2, ctypes.POINTER(_Request)), _Verdict),
     ("check_many", (ctypes.POINTER(_Bytes), _SIZE, *_IN * 4, ctypes.POINTER(_Request), ctypes.POINTER(_Verdict), _SIZE),
      _Outcome),
-    ("reasons_with", (*_IN, ctypes.POINTER(_U32), _SIZE, *_IN * 2, ctypes.POINTER(_Asker), ctypes.POINTER(_Reason)), _Outcome),
+    ("reasons_with", (*_IN, ctypes.POINTER(_U32), _SIZE, *_IN * 2, ctypes.POINTER(_Asker),
+                      ctypes.POINTER(_Reason)), _Outcome),
     ("run", (*_IN * 2, *_OUT * 2), _Ending),
     ("parts", _IN, _Contents),
     ("place", _IN, _FaultPlace),
@@ -155,7 +158,8 @@ class Entries:
         return len(aces(self))
 
 
-# The state of an ACL and its list of ACEs, or in place of that the bytes and the number of those that nobody has asked for.
+# The state of an ACL and its list of ACEs, or in place of that the bytes and the number of those that nobody has asked
+# for.
 _acl = Slot(Entries, "_acl")
 
 
@@ -202,7 +206,8 @@ def _refuse(outcome: Any, given: Optional[bytes] = None, domain: Optional[bytes]
     _raises(outcome.fault, outcome.part, outcome.other_part, outcome.argument, outcome.entry, given, domain)
 
 
-def _answer(call: Callable[..., Any], *arguments: Any, given: Optional[bytes] = None, domain: Optional[bytes] = None) -> bytes:
+def _answer(call: Callable[..., Any], *arguments: Any, given: Optional[bytes] = None,
+            domain: Optional[bytes] = None) -> bytes:
     """What a call gives. The fault may be one of the descriptor, or of the text under a domain, that was given."""
     size = _FIRST_SIZE
     while True:
@@ -282,10 +287,12 @@ def explain(descriptor: Any, domain: Any, numeric: bool) -> str:
 
 
 def derive(parent: bytes, creator: Optional[bytes], owner: bytes, group: bytes, kind: int, mapping: int) -> bytes:
-    return _answer(_library.sdtool_derive, *_in(parent), *_in(creator), *_in(owner), *_in(group), kind, mapping, given=parent)
+    return _answer(_library.sdtool_derive, *_in(parent), *_in(creator), *_in(owner), *_in(group), kind, mapping,
+                   given=parent)
 
 
-def origins(parent: bytes, creator: Optional[bytes], owner: bytes, group: bytes, kind: int, mapping: int) -> Tuple[bytes, bytes]:
+def origins(parent: bytes, creator: Optional[bytes], owner: bytes, group: bytes, kind: int,
+            mapping: int) -> Tuple[bytes, bytes]:
     """The origins of the SACL's and of the DACL's ACEs, as struct sdtool_origin has them."""
     sacl, dacl = (_Origin * _MOST_DERIVED_ACES)(), (_Origin * _MOST_DERIVED_ACES)()
     told = _library.sdtool_derive_origins(*_in(parent), *_in(creator), *_in(owner), *_in(group), kind, mapping,
@@ -330,7 +337,8 @@ def run(words: bytes, data: bytes) -> Tuple[int, bytes, bytes]:
             raise MemoryError
         # Help that was cut ends with 0.
         if ending.status != _STATUS_STOPPED and ending.length < size:
-            return ending.status, ctypes.string_at(output, ending.length), ctypes.string_at(message, ending.message_length)
+            return ending.status, ctypes.string_at(output, ending.length), ctypes.string_at(message,
+                                                                                            ending.message_length)
         size *= 4
 
 
@@ -345,8 +353,8 @@ def token(sids: bytes, entries: bytes) -> Any:
     return (numbers, size), given
 
 
-def question(token: Any, object_type: Optional[bytes], principal_self: Optional[bytes], wanted: int, mapping: int, level: int,
-             has_level: bool, maximum: bool, security: bool, take_ownership: bool) -> Any:
+def question(token: Any, object_type: Optional[bytes], principal_self: Optional[bytes], wanted: int,
+             mapping: int, level: int, has_level: bool, maximum: bool, security: bool, take_ownership: bool) -> Any:
     return token, (*_in(object_type), *_in(principal_self),
                    _Request(wanted, mapping, level, has_level, maximum, security, take_ownership))
 
@@ -483,8 +491,8 @@ def _new_acl(state: int, aces: Tuple[Any, ...]) -> _NewAcl:
 
 def build(control: int, resource_manager: int, owner: Optional[bytes], group: Optional[bytes], sacl_state: int,
           sacl: Tuple[Any, ...], dacl_state: int, dacl: Tuple[Any, ...]) -> bytes:
-    descriptor = _NewDescriptor(_given(owner), _given(group), _new_acl(sacl_state, sacl), _new_acl(dacl_state, dacl), control,
-                                resource_manager)
+    descriptor = _NewDescriptor(_given(owner), _given(group), _new_acl(sacl_state, sacl),
+                                _new_acl(dacl_state, dacl), control, resource_manager)
     return _answer(_library.sdtool_build, descriptor)
 
 

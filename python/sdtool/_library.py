@@ -18,8 +18,8 @@ _NAMES = {"win32": "sdtool.dll", "cygwin": "sdtool.dll"}
 _NO_MEMORY = 72
 _OF_BYTES, _OF_TEXTS = range(5, 15), range(20, 31)  # the faults that have a place
 # The arguments of enum sdtool_argument, by the names that they have in Python.
-_ARGUMENTS = (None, "domain", "sids", "deny_only", "object_type", "principal_self", "mapping", "creator", "owner", "group",
-              "kind", "number", "sid", "sacl", "dacl", "token")
+_ARGUMENTS = (None, "domain", "sids", "deny_only", "object_type", "principal_self", "mapping", "creator",
+              "owner", "group", "kind", "number", "sid", "sacl", "dacl", "token")
 _LISTS = ("sids", "deny_only", "sacl", "dacl")
 
 
@@ -30,8 +30,8 @@ def _name_of(number: int) -> str:
 
 def fault_of(fault: int, part: int, other_part: int, argument: int, entry: int, given: Optional[bytes],
              domain: Optional[bytes]) -> Fault:
-    """The fault of a call, by its numbers and what was given, if it has its place there: a descriptor in binary, or a text of
-    SDDL in UTF-8 and the SID of its domain."""
+    """The fault of a call, by its numbers and what was given, if it has its place there: a descriptor in binary, or a
+    text of SDDL in UTF-8 and the SID of its domain."""
     found = Fault(fault, _name_of(fault), PARTS[part], PARTS[other_part])
     if given is not None and fault in _OF_BYTES:
         found._where = InBytes(given, _transport.place)
@@ -57,8 +57,8 @@ def _raises(fault: int, part: int, other_part: int, argument: int, entry: int, g
 
 
 def _places() -> Sequence[str]:
-    """Where the library is looked for: in the one file that the variable names, else beside the module, as a wheel with the
-    library has it, and where the system finds libraries."""
+    """Where the library is looked for: in the one file that the variable names, else beside the module, as a wheel with
+    the library has it, and where the system finds libraries."""
     named = os.environ.get(_VARIABLE)
     if named:
         return [named]
@@ -74,8 +74,8 @@ def _load() -> None:
             return _transport.load(place, _raises)
         except OSError as problem:
             problems.append(f"{place}: {problem}")
-    raise ImportError(f"sdtool needs its library for C, and looked for it in {'; '.join(problems)}. Install the library, or "
-                      f"let the environment variable {_VARIABLE} name its file", name="sdtool")
+    raise ImportError(f"sdtool needs its library for C, and looked for it in {'; '.join(problems)}. Install the "
+                      f"library, or let the environment variable {_VARIABLE} name its file", name="sdtool")
 
 
 def digest() -> str:

@@ -1,6 +1,7 @@
 /*
- * The calls of sdtool.h for Python, over the limited interface of Python 3.8: built once, it is imported by that and each
- * later version. A function here makes one call of the library, and gets what a caller hands over through the door below.
+ * The calls of sdtool.h for Python, over the limited interface of Python 3.8: built once, it is imported by that and
+ * each later version. A function here makes one call of the library, and gets what a caller hands over through the door
+ * below.
  *
  * The library is opened when the module asks for it, so that a variable of the environment can name it.
  */
@@ -36,31 +37,34 @@ __asm__(".symver dlerror, dlerror@" OLDEST_C_LIBRARY);
 #endif
 
 /*
- * Python 3.8 and 3.9 have a number of each type's version for types with this flag, and need it for each that another type is
- * below. Headers of later ones, to which it says nothing, leave it out of the default.
+ * Python 3.8 and 3.9 have a number of each type's version for types with this flag, and need it for each that another
+ * type is below. Headers of later ones, to which it says nothing, leave it out of the default.
  */
 #define HAS_VERSION (1UL << 18)
 #define BASE_FLAGS (Py_TPFLAGS_DEFAULT | Py_TPFLAGS_BASETYPE | HAS_VERSION)
 
 enum {
-    FIRST_SIZE = 4096,  /* larger answers take a second call */
-    LARGE = 2048,       /* other threads of Python run during calls with more input, which take longer than to let them */
+    FIRST_SIZE = 4096, /* larger answers take a second call */
+    LARGE = 2048, /* other threads of Python run during calls with more input, which take longer than to let them */
     BYTE_VALUES = 256,
     KNOWN_SIDS = 512
 };
 
-#define CALLS(EACH)                                                                                                          \
-    EACH(version) EACH(normalize) EACH(from_sddl) EACH(to_sddl) EACH(explain) EACH(token_read) EACH(check_with)              \
-    EACH(check_many) EACH(reasons_with) EACH(derive) EACH(derive_origins)                                                    \
-    EACH(run) EACH(fault_text) EACH(sid_from_text) EACH(sid_to_text) EACH(sid_size) EACH(parts) EACH(place) EACH(next_ace)   \
-    EACH(sddl_place) EACH(build) EACH(version_number)
+/* clang-format off */
+#define CALLS(EACH)                                                                                                    \
+    EACH(version) EACH(normalize) EACH(from_sddl) EACH(to_sddl) EACH(explain) EACH(token_read) EACH(check_with)        \
+    EACH(check_many) EACH(reasons_with) EACH(derive) EACH(derive_origins) EACH(run) EACH(fault_text)                   \
+    EACH(sid_from_text) EACH(sid_to_text) EACH(sid_size) EACH(parts) EACH(place) EACH(next_ace) EACH(sddl_place)       \
+    EACH(build) EACH(version_number)
 
 /* The objects of the module: its own types, and what load() and adopt() are given. */
-#define OBJECTS(EACH)                                                                                                        \
-    EACH(layout_type) EACH(entries_type) EACH(asking_type) EACH(plain_sid_type) EACH(refuse) EACH(fault_of) EACH(no_list)    \
-    EACH(read_text) EACH(read_sid) EACH(read_layout) EACH(read_only) EACH(read_guid) EACH(descriptor_type) EACH(acl_type)     \
-    EACH(acl_absent) EACH(acl_null) EACH(verdict_type) EACH(ace_type) EACH(sid_type) EACH(kinds) EACH(flags)                 \
-    EACH(plain_type) EACH(plain_ace_type) EACH(plain_kinds) EACH(plain_absent) EACH(plain_null)
+#define OBJECTS(EACH)                                                                                                  \
+    EACH(layout_type) EACH(entries_type) EACH(asking_type) EACH(plain_sid_type) EACH(refuse) EACH(fault_of)            \
+    EACH(no_list) EACH(read_text) EACH(read_sid) EACH(read_layout) EACH(read_only) EACH(read_guid)                     \
+    EACH(descriptor_type) EACH(acl_type) EACH(acl_absent) EACH(acl_null) EACH(verdict_type) EACH(ace_type)             \
+    EACH(sid_type) EACH(kinds) EACH(flags) EACH(plain_type) EACH(plain_ace_type) EACH(plain_kinds)                     \
+    EACH(plain_absent) EACH(plain_null)
+/* clang-format on */
 
 #define POINTER(name) __typeof__(sdtool_##name) *name;
 #define OBJECT(name) PyObject *name;
@@ -114,8 +118,8 @@ struct given {
 #define SDDL(view, domain) ((struct given){&(view), &(domain)})
 
 /* What a function of the module makes of a fault. */
-static PyObject *told(PyObject *function, uint32_t fault, uint32_t part, uint32_t other_part, uint32_t argument, size_t entry,
-                      struct given given)
+static PyObject *told(PyObject *function, uint32_t fault, uint32_t part, uint32_t other_part, uint32_t argument,
+                      size_t entry, struct given given)
 {
     const struct view none = {0}, *input = given.input == NULL ? &none : given.input;
     const struct view *domain = given.domain == NULL ? &none : given.domain;
@@ -148,7 +152,8 @@ static PyObject *refused_outcome(struct state *state, struct sdtool_outcome outc
     return refused(state, outcome.fault, outcome.part, outcome.other_part, outcome.argument, outcome.entry, given);
 }
 
-/* Raises what a function of _slots.py says of an object. One that is not made has no module to ask, so that is looked up. */
+/* Raises what a function of _slots.py says of an object. One that is not made has no module to ask, so that is looked
+ * up. */
 static PyObject *refuse_by(const char *function, PyObject *object)
 {
     PyObject *module = PyImport_ImportModule("sdtool._slots");
@@ -161,8 +166,8 @@ static PyObject *refuse_by(const char *function, PyObject *object)
 }
 
 /*
- * One more reference to an object. Py_RETURN_NONE, Py_RETURN_TRUE and Py_RETURN_FALSE of headers from 3.12 on count none, since
- * these objects never end there; those of older versions do.
+ * One more reference to an object. Py_RETURN_NONE, Py_RETURN_TRUE and Py_RETURN_FALSE of headers from 3.12 on count
+ * none, since these objects never end there; those of older versions do.
  */
 static PyObject *counted(PyObject *object)
 {
@@ -215,10 +220,10 @@ static struct sdtool_bytes bytes_of(struct view view)
 }
 
 /*
- * The door. The functions from here to the end of the door are the only ones that look at an object of a caller. They take one of
- * the exact type as it is, which nobody can have changed: bytes, a str, a Sid that is a SID, a SecurityDescriptor that is made.
- * All others, and each that is wrong, go to the functions of _arguments.py that adopt() is given, which give bytes or
- * refuse. So both ways to the library have the same rules.
+ * The door. The functions from here to the end of the door are the only ones that look at an object of a caller. They
+ * take one of the exact type as it is, which nobody can have changed: bytes, a str, a Sid that is a SID, a
+ * SecurityDescriptor that is made. All others, and each that is wrong, go to the functions of _arguments.py that
+ * adopt() is given, which give bytes or refuse. So both ways to the library have the same rules.
  */
 
 /* Shows the bytes of an object that has them by its very type, and takes the object over. */
@@ -341,31 +346,31 @@ static PyObject *as_text(const uint8_t *bytes, size_t size)
 }
 
 /*
- * Sets ANSWER to what CALL, an expression in which OUTPUT and SIZE are the room for its output, gives as an object made by
- * AS, or to NULL. INPUT is the size of what it reads, and GIVEN what its fault is about, a struct given.
+ * Sets ANSWER to what CALL, an expression in which OUTPUT and SIZE are the room for its output, gives as an object made
+ * by AS, or to NULL. INPUT is the size of what it reads, and GIVEN what its fault is about, a struct given.
  */
-#define ASK(ANSWER, CALL, INPUT, AS, GIVEN)                                                                                      \
-    do {                                                                                                                     \
-        uint8_t first[FIRST_SIZE], *output = first;                                                                          \
-        size_t size = sizeof first;                                                                                          \
-        struct sdtool_outcome outcome;                                                                                       \
-        for (;;) {                                                                                                           \
-            PyThreadState *others = (INPUT) > LARGE ? PyEval_SaveThread() : NULL;                                            \
-            outcome = CALL;                                                                                                  \
-            if (others != NULL)                                                                                              \
-                PyEval_RestoreThread(others);                                                                                \
-            if (outcome.fault != SDTOOL_TOO_SMALL || output != first)                                                        \
-                break;                                                                                                       \
-            size = outcome.length;                                                                                           \
-            output = malloc(size);                                                                                           \
-            if (output == NULL)                                                                                              \
-                break;                                                                                                       \
-        }                                                                                                                    \
-        ANSWER = output == NULL             ? PyErr_NoMemory()                                                               \
-                 : outcome.fault == SDTOOL_OK ? AS(output, outcome.length)                                                   \
-                                              : refused_outcome(state, outcome, GIVEN);                                      \
-        if (output != first)                                                                                                 \
-            free(output);                                                                                                    \
+#define ASK(ANSWER, CALL, INPUT, AS, GIVEN)                                                                            \
+    do {                                                                                                               \
+        uint8_t first[FIRST_SIZE], *output = first;                                                                    \
+        size_t size = sizeof first;                                                                                    \
+        struct sdtool_outcome outcome;                                                                                 \
+        for (;;) {                                                                                                     \
+            PyThreadState *others = (INPUT) > LARGE ? PyEval_SaveThread() : NULL;                                      \
+            outcome = CALL;                                                                                            \
+            if (others != NULL)                                                                                        \
+                PyEval_RestoreThread(others);                                                                          \
+            if (outcome.fault != SDTOOL_TOO_SMALL || output != first)                                                  \
+                break;                                                                                                 \
+            size = outcome.length;                                                                                     \
+            output = malloc(size);                                                                                     \
+            if (output == NULL)                                                                                        \
+                break;                                                                                                 \
+        }                                                                                                              \
+        ANSWER = output == NULL               ? PyErr_NoMemory()                                                       \
+                 : outcome.fault == SDTOOL_OK ? AS(output, outcome.length)                                             \
+                                              : refused_outcome(state, outcome, GIVEN);                                \
+        if (output != first)                                                                                           \
+            free(output);                                                                                              \
     } while (0)
 
 static void free_object(PyObject *self)
@@ -382,8 +387,9 @@ static PyObject *new_object(PyObject *type, Py_ssize_t items)
 }
 
 /*
- * A tuple of a class, of items that it takes over. If one of them is NULL, there is no tuple. From the moment on at which Python
- * knows a new tuple, others find it, as by gc.get_objects(): so its items are made before, and nothing runs until it has them.
+ * A tuple of a class, of items that it takes over. If one of them is NULL, there is no tuple. From the moment on at
+ * which Python knows a new tuple, others find it, as by gc.get_objects(): so its items are made before, and nothing
+ * runs until it has them.
  */
 static PyObject *tuple_of(PyObject *type, PyObject **items, Py_ssize_t count)
 {
@@ -401,7 +407,8 @@ static PyObject *tuple_of(PyObject *type, PyObject **items, Py_ssize_t count)
     return tuple;
 }
 
-/* A tuple of the items that were made, if no error ended that. It takes over the items and the memory that they are in. */
+/* A tuple of the items that were made, if no error ended that. It takes over the items and the memory that they are in.
+ */
 static PyObject *tuple_of_made(PyObject **items, Py_ssize_t made)
 {
     PyObject *tuple = NULL;
@@ -550,23 +557,23 @@ static PyObject *descriptor_of_bytes(PyObject *module, PyObject *const *given, P
 }
 
 /* The descriptor, the SID of a domain or None, and whether SIDs are numbers. */
-#define SHOW(NAME)                                                                                                           \
-    static PyObject *NAME(PyObject *module, PyObject *const *given, Py_ssize_t count)                                        \
-    {                                                                                                                        \
-        struct state *state = state_for(module, count, 3);                                                                   \
-        struct view data, domain;                                                                                            \
-        bool numeric;                                                                                                        \
-        PyObject *answer = NULL;                                                                                             \
-        if (state == NULL || !view_layout(state, &data, given[0], "descriptor"))                                             \
-            return NULL;                                                                                                     \
-        numeric = given[2] == Py_True;                                                                                       \
-        if (view_sid(state, &domain, given[1], "domain")) {                                                                  \
-            ASK(answer, state->library.NAME(BYTES(data), BYTES(domain), numeric, output, size), data.size, as_text,            \
-                DESCRIPTOR(data));                                                                                            \
-            view_ends(&domain);                                                                                              \
-        }                                                                                                                    \
-        view_ends(&data);                                                                                                    \
-        return answer;                                                                                                       \
+#define SHOW(NAME)                                                                                                     \
+    static PyObject *NAME(PyObject *module, PyObject *const *given, Py_ssize_t count)                                  \
+    {                                                                                                                  \
+        struct state *state = state_for(module, count, 3);                                                             \
+        struct view data, domain;                                                                                      \
+        bool numeric;                                                                                                  \
+        PyObject *answer = NULL;                                                                                       \
+        if (state == NULL || !view_layout(state, &data, given[0], "descriptor"))                                       \
+            return NULL;                                                                                               \
+        numeric = given[2] == Py_True;                                                                                 \
+        if (view_sid(state, &domain, given[1], "domain")) {                                                            \
+            ASK(answer, state->library.NAME(BYTES(data), BYTES(domain), numeric, output, size), data.size, as_text,    \
+                DESCRIPTOR(data));                                                                                     \
+            view_ends(&domain);                                                                                        \
+        }                                                                                                              \
+        view_ends(&data);                                                                                              \
+        return answer;                                                                                                 \
     }
 SHOW(to_sddl)
 SHOW(explain)
@@ -583,7 +590,8 @@ static bool view_derivation(struct derivation *asked, PyObject *const *given)
     asked->seen = 0;
     while (asked->seen < 4 && view_bytes(&asked->views[asked->seen], given[asked->seen]))
         asked->seen++;
-    return asked->seen == 4 && number(given[4], UINT32_MAX, &asked->kind) && number(given[5], UINT32_MAX, &asked->mapping);
+    return asked->seen == 4 && number(given[4], UINT32_MAX, &asked->kind)
+           && number(given[5], UINT32_MAX, &asked->mapping);
 }
 
 static void derivation_ends(struct derivation *asked)
@@ -592,8 +600,9 @@ static void derivation_ends(struct derivation *asked)
         view_ends(&asked->views[--asked->seen]);
 }
 
-#define DERIVATION(asked) BYTES(asked.views[0]), BYTES(asked.views[1]), BYTES(asked.views[2]), BYTES(asked.views[3]), \
-                          asked.kind, asked.mapping
+#define DERIVATION(asked)                                                                                              \
+    BYTES(asked.views[0]), BYTES(asked.views[1]), BYTES(asked.views[2]), BYTES(asked.views[3]), asked.kind,            \
+        asked.mapping
 
 static PyObject *derive(PyObject *module, PyObject *const *given, Py_ssize_t count)
 {
@@ -603,8 +612,8 @@ static PyObject *derive(PyObject *module, PyObject *const *given, Py_ssize_t cou
     if (state == NULL)
         return NULL;
     if (view_derivation(&asked, given))
-        ASK(answer, state->library.derive(DERIVATION(asked), output, size), asked.views[0].size + asked.views[1].size, as_bytes,
-            DESCRIPTOR(asked.views[0]));
+        ASK(answer, state->library.derive(DERIVATION(asked), output, size), asked.views[0].size + asked.views[1].size,
+            as_bytes, DESCRIPTOR(asked.views[0]));
     derivation_ends(&asked);
     return answer;
 }
@@ -620,16 +629,17 @@ static PyObject *origins_of(struct state *state, const struct derivation *asked)
     dacl = cells + SDTOOL_MOST_DERIVED_ACES;
     others = asked->views[0].size + asked->views[1].size > LARGE ? PyEval_SaveThread() : NULL;
     found = state->library.derive_origins(DERIVATION((*asked)), cells, SDTOOL_MOST_DERIVED_ACES, dacl,
-                                         SDTOOL_MOST_DERIVED_ACES);
+                                          SDTOOL_MOST_DERIVED_ACES);
     if (others != NULL)
         PyEval_RestoreThread(others);
     if (found.fault == SDTOOL_OK)
-        answer = Py_BuildValue("(NN)", PyBytes_FromStringAndSize((char *)cells, (Py_ssize_t)(found.sacl_count * sizeof *cells)),
+        answer = Py_BuildValue("(NN)",
+                               PyBytes_FromStringAndSize((char *)cells, (Py_ssize_t)(found.sacl_count * sizeof *cells)),
                                PyBytes_FromStringAndSize((char *)dacl, (Py_ssize_t)(found.dacl_count * sizeof *cells)));
     free(cells);
     return found.fault == SDTOOL_OK ? answer
-                                   : refused(state, found.fault, found.part, found.other_part, found.argument, found.entry,
-                                             DESCRIPTOR(asked->views[0]));
+                                    : refused(state, found.fault, found.part, found.other_part, found.argument,
+                                              found.entry, DESCRIPTOR(asked->views[0]));
 }
 
 /* The origins of the SACL's and of the DACL's ACEs, as struct sdtool_origin has them. */
@@ -756,12 +766,11 @@ static PyObject *run(PyObject *module, PyObject *const *given, Py_ssize_t count)
             break;
         }
         output = larger;
-        Py_BEGIN_ALLOW_THREADS
-        ending = state->library.run(BYTES(words), BYTES(input), output, size, message, sizeof message);
+        Py_BEGIN_ALLOW_THREADS ending = state->library.run(BYTES(words), BYTES(input), output, size, message,
+                                                           sizeof message);
         Py_END_ALLOW_THREADS
-        /* Help that was cut ends with 0. */
-        if (ending.status != SDTOOL_STATUS_STOPPED && ending.length < size)
-            break;
+            /* Help that was cut ends with 0. */
+            if (ending.status != SDTOOL_STATUS_STOPPED && ending.length < size) break;
         size *= 4;
     }
     answer = ending.status == SDTOOL_STATUS_NO_MEMORY
@@ -860,9 +869,9 @@ static PyObject *question(PyObject *module, PyObject *const *given, Py_ssize_t c
         return state == NULL ? NULL : PyErr_NoMemory();
     request = &question->request;
     question->token = PyCapsule_GetPointer(given[0], TOKEN);
-    if (question->token != NULL && view_bytes(&question->object, given[1]) && view_bytes(&question->principal_self, given[2]) &&
-        number(given[3], UINT32_MAX, &request->wanted) && number(given[4], UINT32_MAX, &request->mapping) &&
-        number(given[5], UINT32_MAX, &request->level)) {
+    if (question->token != NULL && view_bytes(&question->object, given[1])
+        && view_bytes(&question->principal_self, given[2]) && number(given[3], UINT32_MAX, &request->wanted)
+        && number(given[4], UINT32_MAX, &request->mapping) && number(given[5], UINT32_MAX, &request->level)) {
         request->has_level = given[6] == Py_True;
         request->maximum = given[7] == Py_True;
         request->security = given[8] == Py_True;
@@ -901,8 +910,8 @@ static PyObject *verdict_on(struct state *state, const struct question *asked, P
     if (others != NULL)
         PyEval_RestoreThread(others);
     answer = verdict.fault == SDTOOL_OK ? verdict_of(state, verdict)
-                                        : refused(state, verdict.fault, verdict.part, verdict.other_part, verdict.argument,
-                                                  verdict.entry, DESCRIPTOR(data));
+                                        : refused(state, verdict.fault, verdict.part, verdict.other_part,
+                                                  verdict.argument, verdict.entry, DESCRIPTOR(data));
     view_ends(&data);
     return answer;
 }
@@ -1045,8 +1054,8 @@ static PyObject *answers_of(struct state *state, const struct sdtool_verdict *ve
         struct sdtool_verdict found = verdicts[index];
         PyObject *answer = found.fault == SDTOOL_OK
                                ? verdict_of(state, found)
-                               : told(state->fault_of, found.fault, found.part, found.other_part, found.argument, found.entry,
-                                      DESCRIPTOR(batch->views[index]));
+                               : told(state->fault_of, found.fault, found.part, found.other_part, found.argument,
+                                      found.entry, DESCRIPTOR(batch->views[index]));
         if (answer == NULL || PyList_Append(answers, answer) < 0)
             Py_CLEAR(answers);
         Py_XDECREF(answer);
@@ -1067,12 +1076,11 @@ static PyObject *answers_on(struct state *state, const struct question *asked, c
     } else {
         for (index = 0; index < batch->count; index++)
             descriptors[index] = bytes_of(batch->views[index]);
-        Py_BEGIN_ALLOW_THREADS
-        outcome = state->library.check_many(descriptors, batch->count, BYTES(asked->token->sids), BYTES(asked->token->entries),
-                                            BYTES(asked->object), BYTES(asked->principal_self), &asked->request, verdicts,
-                                            batch->count);
-        Py_END_ALLOW_THREADS
-        answers = outcome.fault == SDTOOL_OK ? answers_of(state, verdicts, batch) : refused_outcome(state, outcome, NOTHING);
+        Py_BEGIN_ALLOW_THREADS outcome = state->library.check_many(
+            descriptors, batch->count, BYTES(asked->token->sids), BYTES(asked->token->entries), BYTES(asked->object),
+            BYTES(asked->principal_self), &asked->request, verdicts, batch->count);
+        Py_END_ALLOW_THREADS answers = outcome.fault == SDTOOL_OK ? answers_of(state, verdicts, batch)
+                                                                  : refused_outcome(state, outcome, NOTHING);
     }
     free(descriptors);
     free(verdicts);
@@ -1104,8 +1112,8 @@ static PyObject *sid_of(struct state *state, const uint8_t *bytes, size_t size)
         hash ^= hash >> 15;
     }
     known = &state->known_sids[hash % KNOWN_SIDS];
-    if (*known != NULL && (PyObject *)Py_TYPE(*known) == state->sid_type && (size_t)PyBytes_Size(*known) == size &&
-        memcmp(PyBytes_AsString(*known), bytes, size) == 0) {
+    if (*known != NULL && (PyObject *)Py_TYPE(*known) == state->sid_type && (size_t)PyBytes_Size(*known) == size
+        && memcmp(PyBytes_AsString(*known), bytes, size) == 0) {
         return counted(*known);
     }
     plain = as_bytes(bytes, size);
@@ -1157,11 +1165,12 @@ static PyObject *entry(PyObject *values, uint8_t number)
 static PyObject *ace_of(struct state *state, const struct view *acl, const struct sdtool_ace *found)
 {
     PyObject *fields[6] = {NULL};
-    bool is_whole = put(&fields[0], entry(state->kinds, found->kind)) && put(&fields[1], entry(state->flags, found->flags)) &&
-                    put(&fields[2], PyLong_FromUnsignedLong(found->mask)) &&
-                    put(&fields[3], sid_at(state, acl, found->sid)) &&
-                    put(&fields[4], guid_at(state, acl, found->object_type)) &&
-                    put(&fields[5], guid_at(state, acl, found->inherited_object_type));
+    bool is_whole = put(&fields[0], entry(state->kinds, found->kind))
+                    && put(&fields[1], entry(state->flags, found->flags))
+                    && put(&fields[2], PyLong_FromUnsignedLong(found->mask))
+                    && put(&fields[3], sid_at(state, acl, found->sid))
+                    && put(&fields[4], guid_at(state, acl, found->object_type))
+                    && put(&fields[5], guid_at(state, acl, found->inherited_object_type));
     (void)is_whole;
     return tuple_of(state->ace_type, fields, 6);
 }
@@ -1286,14 +1295,11 @@ static Py_ssize_t entries_length(PyObject *self)
 }
 
 static PyType_Slot ENTRIES_SLOTS[] = {
-    {Py_tp_dealloc, entries_end},
-    {Py_tp_traverse, entries_traverse},
-    {Py_tp_clear, entries_clear},
-    {Py_tp_iter, entries_iter},
-    {Py_sq_length, entries_length},
-    {0, NULL},
+    {Py_tp_dealloc, entries_end}, {Py_tp_traverse, entries_traverse}, {Py_tp_clear, entries_clear},
+    {Py_tp_iter, entries_iter},   {Py_sq_length, entries_length},     {0, NULL},
 };
-static PyType_Spec ENTRIES = {"sdtool._native.Entries", sizeof(struct entries), 0, BASE_FLAGS | Py_TPFLAGS_HAVE_GC, ENTRIES_SLOTS};
+static PyType_Spec ENTRIES = {"sdtool._native.Entries", sizeof(struct entries), 0, BASE_FLAGS | Py_TPFLAGS_HAVE_GC,
+                              ENTRIES_SLOTS};
 
 static PyObject *aces(PyObject *module, PyObject *acl)
 {
@@ -1319,8 +1325,8 @@ static PyObject *fill(PyObject *module, PyObject *arguments)
     PyObject *acl, *which, *aces;
     struct entries *entries;
     uint32_t number_of_state;
-    if (state == NULL || !PyArg_ParseTuple(arguments, "OOO", &acl, &which, &aces) || !is_of(acl, state->entries_type) ||
-        !number(which, SDTOOL_ACL_LIST, &number_of_state))
+    if (state == NULL || !PyArg_ParseTuple(arguments, "OOO", &acl, &which, &aces) || !is_of(acl, state->entries_type)
+        || !number(which, SDTOOL_ACL_LIST, &number_of_state))
         return NULL;
     if (number_of_state == SDTOOL_ACL_LIST ? !PyTuple_CheckExact(aces) : aces != Py_None) {
         PyErr_SetString(PyExc_SystemError, "no ACEs of the door");
@@ -1355,13 +1361,16 @@ static PyObject *acl_at(PyObject *module, struct state *state, PyObject *data, s
 }
 
 /* What the library has found in the bytes of a descriptor. */
-static PyObject *contents_of(PyObject *module, struct state *state, const struct view *data, struct sdtool_contents found)
+static PyObject *contents_of(PyObject *module, struct state *state, const struct view *data,
+                             struct sdtool_contents found)
 {
     PyObject *fields[6] = {NULL};
-    bool is_whole = put(&fields[0], PyLong_FromLong(found.control)) && put(&fields[1], PyLong_FromLong(found.resource_manager)) &&
-                    put(&fields[2], sid_at(state, data, found.owner)) && put(&fields[3], sid_at(state, data, found.group)) &&
-                    put(&fields[4], acl_at(module, state, data->held, found.sacl)) &&
-                    put(&fields[5], acl_at(module, state, data->held, found.dacl));
+    bool is_whole = put(&fields[0], PyLong_FromLong(found.control))
+                    && put(&fields[1], PyLong_FromLong(found.resource_manager))
+                    && put(&fields[2], sid_at(state, data, found.owner))
+                    && put(&fields[3], sid_at(state, data, found.group))
+                    && put(&fields[4], acl_at(module, state, data->held, found.sacl))
+                    && put(&fields[5], acl_at(module, state, data->held, found.dacl));
     (void)is_whole;
     return tuple_of(NULL, fields, 6);
 }
@@ -1382,8 +1391,9 @@ static PyObject *parts(PyObject *module, PyObject *descriptor)
     if (!view_layout(state, &data, descriptor, "descriptor"))
         return NULL;
     found = state->library.parts(BYTES(data));
-    answer = found.fault == SDTOOL_OK ? contents_of(module, state, &data, found)
-                                      : refused(state, found.fault, found.part, found.other_part, 0, 0, DESCRIPTOR(data));
+    answer = found.fault == SDTOOL_OK
+                 ? contents_of(module, state, &data, found)
+                 : refused(state, found.fault, found.part, found.other_part, 0, 0, DESCRIPTOR(data));
     view_ends(&data);
     if (answer != NULL)
         keep(&layout->found, answer);
@@ -1418,9 +1428,9 @@ static bool is_tuple(PyObject *object, Py_ssize_t count)
 static bool new_ace(PyObject *fields, struct sdtool_new_ace *ace)
 {
     uint32_t kind, flags;
-    if (!is_tuple(fields, 6) || !number_in(fields, 0, UINT8_MAX, &kind) || !number_in(fields, 1, UINT8_MAX, &flags) ||
-        !number_in(fields, 2, UINT32_MAX, &ace->mask) || !bytes_in(fields, 3, &ace->sid) ||
-        !bytes_in(fields, 4, &ace->object_type) || !bytes_in(fields, 5, &ace->inherited_object_type))
+    if (!is_tuple(fields, 6) || !number_in(fields, 0, UINT8_MAX, &kind) || !number_in(fields, 1, UINT8_MAX, &flags)
+        || !number_in(fields, 2, UINT32_MAX, &ace->mask) || !bytes_in(fields, 3, &ace->sid)
+        || !bytes_in(fields, 4, &ace->object_type) || !bytes_in(fields, 5, &ace->inherited_object_type))
         return false;
     ace->kind = (uint8_t)kind;
     ace->flags = (uint8_t)flags;
@@ -1447,18 +1457,19 @@ static bool new_acl(PyObject *which, PyObject *tuple, struct sdtool_new_acl *acl
     return true;
 }
 
-/* Control, resource manager, owner, group, the state of the SACL and its ACEs, and those of the DACL, all from the door. */
+/* Control, resource manager, owner, group, the state of the SACL and its ACEs, and those of the DACL, all from the
+ * door. */
 static PyObject *build(PyObject *module, PyObject *arguments)
 {
     struct state *state = state_for(module, PyTuple_Size(arguments), 8);
     struct sdtool_new_descriptor descriptor = {0};
     uint32_t control, resource_manager;
     PyObject *answer = NULL;
-    if (state != NULL && number_in(arguments, 0, UINT16_MAX, &control) &&
-        number_in(arguments, 1, UINT8_MAX, &resource_manager) && bytes_in(arguments, 2, &descriptor.owner) &&
-        bytes_in(arguments, 3, &descriptor.group) &&
-        new_acl(PyTuple_GetItem(arguments, 4), PyTuple_GetItem(arguments, 5), &descriptor.sacl) &&
-        new_acl(PyTuple_GetItem(arguments, 6), PyTuple_GetItem(arguments, 7), &descriptor.dacl)) {
+    if (state != NULL && number_in(arguments, 0, UINT16_MAX, &control)
+        && number_in(arguments, 1, UINT8_MAX, &resource_manager) && bytes_in(arguments, 2, &descriptor.owner)
+        && bytes_in(arguments, 3, &descriptor.group)
+        && new_acl(PyTuple_GetItem(arguments, 4), PyTuple_GetItem(arguments, 5), &descriptor.sacl)
+        && new_acl(PyTuple_GetItem(arguments, 6), PyTuple_GetItem(arguments, 7), &descriptor.dacl)) {
         descriptor.control = (uint16_t)control;
         descriptor.resource_manager = (uint8_t)resource_manager;
         ASK(answer, state->library.build(&descriptor, output, size), 0, as_bytes, NOTHING);
@@ -1550,12 +1561,12 @@ static PyObject *make_ace(const struct plain *plain, const struct source *source
     const struct sdtool_ace *ace = source->found;
     const uint8_t *acl = source->bytes;
     PyObject *fields[6] = {NULL};
-    bool is_whole = put(&fields[0], entry(plain->state->plain_kinds, ace->kind)) &&
-                    put(&fields[1], PyLong_FromLong(ace->flags)) &&
-                    put(&fields[2], PyLong_FromUnsignedLong(ace->mask)) &&
-                    put(&fields[3], plain_sid(plain, acl, ace->sid)) &&
-                    put(&fields[4], plain_guid(plain, acl, ace->object_type)) &&
-                    put(&fields[5], plain_guid(plain, acl, ace->inherited_object_type));
+    bool is_whole = put(&fields[0], entry(plain->state->plain_kinds, ace->kind))
+                    && put(&fields[1], PyLong_FromLong(ace->flags))
+                    && put(&fields[2], PyLong_FromUnsignedLong(ace->mask))
+                    && put(&fields[3], plain_sid(plain, acl, ace->sid))
+                    && put(&fields[4], plain_guid(plain, acl, ace->object_type))
+                    && put(&fields[5], plain_guid(plain, acl, ace->inherited_object_type));
     (void)is_whole;
     return tuple_of(plain->state->plain_ace_type, fields, 6);
 }
@@ -1599,12 +1610,12 @@ static PyObject *plain_acl(const struct plain *plain, const uint8_t *bytes, cons
 static PyObject *plain_descriptor(const struct plain *plain, const uint8_t *bytes, const struct sdtool_contents *found)
 {
     PyObject *fields[6] = {NULL};
-    bool is_whole = put(&fields[0], plain_sid(plain, bytes, found->owner)) &&
-                    put(&fields[1], plain_sid(plain, bytes, found->group)) &&
-                    put(&fields[2], plain_acl(plain, bytes, &found->dacl)) &&
-                    put(&fields[3], plain_acl(plain, bytes, &found->sacl)) &&
-                    put(&fields[4], PyLong_FromLong(found->control)) &&
-                    put(&fields[5], PyLong_FromLong(found->resource_manager));
+    bool is_whole = put(&fields[0], plain_sid(plain, bytes, found->owner))
+                    && put(&fields[1], plain_sid(plain, bytes, found->group))
+                    && put(&fields[2], plain_acl(plain, bytes, &found->dacl))
+                    && put(&fields[3], plain_acl(plain, bytes, &found->sacl))
+                    && put(&fields[4], PyLong_FromLong(found->control))
+                    && put(&fields[5], PyLong_FromLong(found->resource_manager));
     (void)is_whole;
     return tuple_of(plain->state->plain_type, fields, 6);
 }
@@ -1614,7 +1625,8 @@ static PyObject *plain_fault(struct state *state, struct sdtool_outcome outcome,
 {
     if (outcome.fault == SDTOOL_ARGUMENT || outcome.fault == SDTOOL_TOO_SMALL || outcome.fault == SDTOOL_NO_MEMORY)
         return refused_outcome(state, outcome, NOTHING);
-    return told(state->fault_of, outcome.fault, outcome.part, outcome.other_part, outcome.argument, outcome.entry, given);
+    return told(state->fault_of, outcome.fault, outcome.part, outcome.other_part, outcome.argument, outcome.entry,
+                given);
 }
 
 /* What a text of SDDL, or a descriptor, says. */
@@ -1641,9 +1653,9 @@ static PyObject *plain_answer(const struct plain *plain, PyObject *given)
     }
     if (others != NULL)
         PyEval_RestoreThread(others);
-    answer = outcome.fault == SDTOOL_OK ? plain_descriptor(plain, data.bytes, &found)
-                                        : plain_fault(plain->state, outcome,
-                                                      is_text ? SDDL(view, plain->domain) : DESCRIPTOR(view));
+    answer = outcome.fault == SDTOOL_OK
+                 ? plain_descriptor(plain, data.bytes, &found)
+                 : plain_fault(plain->state, outcome, is_text ? SDDL(view, plain->domain) : DESCRIPTOR(view));
     view_ends(&view);
     return answer;
 }
@@ -1700,9 +1712,8 @@ static PyObject *adopt_plain(PyObject *module, PyObject *arguments)
     PyObject *descriptor, *ace, *kinds, *absent, *null;
     if (state == NULL || !PyArg_ParseTuple(arguments, "OOOOO", &descriptor, &ace, &kinds, &absent, &null))
         return NULL;
-    if (!PyType_Check(descriptor) || !PyType_Check(ace) ||
-        !PyType_IsSubtype((PyTypeObject *)descriptor, &PyTuple_Type) ||
-        !PyType_IsSubtype((PyTypeObject *)ace, &PyTuple_Type) || !is_tuple(kinds, BYTE_VALUES)) {
+    if (!PyType_Check(descriptor) || !PyType_Check(ace) || !PyType_IsSubtype((PyTypeObject *)descriptor, &PyTuple_Type)
+        || !PyType_IsSubtype((PyTypeObject *)ace, &PyTuple_Type) || !is_tuple(kinds, BYTE_VALUES)) {
         if (!PyErr_Occurred())
             PyErr_SetString(PyExc_TypeError, "these are not the classes of the module");
         return NULL;
@@ -1768,11 +1779,11 @@ static PyObject *load(PyObject *module, PyObject *arguments)
     opened = open_library(path);
     if (opened == NULL)
         return NULL;
-#define FIND(name)                                                                                                           \
-    *(void **)&state->library.name = find_call(opened, "sdtool_" #name);                                                     \
-    if (state->library.name == NULL) {                                                                                       \
-        PyErr_SetString(PyExc_OSError, "it has no sdtool_" #name);                                                           \
-        return NULL;                                                                                                         \
+#define FIND(name)                                                                                                     \
+    *(void **)&state->library.name = find_call(opened, "sdtool_" #name);                                               \
+    if (state->library.name == NULL) {                                                                                 \
+        PyErr_SetString(PyExc_OSError, "it has no sdtool_" #name);                                                     \
+        return NULL;                                                                                                   \
     }
     CALLS(FIND)
     if (state->library.version_number() < SDTOOL_VERSION) {
@@ -1794,16 +1805,18 @@ static PyObject *adopt(PyObject *module, PyObject *arguments)
     struct state *state = state_of(module);
     PyObject *descriptor, *acl, *absent, *null, *verdict, *ace, *sid, *kinds, *flags;
     PyObject *fault_of, *no_list, *read_text, *read_sid, *read_layout, *read_only, *read_guid;
-    if (state == NULL ||
-        !PyArg_ParseTuple(arguments, "OOOOOOOOOOOOOOOO", &descriptor, &acl, &absent, &null, &verdict, &ace, &sid, &kinds, &flags,
-                          &fault_of, &no_list, &read_text, &read_sid, &read_layout, &read_only, &read_guid))
+    if (state == NULL
+        || !PyArg_ParseTuple(arguments, "OOOOOOOOOOOOOOOO", &descriptor, &acl, &absent, &null, &verdict, &ace, &sid,
+                             &kinds, &flags, &fault_of, &no_list, &read_text, &read_sid, &read_layout, &read_only,
+                             &read_guid))
         return NULL;
-    if (!is_class(descriptor) || !is_class(acl) || !is_class(verdict) || !is_class(ace) || !is_class(sid) ||
-        !PyType_IsSubtype((PyTypeObject *)descriptor, (PyTypeObject *)state->layout_type) ||
-        !PyType_IsSubtype((PyTypeObject *)acl, (PyTypeObject *)state->entries_type) ||
-        !PyType_IsSubtype((PyTypeObject *)verdict, &PyTuple_Type) || !PyType_IsSubtype((PyTypeObject *)ace, &PyTuple_Type) ||
-        !PyType_IsSubtype((PyTypeObject *)sid, &PyBytes_Type) || PyTuple_Size(kinds) != BYTE_VALUES ||
-        PyTuple_Size(flags) != BYTE_VALUES) {
+    if (!is_class(descriptor) || !is_class(acl) || !is_class(verdict) || !is_class(ace) || !is_class(sid)
+        || !PyType_IsSubtype((PyTypeObject *)descriptor, (PyTypeObject *)state->layout_type)
+        || !PyType_IsSubtype((PyTypeObject *)acl, (PyTypeObject *)state->entries_type)
+        || !PyType_IsSubtype((PyTypeObject *)verdict, &PyTuple_Type)
+        || !PyType_IsSubtype((PyTypeObject *)ace, &PyTuple_Type)
+        || !PyType_IsSubtype((PyTypeObject *)sid, &PyBytes_Type) || PyTuple_Size(kinds) != BYTE_VALUES
+        || PyTuple_Size(flags) != BYTE_VALUES) {
         if (!PyErr_Occurred())
             PyErr_SetString(PyExc_TypeError, "these are not the classes of the module");
         return NULL;
@@ -1827,7 +1840,10 @@ static PyObject *adopt(PyObject *module, PyObject *arguments)
     return counted(Py_None);
 }
 
-#define FAST(name) {#name, (PyCFunction)(void (*)(void))name, METH_FASTCALL, NULL}
+#define FAST(name)                                                                                                     \
+    {                                                                                                                  \
+#name, (PyCFunction)(void (*)(void))name, METH_FASTCALL, NULL                                                  \
+    }
 static PyMethodDef FUNCTIONS[] = {
     {"load", load, METH_VARARGS, NULL},
     {"adopt", adopt, METH_VARARGS, NULL},
@@ -1877,17 +1893,19 @@ static int begin(PyObject *module)
     state->layout_type = PyType_FromSpec(&LAYOUT);
     state->entries_type = PyType_FromSpec(&ENTRIES);
     state->asking_type = PyType_FromSpec(&ASKING);
-    state->plain_sid_type = PyType_FromSpecWithBases(&plain_sid, bases); /* for its way to make bytes, which is that of bytes */
+    state->plain_sid_type = PyType_FromSpecWithBases(&plain_sid,
+                                                     bases); /* for its way to make bytes, which is that of bytes */
     Py_DECREF(bases);
-    if (state->layout_type == NULL || state->entries_type == NULL || state->asking_type == NULL || state->plain_sid_type == NULL)
+    if (state->layout_type == NULL || state->entries_type == NULL || state->asking_type == NULL
+        || state->plain_sid_type == NULL)
         return -1;
     /* This takes over what it adds. */
     Py_INCREF(state->layout_type);
     Py_INCREF(state->entries_type);
     Py_INCREF(state->asking_type);
-    return PyModule_AddObject(module, "Layout", state->layout_type) < 0 ||
-                   PyModule_AddObject(module, "Entries", state->entries_type) < 0 ||
-                   PyModule_AddObject(module, "Asking", state->asking_type) < 0
+    return PyModule_AddObject(module, "Layout", state->layout_type) < 0
+                   || PyModule_AddObject(module, "Entries", state->entries_type) < 0
+                   || PyModule_AddObject(module, "Asking", state->asking_type) < 0
                ? -1
                : 0;
 }
@@ -1921,9 +1939,9 @@ static void end(void *module)
 }
 
 /*
- * It does not say that interpreters with locks of their own may share its code. Compiled for the limited interface of 3.8, it
- * counts the references to objects that never end, such as None, which all interpreters share: that needs the one lock. Those with
- * their own import no extension that does not say so, and make the same calls through ctypes.
+ * It does not say that interpreters with locks of their own may share its code. Compiled for the limited interface
+ * of 3.8, it counts the references to objects that never end, such as None, which all interpreters share: that needs
+ * the one lock. Those with their own import no extension that does not say so, and make the same calls through ctypes.
  */
 static PyModuleDef_Slot SLOTS[] = {{Py_mod_exec, begin}, {0, NULL}};
 

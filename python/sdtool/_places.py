@@ -5,9 +5,11 @@ FieldName = Literal["kind", "flags", "rights", "object type", "inherited object 
 
 # By the numbers of include/sdtool.h.
 PARTS: Tuple[Optional[str], ...] = (None, "owner", "group", "sacl", "dacl")
-FIELDS: Tuple[Optional[FieldName], ...] = (None, "kind", "flags", "rights", "object type", "inherited object type", "sid", "size")
+FIELDS: Tuple[Optional[FieldName], ...] = (None, "kind", "flags", "rights", "object type", "inherited object type",
+                                           "sid", "size")
 NO_ACE = 0xFFFFFFFF
-_IN_WORDS: Dict[str, str] = {"owner": "the owner", "group": "the group", "sacl": "the SACL", "dacl": "the DACL", "sid": "SID"}
+_IN_WORDS: Dict[str, str] = {"owner": "the owner", "group": "the group", "sacl": "the SACL", "dacl": "the DACL",
+                             "sid": "SID"}
 _MOST_SHOWN = 72  # characters
 _DIGITS = 2  # of a byte
 _CONTINUATIONS = bytes(range(0x80, 0xc0))  # bytes that begin no character
@@ -17,9 +19,9 @@ HEAD_OF_ACE = "D:"  # which makes a descriptor of the text of an ACE
 class Place(NamedTuple):
     """Where a fault is.
 
-    part is "owner", "group", "sacl", "dacl" or None, and ace the index of an ACE of that part, or None. field is "kind",
-    "flags", "rights", "object type", "inherited object type", "sid", "size" or None. What was given, bytes or a text, has
-    the fault in given[offset:offset + size], which is empty where something is missing.
+    part is "owner", "group", "sacl", "dacl" or None, and ace the index of an ACE of that part, or None. field is
+    "kind", "flags", "rights", "object type", "inherited object type", "sid", "size" or None. What was given, bytes or a
+    text, has the fault in given[offset:offset + size], which is empty where something is missing.
     """
 
     part: Optional[str]
@@ -67,8 +69,8 @@ class InBytes:
 
 
 class InText:
-    """A text of SDDL that has a fault, in UTF-8, and the SID of its domain. With is_ace the text is an ACE that was given,
-    behind the head of a DACL that was not."""
+    """A text of SDDL that has a fault, in UTF-8, and the SID of its domain. With is_ace the text is an ACE that was
+    given, behind the head of a DACL that was not."""
 
     def __init__(self, text: bytes, domain: Optional[bytes], find: Callable[[bytes, Optional[bytes]], _Found],
                  is_ace: bool = False) -> None:
@@ -86,11 +88,11 @@ class InText:
             return NOWHERE
         place, front = _place_of(found), len(HEAD_OF_ACE) if self._is_ace else 0
         given, offset = self._text[front:], place.offset - front
-        is_head = place.field is None and given[offset:offset + place.size].upper() == HEAD_OF_ACE.encode()  # which was given
-        if front and place.part == "dacl" and not is_head:
-            place = place._replace(part=None, ace=None)
+        # which was given
+        is_head = (place.field is None and given[offset:offset + place.size].upper() == HEAD_OF_ACE.encode())
+        part, ace = (None, None) if front and place.part == "dacl" and not is_head else (place.part, place.ace)
         first, end = _characters(given[:offset]), _characters(given[:offset + place.size])
-        place = place._replace(offset=first, size=end - first)
+        place = Place(part, ace, place.field, first, end - first)
         return Located(place, _in_words(place, offset), _around(_text_of(given), first, end - first, 1))
 
 

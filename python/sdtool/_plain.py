@@ -77,4 +77,4 @@ def _answers(given: Iterator[Any], domain: Optional[bytes], most: int) -> Iterat
             return
 
 
-_library.adopt_plain(PlainDescriptor, PlainAce, tuple(map(_KINDS.get, range(256))), "absent", "null")
+_library.adopt_plain(PlainDescriptor, PlainAce, tuple([*map(_KINDS.get, range(256))]), "absent", "null")

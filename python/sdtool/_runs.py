@@ -32,7 +32,8 @@ class Answers(NamedTuple):
 
 def _spelled(words: Sequence[str]) -> bytes:
     """The words as the library takes them."""
-    spelled = [_arguments.text("words", word, index) for index, word in enumerate(_arguments.items("words", words, "str"))]
+    spelled = [_arguments.text("words", word, index)
+               for index, word in enumerate(_arguments.items("words", words, "str"))]
     for index, word in enumerate(spelled):
         if b"\0" in word:
             raise ArgumentFault("a word has a NUL", "words", index)
@@ -91,7 +92,8 @@ class Run:
         return self._run(last)
 
     def _keep(self, piece: bytes) -> None:
-        """Adds to the line that has not ended. With two bytes more than the longest one it is too long, however it ends."""
+        """Adds to the line that has not ended. With two bytes more than the longest one it is too long, however it
+        ends."""
         self._open += piece[:max(0, _LONGEST_LINE + 2 - len(self._open))]
 
     def _run(self, data: bytes) -> bytes:
@@ -101,8 +103,8 @@ class Run:
 
 
 def checked(words: Sequence[str], pieces: Iterable[bytes], total: Counter[str]) -> Iterator[bytes]:
-    """The answers to the lines that end in each piece. Counts lines, error lines and bytes; a line without an answer is a
-    RuntimeError."""
+    """The answers to the lines that end in each piece. Counts lines, error lines and bytes; a line without an answer is
+    a RuntimeError."""
     spelled = _spelled(words)
     run = Run(spelled)
     explains = spelled.startswith(b"explain\0")
@@ -124,9 +126,10 @@ def checked(words: Sequence[str], pieces: Iterable[bytes], total: Counter[str]) 
 def lines(source: Source, words: Sequence[str], *, ahead: int = _AHEAD) -> Iterator[str]:
     """The program's answer to each line of a source, as they come, in memory that does not grow.
 
-    source is a file, binary or text, or any iterable of lines, each a str or bytes with or without its newline. words are
-    those of the command line, without the program's name. There is one answer for each line, in order and without its
-    last newline: an explanation is one answer of several lines, and a line that is refused has the answer 'error N ..'.
+    source is a file, binary or text, or any iterable of lines, each a str or bytes with or without its newline. words
+    are those of the command line, without the program's name. There is one answer for each line, in order and without
+    its last newline: an explanation is one answer of several lines, and a line that is refused has the answer 'error N
+    ..'.
 
     From a binary file the answers come for each piece that a read gives, as from a pipe. From any other source, at most
     ahead lines are taken before their answers come; with ahead=1, no line is taken before the last one is answered.
@@ -165,7 +168,8 @@ def _pieces_of(file: Any) -> Iterator[bytes]:
 
 
 def _texts_of(file: Any) -> Iterator[str]:
-    """The lines of a text file. In non-blocking mode Python takes no bytes yet for the end, so whether it is that is asked first."""
+    """The lines of a text file. In non-blocking mode Python takes no bytes yet for the end, so whether it is that is
+    asked first."""
     for line in file:
         if not line.endswith("\n"):
             _require_end(file)
@@ -179,8 +183,8 @@ def _require_end(file: Any) -> None:
 
 
 def piece_of(file: Any, most: int) -> Any:
-    """What one read of a binary file gives, which is nothing at its end alone: without bytes at the moment, a file in non-blocking
-    mode is a BlockingIOError."""
+    """What one read of a binary file gives, which is nothing at its end alone: without bytes at the moment, a file in
+    non-blocking mode is a BlockingIOError."""
     piece = getattr(file, "read1", file.read)(most)
     if type(piece) is bytes and piece == b"" and _never_waits(file):
         piece = file.read(1)  # None where there are no bytes yet, for which read1 gives the same as at the end

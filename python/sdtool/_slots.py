@@ -3,11 +3,11 @@ import os
 import threading
 from typing import Any, Callable
 
-from ._errors import WrongType
+from ._errors import WrongType, shown
 
 _name_of_type: Callable[[type], str] = vars(type)["__name__"].__get__
-# One __init__ of an object wins, also where threads call two. A finalizer or a handler of a signal may run while its own thread
-# has the lock, and make objects too.
+# One __init__ of an object wins, also where threads call two. A finalizer or a handler of a signal may run while its
+# own thread has the lock, and make objects too.
 _filling = threading.RLock()
 
 
@@ -23,7 +23,7 @@ if hasattr(os, "register_at_fork"):
 
 def type_name(value: object) -> str:
     """The name of an object's type, whatever a metaclass makes of it."""
-    return str.__str__(_name_of_type(type(value)))
+    return shown(_name_of_type(type(value)))
 
 
 def not_made(value: object) -> WrongType:

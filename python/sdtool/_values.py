@@ -4,12 +4,12 @@ import functools
 import itertools
 import struct
 import uuid
-from typing import (Any, Callable, ClassVar, Dict, FrozenSet, Iterable, Iterator, NamedTuple, NoReturn, Optional, Sequence,
-                    Tuple, Type, TypeVar, Union, overload)
+from typing import (Any, Callable, ClassVar, Dict, FrozenSet, Iterable, Iterator, NamedTuple, NoReturn,
+                    Optional, Sequence, Tuple, Type, TypeVar, Union, overload)
 
 from . import _arguments, _library
 from ._arguments import BytesLike, GuidLike, sid_or_none
-from ._errors import ArgumentFault, Error, Fault, Unchangeable, WrongType
+from ._errors import ArgumentFault, Error, Fault, Unchangeable, WrongType, shown
 from ._flags import AceFlags, AceKind, Control
 from ._places import HEAD_OF_ACE, InText
 from ._slots import Slot, not_made, type_name
@@ -34,10 +34,14 @@ class _Fixed:
     __slots__ = ()
 
     def __setattr__(self, name: str, value: object) -> NoReturn:
-        raise Unchangeable(f"{name} of a {type_name(self)} cannot be changed")
+        raise Unchangeable(f"{_attribute(name)} of a {type_name(self)} cannot be changed")
 
     def __delattr__(self, name: str) -> NoReturn:
-        raise Unchangeable(f"{name} of a {type_name(self)} cannot be deleted")
+        raise Unchangeable(f"{_attribute(name)} of a {type_name(self)} cannot be deleted")
+
+
+def _attribute(name: str) -> str:
+    return shown(_arguments.characters("name", name))
 
 
 def _make(value: object, is_new: bool) -> None:
@@ -95,8 +99,8 @@ class _AceFields(NamedTuple):
 class Ace(_AceFields):
     """An entry of an ACL, a tuple of its fields.
 
-    mask is an int. FileMask(ace.mask), KeyMask(ace.mask) and DirectoryMask(ace.mask) have the names of its bits, since an
-    ACE does not say what kind of object it is for. The GUIDs are only in the kinds for objects.
+    mask is an int. FileMask(ace.mask), KeyMask(ace.mask) and DirectoryMask(ace.mask) have the names of its bits, since
+    an ACE does not say what kind of object it is for. The GUIDs are only in the kinds for objects.
 
     >>> ace = Ace(AceKind.A, AceFlags.OI | AceFlags.CI, 0x120089, "BU")
     >>> ace.sddl()
@@ -124,8 +128,10 @@ class Ace(_AceFields):
             if isinstance(fault._where, InText):
                 fault._where = fault._where.of_ace()
             raise
-        if len(found.dacl) != 1 or found != SecurityDescriptor(dacl=found.dacl):
+        if len(found.dacl) > 1:
             raise ArgumentFault("the text has more than one ACE", "text")
+        if found != SecurityDescriptor(dacl=found.dacl):
+            raise ArgumentFault("behind the ACE is another part of a descriptor", "text")
         return found.dacl[0]
 
     def sddl(self, *, domain: Optional[SidLike] = None, numeric: bool = False) -> str:
@@ -138,7 +144,7 @@ class Ace(_AceFields):
                 inherited_object_type: Optional[GuidLike] = _SAME) -> "Ace":
         """The same ACE with other values of some fields."""
         given = (kind, flags, mask, sid, object_type, inherited_object_type)
-        return Ace(*(old if new is _SAME else new for old, new in zip(_fields_of(self), given)))
+        return Ace(*[old if new is _SAME else new for old, new in zip(_fields_of(self), given)])
 
     __replace__ = replace  # what copy.replace calls
 
@@ -171,8 +177,8 @@ _RawAce = Tuple[int, int, int, bytes, Optional[bytes], Optional[bytes]]
 
 def _raw_fields(kind: Any, flags: Any, mask: Any, sid: Any, object_type: Any, inherited_object_type: Any) -> _RawAce:
     """The fields of an ACE, each read at the door."""
-    return (_arguments.number("kind", kind, 0xff), _arguments.number("flags", flags, 0xff), _arguments.number("mask", mask),
-            _arguments.sid("sid", sid), _arguments.guid("object_type", object_type),
+    return (_arguments.number("kind", kind, 0xff), _arguments.number("flags", flags, 0xff),
+            _arguments.number("mask", mask), _arguments.sid("sid", sid), _arguments.guid("object_type", object_type),
             _arguments.guid("inherited_object_type", inherited_object_type))
 
 
@@ -230,7 +236,8 @@ _number_of_uuid = uuid.UUID.__dict__["int"].__get__
 
 
 class NoAces(Error, TypeError):
-    """An absent or a null ACL has no list of ACEs: that it is not there grants everything, and an empty list nothing."""
+    """An absent or a null ACL has no list of ACEs: that it is not there grants everything, and an empty list
+    nothing."""
 
 
 class Acl(_Fixed, _library.Entries, Sequence[Ace]):
@@ -263,7 +270,7 @@ class Acl(_Fixed, _library.Entries, Sequence[Ace]):
         _make(self, _library.state(self) is None)
         found = _raw_aces("aces", aces)
         _check_aces(found)
-        _make(self, _library.fill(self, _LIST, tuple(map(_ace_of, found))))
+        _make(self, _library.fill(self, _LIST, tuple([_ace_of(raw) for raw in found])))
 
     @property
     def is_list(self) -> bool:
@@ -340,7 +347,8 @@ def _check_aces(aces: Tuple[_RawAce, ...]) -> None:
     try:
         _library.build(0, 0, None, None, _ABSENT, (), _LIST, aces)
     except ArgumentFault as fault:
-        raise ArgumentFault("no ACE has this kind, these flags and these object types together", "aces", fault.index) from None
+        raise ArgumentFault("no ACE has this kind, these flags and these object types together", "aces",
+                            fault.index) from None
     except Fault:
         pass
 
@@ -378,9 +386,9 @@ class Verdict(NamedTuple):
 class Reason(NamedTuple):
     """Why a right is granted or denied, true exactly if it is granted.
 
-    kind is "nothing" where nothing grants it, "label" where the mandatory label takes it, "no-dacl", "owner", "privilege", or
-    "granted" or "denied" by an ACE. ace is the ACE of the DACL or, with "label", that of the SACL, and place its index there;
-    they are None where there is none, as for the default label.
+    kind is "nothing" where nothing grants it, "label" where the mandatory label takes it, "no-dacl", "owner",
+    "privilege", or "granted" or "denied" by an ACE. ace is the ACE of the DACL or, with "label", that of the SACL, and
+    place its index there; they are None where there is none, as for the default label.
     """
 
     kind: ReasonKind
@@ -394,8 +402,8 @@ class Reason(NamedTuple):
 class Origin(NamedTuple):
     """Where an ACE of a derived descriptor comes from.
 
-    ace is the ACE that it was made of, and place the index of that in its ACL: the creator's with from_creator, and else the
-    folder's. With inherit_only it is the copy for what is made in the new object.
+    ace is the ACE that it was made of, and place the index of that in its ACL: the creator's with from_creator, and
+    else the folder's. With inherit_only it is the copy for what is made in the new object.
     """
 
     from_creator: bool
@@ -428,9 +436,9 @@ class _Holder(NamedTuple):
 class Token(_Fixed):
     """Who asks: the user's SID, those of all groups, and of groups such as Everyone (WD).
 
-    SIDs of deny_only count only for ACEs that deny. level is an integrity level, such as 8192 for medium; without it, none
-    is looked at. privileges are "security" (SeSecurityPrivilege) and "take-ownership" (SeTakeOwnershipPrivilege). domain
-    is for aliases such as DA.
+    SIDs of deny_only count only for ACEs that deny. level is an integrity level, such as 8192 for medium; without it,
+    none is looked at. privileges are "security" (SeSecurityPrivilege) and "take-ownership" (SeTakeOwnershipPrivilege).
+    domain is for aliases such as DA.
 
     >>> Token(["WD", "AU", "BU"], level=8192)
     Token([Sid('S-1-1-0'), Sid('S-1-5-11'), Sid('S-1-5-32-545')], level=8192)
@@ -529,7 +537,8 @@ def _request(wanted: int, maximum: bool, mapping: Mapping, object_type: Optional
 
 
 def _question_of(holder: _Holder, request: _Request) -> Any:
-    """A token and a request, as the library has read them. The token keeps the last ones, by values of the door alone."""
+    """A token and a request, as the library has read them. The token keeps the last ones, by values of the door
+    alone."""
     found = holder.questions.get(request)
     if found is None:
         wanted, maximum, mapping, object_type, principal_self = request
@@ -564,8 +573,8 @@ class Checker(_Fixed, _library.Asking):
         _asked.fill(self, (holder, request))
 
     def many(self, descriptors: Iterable["DescriptorLike"], *, ahead: int = 1024) -> Iterator[Union[Verdict, Fault]]:
-        """The verdict on each descriptor, in order, and for one that has none its Fault, which is neither true nor false. At most
-        ahead descriptors are taken before their verdicts come."""
+        """The verdict on each descriptor, in order, and for one that has none its Fault, which is neither true nor
+        false. At most ahead descriptors are taken before their verdicts come."""
         question = _library.asked(self)
         if question is None:
             raise not_made(self)
@@ -604,7 +613,8 @@ def _verdicts(question: Any, given: Iterator["DescriptorLike"], most: int) -> It
 
 def _checker_of(token: Token, wanted: int, maximum: bool, mapping: Mapping, object_type: Optional[GuidLike],
                 principal_self: Optional[SidLike]) -> Checker:
-    return Checker(token, wanted, maximum=maximum, mapping=mapping, object_type=object_type, principal_self=principal_self)
+    return Checker(token, wanted, maximum=maximum, mapping=mapping, object_type=object_type,
+                   principal_self=principal_self)
 
 
 class SecurityDescriptor(_Fixed, _library.Layout):
@@ -620,8 +630,8 @@ class SecurityDescriptor(_Fixed, _library.Layout):
     >>> users.replace(owner="SY", dacl=[*users.dacl, Ace(AceKind.A, 0, FileMask.FA, "SY")]).sddl()
     'O:SYD:(A;OICI;FR;;;BU)(A;;FA;;;SY)'
 
-    The empty text of SDDL is a descriptor without parts. A descriptor whose DACL is absent or null grants everything, as
-    on Windows. A caller that has no use for those asks for the DACL:
+    The empty text of SDDL is a descriptor without parts. A descriptor whose DACL is absent or null grants everything,
+    as on Windows. A caller that has no use for those asks for the DACL:
 
     >>> SecurityDescriptor.from_sddl("").dacl.is_list
     False
@@ -635,8 +645,10 @@ class SecurityDescriptor(_Fixed, _library.Layout):
         """Bits of control that say which parts there are follow from the parts."""
         _make(self, _library.layout(self) is None)
         _make(self, _library.lay(self, _library.build(
-            _arguments.number("control", control, 0xffff), _arguments.number("resource_manager", resource_manager, 0xff),
-            sid_or_none("owner", owner), sid_or_none("group", group), *_raw_acl("sacl", sacl), *_raw_acl("dacl", dacl))))
+            _arguments.number("control", control, 0xffff),
+            _arguments.number("resource_manager", resource_manager, 0xff),
+            sid_or_none("owner", owner), sid_or_none("group", group), *_raw_acl("sacl", sacl),
+            *_raw_acl("dacl", dacl))))
 
     @classmethod
     def from_bytes(cls, data: BytesLike) -> "SecurityDescriptor":
@@ -693,8 +705,9 @@ class SecurityDescriptor(_Fixed, _library.Layout):
               object_type: Optional[GuidLike] = None, principal_self: Optional[SidLike] = None) -> Verdict:
         """Whether it grants a token the rights of wanted and, with maximum, what else it grants.
 
-        mapping is "file", "key" or "ds": what the generic rights stand for. object_type is the object type of a check in a
-        directory. principal_self is the SID that PRINCIPAL SELF stands for. Many checks of one token take a Checker.
+        mapping is "file", "key" or "ds": what the generic rights stand for. object_type is the object type of a check
+        in a directory. principal_self is the SID that PRINCIPAL SELF stands for. Many checks of one token take a
+        Checker.
         """
         request = _request(wanted, maximum, mapping, object_type, principal_self)
         return _library.check(_question_of(_holder_of(token), request), self)
@@ -716,8 +729,8 @@ class SecurityDescriptor(_Fixed, _library.Layout):
         creator brings, if any."""
         return _descriptor_of(derived(_data_of(self), owner, group, kind, creator, mapping))
 
-    def origins(self, owner: SidLike, group: SidLike, *, kind: Kind = "file", creator: Optional["DescriptorLike"] = None,
-                mapping: Mapping = "file") -> Origins:
+    def origins(self, owner: SidLike, group: SidLike, *, kind: Kind = "file",
+                creator: Optional["DescriptorLike"] = None, mapping: Mapping = "file") -> Origins:
         """Where each ACE comes from of the descriptor that derive gives for the same arguments.
 
         >>> folder = SecurityDescriptor.from_sddl("D:(A;;FA;;;BA)(A;CI;GR;;;BU)")
@@ -729,7 +742,8 @@ class SecurityDescriptor(_Fixed, _library.Layout):
         data, brought = _data_of(self), _creator(creator)
         sacl, dacl = _of_derivation(_library.origins, data, owner, group, kind, brought, mapping)
         own, lent = _parts(self), None if brought is None else _parts(_of_bytes(brought))
-        return Origins(_origins(sacl, own[4], lent[4] if lent else None), _origins(dacl, own[5], lent[5] if lent else None))
+        return Origins(_origins(sacl, own[4], lent[4] if lent else None),
+                       _origins(dacl, own[5], lent[5] if lent else None))
 
     def replace(self, *, owner: Optional[SidLike] = _SAME, group: Optional[SidLike] = _SAME,
                 dacl: Union[Acl, Iterable[Ace]] = _SAME, sacl: Union[Acl, Iterable[Ace]] = _SAME, control: int = _SAME,
@@ -782,8 +796,8 @@ def _reasons(question: Any, descriptor: Any) -> Tuple[Reason, ...]:
 
 
 def decisions(checker: Checker, descriptor: DescriptorLike) -> Tuple[Tuple[ReasonKind, Optional[int], int], ...]:
-    """The reasons of a checker in texts and numbers alone, for programs that ask about many descriptors: each kind and place once,
-    with the mask of the rights that it decides about."""
+    """The reasons of a checker in texts and numbers alone, for programs that ask about many descriptors: each kind and
+    place once, with the mask of the rights that it decides about."""
     question = _library.asked(checker)
     if question is None:
         raise not_made(checker)
@@ -795,7 +809,8 @@ def _grouped(told: bytes) -> Tuple[Tuple[ReasonKind, Optional[int], int], ...]:
     found: Dict[Tuple[int, int], int] = {}
     for right, pair in enumerate(zip(*[iter(_REASONS.unpack(told))] * 2)):
         found[pair] = found.get(pair, 0) | 1 << right
-    return tuple([(REASONS[kind], None if place == _NO_PLACE else place, mask) for (kind, place), mask in found.items()])
+    return tuple([(REASONS[kind], None if place == _NO_PLACE else place, mask)
+                  for (kind, place), mask in found.items()])
 
 
 def _reason(descriptor: Any, kind: ReasonKind, place: int) -> Reason:
@@ -867,6 +882,6 @@ def _of_derivation(call: Callable[..., _Answer], parent: bytes, owner: SidLike, 
         raise
 
 
-_library.adopt(SecurityDescriptor, Acl, Acl.ABSENT, Acl.NULL, Verdict, Ace, Sid, tuple(map(_KIND_OF.get, range(256))),
-               tuple(_FLAGS_OF), _library.answer_of_fault, _no_list, _arguments.text, sid_or_none, _arguments.layout,
-               _arguments.only, _guid_of)
+_library.adopt(SecurityDescriptor, Acl, Acl.ABSENT, Acl.NULL, Verdict, Ace, Sid,
+               tuple([*map(_KIND_OF.get, range(256))]), tuple(_FLAGS_OF), _library.answer_of_fault, _no_list,
+               _arguments.text, sid_or_none, _arguments.layout, _arguments.only, _guid_of)

@@ -1,4 +1,5 @@
-// Linux: for the static program on x86-64, and for the program on arm64. The C library has read, write and __sysv_signal.
+// Linux: for the static program on x86-64, and for the program on arm64. The C library has read, write and
+// __sysv_signal.
 #include <errno.h>
 #include <stdlib.h>
 
@@ -7,13 +8,15 @@
 static char **words;
 static size_t word_count;
 
-int main(int count, char **arguments) {
+int main(int count, char **arguments)
+{
     words = arguments;
     word_count = (size_t)count;
     return rattle_main();
 }
 
-int64_t rattle_arg(size_t index, uint8_t *room, size_t room_size) {
+int64_t rattle_arg(size_t index, uint8_t *room, size_t room_size)
+{
     if (index >= word_count)
         return -1;
     size_t length = 0;
@@ -25,10 +28,12 @@ int64_t rattle_arg(size_t index, uint8_t *room, size_t room_size) {
     return (int64_t)length;
 }
 
-int32_t rattle_errno(void) {
+int32_t rattle_errno(void)
+{
     return errno;
 }
 
-void rattle_set_errno(int32_t number) {
+void rattle_set_errno(int32_t number)
+{
     errno = number;
 }

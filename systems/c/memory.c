@@ -1,5 +1,5 @@
-// memcpy, memmove and memset as C defines them, for systems without a C library. Blocks of up to 32 bytes, which are the
-// most common by far, take two loads and two stores that may overlap.
+// memcpy, memmove and memset as C defines them, for systems without a C library. Blocks of up to 32 bytes, which are
+// the most common by far, take two loads and two stores that may overlap.
 #include <stddef.h>
 #include <stdint.h>
 
@@ -16,7 +16,8 @@ typedef uint64_t sixteen __attribute__((vector_size(16), aligned(1), may_alias))
         *(type *)(to + size - sizeof(type)) = last;                                                                    \
     } while (0)
 
-static void move_few(uint8_t *to, const uint8_t *from, size_t size) {
+static void move_few(uint8_t *to, const uint8_t *from, size_t size)
+{
     if (size >= 16)
         MOVE_ENDS(sixteen);
     else if (size >= 8)
@@ -31,7 +32,8 @@ static void move_few(uint8_t *to, const uint8_t *from, size_t size) {
 
 // Moves more than 32 bytes from the front on, to a place that is not within those that follow FROM. The last bytes are
 // loaded first, since the loop may write to them.
-static void move_forwards(uint8_t *to, const uint8_t *from, size_t size) {
+static void move_forwards(uint8_t *to, const uint8_t *from, size_t size)
+{
     sixteen last = *(const sixteen *)(from + size - 16);
     size_t at = 0;
     for (; at < size - 16; at += 16)
@@ -40,14 +42,16 @@ static void move_forwards(uint8_t *to, const uint8_t *from, size_t size) {
 }
 
 // The same from the end on, for a place after FROM.
-static void move_backwards(uint8_t *to, const uint8_t *from, size_t size) {
+static void move_backwards(uint8_t *to, const uint8_t *from, size_t size)
+{
     sixteen first = *(const sixteen *)from;
     for (size_t at = size; at > 16; at -= 16)
         *(sixteen *)(to + at - 16) = *(const sixteen *)(from + at - 16);
     *(sixteen *)to = first;
 }
 
-void *memmove(void *to, const void *from, size_t size) {
+void *memmove(void *to, const void *from, size_t size)
+{
     if (size <= 32)
         move_few(to, from, size);
     else if ((uintptr_t)to - (uintptr_t)from >= size)
@@ -57,11 +61,13 @@ void *memmove(void *to, const void *from, size_t size) {
     return to;
 }
 
-void *memcpy(void *restrict to, const void *restrict from, size_t size) {
+void *memcpy(void *restrict to, const void *restrict from, size_t size)
+{
     return memmove(to, from, size);
 }
 
-void *memset(void *place, int byte, size_t size) {
+void *memset(void *place, int byte, size_t size)
+{
     uint8_t *to = place;
     uint64_t word = (uint8_t)byte * 0x0101010101010101u;
     sixteen many = {word, word};

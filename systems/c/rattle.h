@@ -9,7 +9,13 @@
 #include <stdint.h>
 
 // Linux's numbers, on every system. After RATTLE_EINTR the proved code tries again; each other number ends the run.
-enum { RATTLE_EINTR = 4, RATTLE_EIO = 5, RATTLE_EBADF = 9, RATTLE_EAGAIN = 11, RATTLE_EPIPE = 32 };
+enum {
+    RATTLE_EINTR = 4,
+    RATTLE_EIO = 5,
+    RATTLE_EBADF = 9,
+    RATTLE_EAGAIN = 11,
+    RATTLE_EPIPE = 32
+};
 
 // Finds SIZE bytes that nothing else uses, aligned to 16. SIZE is above 0 and below 2^63. Null: there is no memory.
 // The proved code calls rattle_alloc, which heap.ll defines over this function.
@@ -37,21 +43,23 @@ int32_t rattle_errno(void);
 // Sets what rattle_errno returns next.
 void rattle_set_errno(int32_t number);
 
-// What the processor can do, by the four words that the instruction cpuid gives, and what of it the system lets be used.
+// What the processor can do, by the four words that the instruction cpuid gives, and what of it the system lets be
+// used.
 struct processor {
     uint32_t has[4], may_use[4];
 };
 
 // Before anything else the program looks whether the processor has what the code is compiled for. LEAF 0 stands for
-// the number 1 of cpuid and 2 for the number 0x80000001. The code uses no register that a system has to save in a new way.
-// Where something is missing, the program says so by __write, which is write, and returns 127.
+// the number 1 of cpuid and 2 for the number 0x80000001. The code uses no register that a system has to save in a new
+// way. Where something is missing, the program says so by __write, which is write, and returns 127.
 const struct processor *__x86_get_cpuid_feature_leaf(uint32_t leaf);
 
-// The proved code also calls POSIX's read and write for the three standard streams: they return the number of bytes that
-// were moved, 0 at the end of what is read, or -1 and a number in rattle_errno. They may move less than SIZE bytes. What
-// read puts into ROOM is the stream's next bytes, unchanged, and what write takes goes to the stream unchanged.
+// The proved code also calls POSIX's read and write for the three standard streams: they return the number of bytes
+// that were moved, 0 at the end of what is read, or -1 and a number in rattle_errno. They may move less than SIZE
+// bytes. What read puts into ROOM is the stream's next bytes, unchanged, and what write takes goes to the stream
+// unchanged.
 //
-// It calls memcpy, memmove and memset as C defines them, and __sysv_signal(SIGPIPE, SIG_IGN) first of all, so that a write
-// to a pipe that nobody reads fails and ends nothing.
+// It calls memcpy, memmove and memset as C defines them, and __sysv_signal(SIGPIPE, SIG_IGN) first of all, so that a
+// write to a pipe that nobody reads fails and ends nothing.
 
 #endif

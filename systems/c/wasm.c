@@ -1,10 +1,11 @@
-// WebAssembly, for JavaScript: the calls of sdtool.h as a 32-bit machine has them. Pointers and sizes have 32 bits, and a
-// struct that a call returns goes to a pointer in front of the call's arguments. The layout of each struct is the header's
-// with a size_t of 32 bits. A caller gets room for its bytes from `allocate`, and puts structs at places that 4 divides.
+// WebAssembly, for JavaScript: the calls of sdtool.h as a 32-bit machine has them. Pointers and sizes have 32 bits, and
+// a struct that a call returns goes to a pointer in front of the call's arguments. The layout of each struct is the
+// header's with a size_t of 32 bits. A caller gets room for its bytes from `allocate`, and puts structs at places that
+// 4 divides.
 //
-// The proved calls are compiled for a 64-bit memory. In the compiler's own form a call that returns a struct has a pointer
-// in front, to which it writes the struct, and returns that pointer. C for WebAssembly returns nothing there, so the calls
-// are declared anew.
+// The proved calls are compiled for a 64-bit memory. In the compiler's own form a call that returns a struct has a
+// pointer in front, to which it writes the struct, and returns that pointer. C for WebAssembly returns nothing there,
+// so the calls are declared anew.
 #include "../../include/sdtool.h"
 #include "rattle.h"
 
@@ -98,8 +99,8 @@ CALL(to_sddl, struct sdtool_outcome, INPUT(descriptor), INPUT(domain), bool nume
 CALL(explain, struct sdtool_outcome, INPUT(descriptor), INPUT(domain), bool numeric, OUTPUT(text));
 CALL(normalize, struct sdtool_outcome, INPUT(descriptor), OUTPUT(output));
 CALL(from_sddl, struct sdtool_outcome, INPUT(text), INPUT(domain), OUTPUT(output));
-CALL(check, struct sdtool_verdict, INPUT(descriptor), INPUT(sids), const uint8_t *entries, size_t sid_count, INPUT(object),
-     INPUT(principal_self), const struct sdtool_request *request);
+CALL(check, struct sdtool_verdict, INPUT(descriptor), INPUT(sids), const uint8_t *entries, size_t sid_count,
+     INPUT(object), INPUT(principal_self), const struct sdtool_request *request);
 CALL(derive, struct sdtool_outcome, INPUT(parent), INPUT(creator), INPUT(owner), INPUT(group), uint32_t kind,
      uint32_t mapping, OUTPUT(output));
 CALL(derive_origins, struct sdtool_origins, INPUT(parent), INPUT(creator), INPUT(owner), INPUT(group), uint32_t kind,
@@ -114,114 +115,135 @@ CALL(sddl_place, struct sdtool_fault_place, INPUT(text), INPUT(domain));
 CALL(describe, struct sdtool_outcome, const struct sdtool_outcome *outcome, const struct sdtool_fault_place *place,
      OUTPUT(text));
 CALL(check_many, struct sdtool_outcome, const struct sdtool_bytes *descriptors, size_t descriptor_count, INPUT(sids),
-     const uint8_t *entries, size_t sid_count, INPUT(object), INPUT(principal_self), const struct sdtool_request *request,
-     struct sdtool_verdict *verdicts, size_t verdict_count);
+     const uint8_t *entries, size_t sid_count, INPUT(object), INPUT(principal_self),
+     const struct sdtool_request *request, struct sdtool_verdict *verdicts, size_t verdict_count);
 CALL(token_read, struct sdtool_outcome, INPUT(sids), const uint8_t *entries, size_t sid_count, uint32_t *token,
      size_t token_words);
 CALL(check_with, struct sdtool_verdict, INPUT(descriptor), const uint32_t *token, size_t token_words, INPUT(object),
      INPUT(principal_self), const struct sdtool_request *request);
-CALL(reasons, struct sdtool_outcome, INPUT(descriptor), INPUT(sids), const uint8_t *entries, size_t sid_count, INPUT(object),
-     INPUT(principal_self), const struct sdtool_asker *asker, struct sdtool_reason *reasons);
+CALL(reasons, struct sdtool_outcome, INPUT(descriptor), INPUT(sids), const uint8_t *entries, size_t sid_count,
+     INPUT(object), INPUT(principal_self), const struct sdtool_asker *asker, struct sdtool_reason *reasons);
 CALL(reasons_with, struct sdtool_outcome, INPUT(descriptor), const uint32_t *token, size_t token_words, INPUT(object),
      INPUT(principal_self), const struct sdtool_asker *asker, struct sdtool_reason *reasons);
 CALL(build, struct sdtool_outcome, const struct sdtool_new_descriptor *descriptor, OUTPUT(output));
 CALL(run, struct sdtool_ending, INPUT(words), INPUT(input), OUTPUT(output), OUTPUT(message));
 CALL(fault_text, struct sdtool_outcome, uint32_t fault, OUTPUT(text));
 
-static void *at(uint32_t place) {
+static void *at(uint32_t place)
+{
     return (void *)(uintptr_t)place;
 }
 
-static void tell(uint32_t place, const struct sdtool_outcome *outcome) {
-    *(struct outcome *)at(place) =
-        (struct outcome){outcome->fault, outcome->part, outcome->other_part, outcome->argument, (uint32_t)outcome->entry,
-                         (uint32_t)outcome->length};
+static void tell(uint32_t place, const struct sdtool_outcome *outcome)
+{
+    *(struct outcome *)at(place) = (struct outcome){outcome->fault,           outcome->part,
+                                                    outcome->other_part,      outcome->argument,
+                                                    (uint32_t)outcome->entry, (uint32_t)outcome->length};
 }
 
-static void tell_no_memory(uint32_t place) {
+static void tell_no_memory(uint32_t place)
+{
     tell(place, &(struct sdtool_outcome){.fault = SDTOOL_NO_MEMORY});
 }
 
-static struct verdict verdict_of(const struct sdtool_verdict *told) {
-    return (struct verdict){told->fault, told->part, told->other_part, told->argument, (uint32_t)told->entry, told->mask,
-                            told->granted};
+static struct verdict verdict_of(const struct sdtool_verdict *told)
+{
+    return (struct verdict){told->fault,           told->part, told->other_part, told->argument,
+                            (uint32_t)told->entry, told->mask, told->granted};
 }
 
-static struct place place_of(const struct sdtool_place *told) {
+static struct place place_of(const struct sdtool_place *told)
+{
     return (struct place){(uint32_t)told->offset, (uint32_t)told->size};
 }
 
-static struct sdtool_place place_from(const struct place *place) {
+static struct sdtool_place place_from(const struct place *place)
+{
     return (struct sdtool_place){place->offset, place->size};
 }
 
-static void tell_place(uint32_t place, const struct sdtool_fault_place *told) {
-    *(struct fault_place *)at(place) =
-        (struct fault_place){told->fault, told->part, told->ace, told->field, place_of(&told->place)};
+static void tell_place(uint32_t place, const struct sdtool_fault_place *told)
+{
+    *(struct fault_place *)at(place) = (struct fault_place){told->fault, told->part, told->ace, told->field,
+                                                            place_of(&told->place)};
 }
 
-static struct acl_place acl_of(const struct sdtool_acl_place *told) {
+static struct acl_place acl_of(const struct sdtool_acl_place *told)
+{
     return (struct acl_place){told->state, told->ace_count, place_of(&told->place)};
 }
 
-static struct sdtool_bytes bytes_from(const struct bytes *bytes) {
+static struct sdtool_bytes bytes_from(const struct bytes *bytes)
+{
     return (struct sdtool_bytes){at(bytes->bytes), bytes->size};
 }
 
 // The ACEs of an ACL to build, behind one another from TO on.
-static struct sdtool_new_acl acl_from(const struct new_acl *acl, struct sdtool_new_ace *to) {
+static struct sdtool_new_acl acl_from(const struct new_acl *acl, struct sdtool_new_ace *to)
+{
     const struct new_ace *aces = at(acl->aces);
     for (size_t index = 0; index < acl->ace_count; index++)
-        to[index] = (struct sdtool_new_ace){bytes_from(&aces[index].sid), bytes_from(&aces[index].object_type),
-                                            bytes_from(&aces[index].inherited_object_type), aces[index].mask,
-                                            aces[index].kind, aces[index].flags};
+        to[index] = (struct sdtool_new_ace){bytes_from(&aces[index].sid),
+                                            bytes_from(&aces[index].object_type),
+                                            bytes_from(&aces[index].inherited_object_type),
+                                            aces[index].mask,
+                                            aces[index].kind,
+                                            aces[index].flags};
     return (struct sdtool_new_acl){to, acl->ace_count, acl->state};
 }
 
 // Room for SIZE bytes, or 0 if there is no memory. SIZE is above 0.
-EXPORT(allocate) uint32_t allocate(uint32_t size) {
+EXPORT(allocate) uint32_t allocate(uint32_t size)
+{
     return (uint32_t)(uintptr_t)rattle_find(size);
 }
 
 // Gives room back.
-EXPORT(release) void release(uint32_t place) {
+EXPORT(release) void release(uint32_t place)
+{
     rattle_dealloc(at(place));
 }
 
-EXPORT(sdtool_version) void version(uint32_t outcome, uint32_t text, uint32_t text_size) {
+EXPORT(sdtool_version) void version(uint32_t outcome, uint32_t text, uint32_t text_size)
+{
     struct sdtool_outcome told;
     tell(outcome, proved_version(&told, at(text), text_size));
 }
 
-EXPORT(sdtool_version_number) uint32_t version_number(void) {
+EXPORT(sdtool_version_number) uint32_t version_number(void)
+{
     return proved_version_number();
 }
 
 EXPORT(sdtool_to_sddl)
 void to_sddl(uint32_t outcome, uint32_t descriptor, uint32_t descriptor_size, uint32_t domain, uint32_t domain_size,
-             uint32_t numeric, uint32_t text, uint32_t text_size) {
+             uint32_t numeric, uint32_t text, uint32_t text_size)
+{
     struct sdtool_outcome told;
-    tell(outcome, proved_to_sddl(&told, at(descriptor), descriptor_size, at(domain), domain_size, numeric != 0, at(text),
-                                 text_size));
+    tell(outcome, proved_to_sddl(&told, at(descriptor), descriptor_size, at(domain), domain_size, numeric != 0,
+                                 at(text), text_size));
 }
 
 EXPORT(sdtool_explain)
 void explain(uint32_t outcome, uint32_t descriptor, uint32_t descriptor_size, uint32_t domain, uint32_t domain_size,
-             uint32_t numeric, uint32_t text, uint32_t text_size) {
+             uint32_t numeric, uint32_t text, uint32_t text_size)
+{
     struct sdtool_outcome told;
-    tell(outcome, proved_explain(&told, at(descriptor), descriptor_size, at(domain), domain_size, numeric != 0, at(text),
-                                 text_size));
+    tell(outcome, proved_explain(&told, at(descriptor), descriptor_size, at(domain), domain_size, numeric != 0,
+                                 at(text), text_size));
 }
 
 EXPORT(sdtool_normalize)
-void normalize(uint32_t outcome, uint32_t descriptor, uint32_t descriptor_size, uint32_t output, uint32_t output_size) {
+void normalize(uint32_t outcome, uint32_t descriptor, uint32_t descriptor_size, uint32_t output, uint32_t output_size)
+{
     struct sdtool_outcome told;
     tell(outcome, proved_normalize(&told, at(descriptor), descriptor_size, at(output), output_size));
 }
 
 EXPORT(sdtool_from_sddl)
 void from_sddl(uint32_t outcome, uint32_t text, uint32_t text_size, uint32_t domain, uint32_t domain_size,
-               uint32_t output, uint32_t output_size) {
+               uint32_t output, uint32_t output_size)
+{
     struct sdtool_outcome told;
     tell(outcome, proved_from_sddl(&told, at(text), text_size, at(domain), domain_size, at(output), output_size));
 }
@@ -229,99 +251,135 @@ void from_sddl(uint32_t outcome, uint32_t text, uint32_t text_size, uint32_t dom
 EXPORT(sdtool_check)
 void check(uint32_t verdict, uint32_t descriptor, uint32_t descriptor_size, uint32_t sids, uint32_t sids_size,
            uint32_t entries, uint32_t sid_count, uint32_t object, uint32_t object_size, uint32_t principal_self,
-           uint32_t principal_self_size, uint32_t request) {
+           uint32_t principal_self_size, uint32_t request)
+{
     struct sdtool_verdict told;
-    proved_check(&told, at(descriptor), descriptor_size, at(sids), sids_size, at(entries), sid_count, at(object), object_size,
-                 at(principal_self), principal_self_size, at(request));
+    proved_check(&told, at(descriptor), descriptor_size, at(sids), sids_size, at(entries), sid_count, at(object),
+                 object_size, at(principal_self), principal_self_size, at(request));
     *(struct verdict *)at(verdict) = verdict_of(&told);
 }
 
 EXPORT(sdtool_derive)
 void derive(uint32_t outcome, uint32_t parent, uint32_t parent_size, uint32_t creator, uint32_t creator_size,
             uint32_t owner, uint32_t owner_size, uint32_t group, uint32_t group_size, uint32_t kind, uint32_t mapping,
-            uint32_t output, uint32_t output_size) {
+            uint32_t output, uint32_t output_size)
+{
     struct sdtool_outcome told;
-    tell(outcome, proved_derive(&told, at(parent), parent_size, at(creator), creator_size, at(owner), owner_size, at(group),
-                                group_size, kind, mapping, at(output), output_size));
+    tell(outcome, proved_derive(&told, at(parent), parent_size, at(creator), creator_size, at(owner), owner_size,
+                                at(group), group_size, kind, mapping, at(output), output_size));
 }
 
 EXPORT(sdtool_derive_origins)
 void derive_origins(uint32_t origins, uint32_t parent, uint32_t parent_size, uint32_t creator, uint32_t creator_size,
-                    uint32_t owner, uint32_t owner_size, uint32_t group, uint32_t group_size, uint32_t kind, uint32_t mapping,
-                    uint32_t sacl, uint32_t sacl_room, uint32_t dacl, uint32_t dacl_room) {
+                    uint32_t owner, uint32_t owner_size, uint32_t group, uint32_t group_size, uint32_t kind,
+                    uint32_t mapping, uint32_t sacl, uint32_t sacl_room, uint32_t dacl, uint32_t dacl_room)
+{
     struct sdtool_origins told;
     proved_derive_origins(&told, at(parent), parent_size, at(creator), creator_size, at(owner), owner_size, at(group),
                           group_size, kind, mapping, at(sacl), sacl_room, at(dacl), dacl_room);
-    *(struct origins *)at(origins) =
-        (struct origins){told.fault, told.part, told.other_part, told.argument, (uint32_t)told.entry,
-                         (uint32_t)told.sacl_count, (uint32_t)told.dacl_count};
+    *(struct origins *)at(origins) = (struct origins){told.fault,
+                                                      told.part,
+                                                      told.other_part,
+                                                      told.argument,
+                                                      (uint32_t)told.entry,
+                                                      (uint32_t)told.sacl_count,
+                                                      (uint32_t)told.dacl_count};
 }
 
 EXPORT(sdtool_sid_from_text)
-void sid_from_text(uint32_t outcome, uint32_t text, uint32_t text_size, uint32_t domain, uint32_t domain_size, uint32_t sid,
-                   uint32_t sid_size) {
+void sid_from_text(uint32_t outcome, uint32_t text, uint32_t text_size, uint32_t domain, uint32_t domain_size,
+                   uint32_t sid, uint32_t sid_size)
+{
     struct sdtool_outcome told;
     tell(outcome, proved_sid_from_text(&told, at(text), text_size, at(domain), domain_size, at(sid), sid_size));
 }
 
 EXPORT(sdtool_sid_to_text)
-void sid_to_text(uint32_t outcome, uint32_t sid, uint32_t sid_size, uint32_t domain, uint32_t domain_size, uint32_t numeric,
-                 uint32_t text, uint32_t text_size) {
+void sid_to_text(uint32_t outcome, uint32_t sid, uint32_t sid_size, uint32_t domain, uint32_t domain_size,
+                 uint32_t numeric, uint32_t text, uint32_t text_size)
+{
     struct sdtool_outcome told;
-    tell(outcome, proved_sid_to_text(&told, at(sid), sid_size, at(domain), domain_size, numeric != 0, at(text), text_size));
+    tell(outcome,
+         proved_sid_to_text(&told, at(sid), sid_size, at(domain), domain_size, numeric != 0, at(text), text_size));
 }
 
-EXPORT(sdtool_sid_size) uint32_t sid_size(uint32_t bytes, uint32_t bytes_size) {
+EXPORT(sdtool_sid_size) uint32_t sid_size(uint32_t bytes, uint32_t bytes_size)
+{
     return (uint32_t)proved_sid_size(at(bytes), bytes_size);
 }
 
-EXPORT(sdtool_parts) void parts(uint32_t contents, uint32_t descriptor, uint32_t descriptor_size) {
+EXPORT(sdtool_parts) void parts(uint32_t contents, uint32_t descriptor, uint32_t descriptor_size)
+{
     struct sdtool_contents told;
     proved_parts(&told, at(descriptor), descriptor_size);
-    *(struct contents *)at(contents) =
-        (struct contents){told.fault, told.part, told.other_part, told.control, told.resource_manager,
-                          place_of(&told.owner), place_of(&told.group), acl_of(&told.sacl), acl_of(&told.dacl)};
+    *(struct contents *)at(contents) = (struct contents){told.fault,
+                                                         told.part,
+                                                         told.other_part,
+                                                         told.control,
+                                                         told.resource_manager,
+                                                         place_of(&told.owner),
+                                                         place_of(&told.group),
+                                                         acl_of(&told.sacl),
+                                                         acl_of(&told.dacl)};
 }
 
-EXPORT(sdtool_next_ace) uint32_t next_ace(uint32_t acl, uint32_t acl_size, uint32_t ace) {
+EXPORT(sdtool_next_ace) uint32_t next_ace(uint32_t acl, uint32_t acl_size, uint32_t ace)
+{
     struct ace *last = at(ace);
-    struct sdtool_ace walk = {last->fault, last->mask, last->number, last->kind, last->flags, place_from(&last->place),
-                              place_from(&last->object_type), place_from(&last->inherited_object_type),
+    struct sdtool_ace walk = {last->fault,
+                              last->mask,
+                              last->number,
+                              last->kind,
+                              last->flags,
+                              place_from(&last->place),
+                              place_from(&last->object_type),
+                              place_from(&last->inherited_object_type),
                               place_from(&last->sid)};
     bool is_there = proved_next_ace(at(acl), acl_size, &walk);
-    *last = (struct ace){walk.fault, walk.mask, walk.number, walk.kind, walk.flags, place_of(&walk.place),
-                         place_of(&walk.object_type), place_of(&walk.inherited_object_type), place_of(&walk.sid)};
+    *last = (struct ace){walk.fault,
+                         walk.mask,
+                         walk.number,
+                         walk.kind,
+                         walk.flags,
+                         place_of(&walk.place),
+                         place_of(&walk.object_type),
+                         place_of(&walk.inherited_object_type),
+                         place_of(&walk.sid)};
     return is_there;
 }
 
-EXPORT(sdtool_place) void fault_place(uint32_t place, uint32_t descriptor, uint32_t descriptor_size) {
+EXPORT(sdtool_place) void fault_place(uint32_t place, uint32_t descriptor, uint32_t descriptor_size)
+{
     struct sdtool_fault_place told;
     tell_place(place, proved_place(&told, at(descriptor), descriptor_size));
 }
 
 EXPORT(sdtool_sddl_place)
-void sddl_place(uint32_t place, uint32_t text, uint32_t text_size, uint32_t domain, uint32_t domain_size) {
+void sddl_place(uint32_t place, uint32_t text, uint32_t text_size, uint32_t domain, uint32_t domain_size)
+{
     struct sdtool_fault_place told;
     tell_place(place, proved_sddl_place(&told, at(text), text_size, at(domain), domain_size));
 }
 
 EXPORT(sdtool_describe)
-void describe(uint32_t outcome, uint32_t given, uint32_t place, uint32_t text, uint32_t text_size) {
+void describe(uint32_t outcome, uint32_t given, uint32_t place, uint32_t text, uint32_t text_size)
+{
     const struct outcome *asked = at(given);
     const struct fault_place *found = at(place);
-    struct sdtool_outcome fault = {asked->fault, asked->part, asked->other_part, asked->argument, asked->entry,
-                                   asked->length};
+    struct sdtool_outcome fault = {asked->fault,    asked->part,  asked->other_part,
+                                   asked->argument, asked->entry, asked->length};
     struct sdtool_fault_place where = {found->fault, found->part, found->ace, found->field, place_from(&found->place)};
     struct sdtool_outcome told;
     tell(outcome, proved_describe(&told, &fault, &where, at(text), text_size));
 }
 
-// It has arrays of its own, with the structs of a 64-bit machine. Without memory for them it is SDTOOL_NO_MEMORY before all
-// else, also before SDTOOL_TOO_SMALL.
+// It has arrays of its own, with the structs of a 64-bit machine. Without memory for them it is SDTOOL_NO_MEMORY before
+// all else, also before SDTOOL_TOO_SMALL.
 EXPORT(sdtool_check_many)
 void check_many(uint32_t outcome, uint32_t descriptors, uint32_t descriptor_count, uint32_t sids, uint32_t sids_size,
                 uint32_t entries, uint32_t sid_count, uint32_t object, uint32_t object_size, uint32_t principal_self,
-                uint32_t principal_self_size, uint32_t request, uint32_t verdicts, uint32_t verdict_count) {
+                uint32_t principal_self_size, uint32_t request, uint32_t verdicts, uint32_t verdict_count)
+{
     const struct bytes *given = at(descriptors);
     struct verdict *answers = at(verdicts);
     size_t size_given = (descriptor_count + (size_t)1) * sizeof(struct sdtool_bytes);
@@ -334,8 +392,8 @@ void check_many(uint32_t outcome, uint32_t descriptors, uint32_t descriptor_coun
     struct sdtool_outcome ended;
     for (size_t index = 0; index < descriptor_count; index++)
         asked[index] = bytes_from(&given[index]);
-    proved_check_many(&ended, asked, descriptor_count, at(sids), sids_size, at(entries), sid_count, at(object), object_size,
-                      at(principal_self), principal_self_size, at(request), told, verdict_count);
+    proved_check_many(&ended, asked, descriptor_count, at(sids), sids_size, at(entries), sid_count, at(object),
+                      object_size, at(principal_self), principal_self_size, at(request), told, verdict_count);
     if (ended.fault == SDTOOL_OK)
         for (size_t index = 0; index < descriptor_count; index++)
             answers[index] = verdict_of(&told[index]);
@@ -344,8 +402,9 @@ void check_many(uint32_t outcome, uint32_t descriptors, uint32_t descriptor_coun
 }
 
 EXPORT(sdtool_token_read)
-void token_read(uint32_t outcome, uint32_t sids, uint32_t sids_size, uint32_t entries, uint32_t sid_count, uint32_t token,
-                uint32_t token_words) {
+void token_read(uint32_t outcome, uint32_t sids, uint32_t sids_size, uint32_t entries, uint32_t sid_count,
+                uint32_t token, uint32_t token_words)
+{
     struct sdtool_outcome told;
     tell(outcome, proved_token_read(&told, at(sids), sids_size, at(entries), sid_count, at(token), token_words));
 }
@@ -353,7 +412,8 @@ void token_read(uint32_t outcome, uint32_t sids, uint32_t sids_size, uint32_t en
 EXPORT(sdtool_check_with)
 void check_with(uint32_t verdict, uint32_t descriptor, uint32_t descriptor_size, uint32_t token, uint32_t token_words,
                 uint32_t object, uint32_t object_size, uint32_t principal_self, uint32_t principal_self_size,
-                uint32_t request) {
+                uint32_t request)
+{
     struct sdtool_verdict told;
     proved_check_with(&told, at(descriptor), descriptor_size, at(token), token_words, at(object), object_size,
                       at(principal_self), principal_self_size, at(request));
@@ -363,23 +423,27 @@ void check_with(uint32_t verdict, uint32_t descriptor, uint32_t descriptor_size,
 EXPORT(sdtool_reasons)
 void reasons(uint32_t outcome, uint32_t descriptor, uint32_t descriptor_size, uint32_t sids, uint32_t sids_size,
              uint32_t entries, uint32_t sid_count, uint32_t object, uint32_t object_size, uint32_t principal_self,
-             uint32_t principal_self_size, uint32_t asker, uint32_t reasons) {
+             uint32_t principal_self_size, uint32_t asker, uint32_t reasons)
+{
     struct sdtool_outcome told;
-    tell(outcome, proved_reasons(&told, at(descriptor), descriptor_size, at(sids), sids_size, at(entries), sid_count, at(object),
-                                 object_size, at(principal_self), principal_self_size, at(asker), at(reasons)));
+    tell(outcome,
+         proved_reasons(&told, at(descriptor), descriptor_size, at(sids), sids_size, at(entries), sid_count, at(object),
+                        object_size, at(principal_self), principal_self_size, at(asker), at(reasons)));
 }
 
 EXPORT(sdtool_reasons_with)
 void reasons_with(uint32_t outcome, uint32_t descriptor, uint32_t descriptor_size, uint32_t token, uint32_t token_words,
                   uint32_t object, uint32_t object_size, uint32_t principal_self, uint32_t principal_self_size,
-                  uint32_t asker, uint32_t reasons) {
+                  uint32_t asker, uint32_t reasons)
+{
     struct sdtool_outcome told;
-    tell(outcome, proved_reasons_with(&told, at(descriptor), descriptor_size, at(token), token_words, at(object), object_size,
-                                      at(principal_self), principal_self_size, at(asker), at(reasons)));
+    tell(outcome, proved_reasons_with(&told, at(descriptor), descriptor_size, at(token), token_words, at(object),
+                                      object_size, at(principal_self), principal_self_size, at(asker), at(reasons)));
 }
 
 // As for sdtool_check_many, SDTOOL_NO_MEMORY comes before all else.
-EXPORT(sdtool_build) void build(uint32_t outcome, uint32_t descriptor, uint32_t output, uint32_t output_size) {
+EXPORT(sdtool_build) void build(uint32_t outcome, uint32_t descriptor, uint32_t output, uint32_t output_size)
+{
     const struct new_descriptor *given = at(descriptor);
     size_t count = (size_t)given->sacl.ace_count + given->dacl.ace_count;
     struct sdtool_new_ace *aces = rattle_find((count + 1) * sizeof(struct sdtool_new_ace));
@@ -387,8 +451,11 @@ EXPORT(sdtool_build) void build(uint32_t outcome, uint32_t descriptor, uint32_t 
         tell_no_memory(outcome);
         return;
     }
-    struct sdtool_new_descriptor asked = {bytes_from(&given->owner), bytes_from(&given->group), acl_from(&given->sacl, aces),
-                                          acl_from(&given->dacl, aces + given->sacl.ace_count), given->control,
+    struct sdtool_new_descriptor asked = {bytes_from(&given->owner),
+                                          bytes_from(&given->group),
+                                          acl_from(&given->sacl, aces),
+                                          acl_from(&given->dacl, aces + given->sacl.ace_count),
+                                          given->control,
                                           given->resource_manager};
     struct sdtool_outcome told;
     tell(outcome, proved_build(&told, &asked, at(output), output_size));
@@ -397,13 +464,15 @@ EXPORT(sdtool_build) void build(uint32_t outcome, uint32_t descriptor, uint32_t 
 
 EXPORT(sdtool_run)
 void run(uint32_t ending, uint32_t words, uint32_t words_size, uint32_t input, uint32_t input_size, uint32_t output,
-         uint32_t output_size, uint32_t message, uint32_t message_size) {
+         uint32_t output_size, uint32_t message, uint32_t message_size)
+{
     struct sdtool_ending told;
     proved_run(&told, at(words), words_size, at(input), input_size, at(output), output_size, at(message), message_size);
     *(struct ending *)at(ending) = (struct ending){told.status, (uint32_t)told.length, (uint32_t)told.message_length};
 }
 
-EXPORT(sdtool_fault_text) void fault_text(uint32_t outcome, uint32_t fault, uint32_t text, uint32_t text_size) {
+EXPORT(sdtool_fault_text) void fault_text(uint32_t outcome, uint32_t fault, uint32_t text, uint32_t text_size)
+{
     struct sdtool_outcome told;
     tell(outcome, proved_fault_text(&told, fault, at(text), text_size));
 }

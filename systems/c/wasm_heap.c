@@ -1,10 +1,14 @@
 // WebAssembly: memory, and what the compiler calls for numbers of 128 bits. There is no C library.
 //
-// Blocks follow one another from the end of the data to the end of the memory. In front of each are 16 bytes: its size and,
-// if it is free, the next free block in order of place. A block that is given back is joined with its free neighbours.
+// Blocks follow one another from the end of the data to the end of the memory. In front of each are 16 bytes: its size
+// and, if it is free, the next free block in order of place. A block that is given back is joined with its free
+// neighbours.
 #include "rattle.h"
 
-enum { UNIT = 16, PAGE = 1 << 16 };
+enum {
+    UNIT = 16,
+    PAGE = 1 << 16
+};
 // A 32-bit memory has no more.
 #define MOST_BYTES 0xffff0000u
 
@@ -19,16 +23,19 @@ void *memcpy(void *restrict to, const void *restrict from, size_t size);
 static struct block *first_free;
 static uint8_t *end_of_blocks;
 
-static uint8_t *start_of(struct block *block) {
+static uint8_t *start_of(struct block *block)
+{
     return (uint8_t *)block + sizeof(struct block);
 }
 
-static struct block *block_at(void *place) {
+static struct block *block_at(void *place)
+{
     return (struct block *)((uint8_t *)place - sizeof(struct block));
 }
 
 // Puts a block among the free ones, and joins it with those beside it.
-static void put_back(struct block *block) {
+static void put_back(struct block *block)
+{
     struct block *before = NULL, *after = first_free;
     while (after && after < block) {
         before = after;
@@ -49,7 +56,8 @@ static void put_back(struct block *block) {
 }
 
 // Makes the memory larger by at least a block of that size, which becomes free. False: the host has no more.
-static int grow(size_t size) {
+static int grow(size_t size)
+{
     size_t end = __builtin_wasm_memory_size(0) * PAGE;
     if (!end_of_blocks)
         end_of_blocks = (uint8_t *)(((uintptr_t)__heap_base + UNIT - 1) / UNIT * UNIT);
@@ -69,7 +77,8 @@ static int grow(size_t size) {
 }
 
 // Takes the front of a free block. What it doesn't need of it stays free.
-static void *take(struct block *block, struct block *before, size_t size) {
+static void *take(struct block *block, struct block *before, size_t size)
+{
     struct block *rest = block->next;
     if (block->size >= size + sizeof(struct block) + UNIT) {
         rest = (struct block *)(start_of(block) + size);
@@ -84,7 +93,8 @@ static void *take(struct block *block, struct block *before, size_t size) {
     return start_of(block);
 }
 
-void *rattle_find(size_t size) {
+void *rattle_find(size_t size)
+{
     if (size > MOST_BYTES)
         return NULL;
     size = (size + UNIT - 1) / UNIT * UNIT;
@@ -97,7 +107,8 @@ void *rattle_find(size_t size) {
     return NULL;
 }
 
-void *rattle_resize(void *place, size_t kept, size_t size) {
+void *rattle_resize(void *place, size_t kept, size_t size)
+{
     if (block_at(place)->size >= size)
         return place;
     void *moved = rattle_find(size);
@@ -108,7 +119,8 @@ void *rattle_resize(void *place, size_t kept, size_t size) {
     return moved;
 }
 
-void rattle_dealloc(void *place) {
+void rattle_dealloc(void *place)
+{
     if (place)
         put_back(block_at(place));
 }
@@ -121,12 +133,14 @@ union halves {
     } half;
 };
 
-static unsigned __int128 of_halves(uint64_t low, uint64_t high) {
+static unsigned __int128 of_halves(uint64_t low, uint64_t high)
+{
     return (union halves){.half = {low, high}}.whole;
 }
 
 // The product of two numbers of 128 bits, without the bits above those.
-unsigned __int128 __multi3(unsigned __int128 a, unsigned __int128 b) {
+unsigned __int128 __multi3(unsigned __int128 a, unsigned __int128 b)
+{
     uint64_t a_low = (uint64_t)a, b_low = (uint64_t)b;
     uint64_t a0 = (uint32_t)a_low, a1 = a_low >> 32, b0 = (uint32_t)b_low, b1 = b_low >> 32;
     uint64_t low = a0 * b0, middle = a1 * b0 + (low >> 32), other = a0 * b1 + (uint32_t)middle;
@@ -136,7 +150,8 @@ unsigned __int128 __multi3(unsigned __int128 a, unsigned __int128 b) {
 }
 
 // Shifts to the left by 0 to 127 bits.
-unsigned __int128 __ashlti3(unsigned __int128 number, int32_t bits) {
+unsigned __int128 __ashlti3(unsigned __int128 number, int32_t bits)
+{
     union halves x = {number};
     if (bits == 0)
         return number;
@@ -146,7 +161,8 @@ unsigned __int128 __ashlti3(unsigned __int128 number, int32_t bits) {
 }
 
 // Shifts to the right by 0 to 127 bits; zeros come in.
-unsigned __int128 __lshrti3(unsigned __int128 number, int32_t bits) {
+unsigned __int128 __lshrti3(unsigned __int128 number, int32_t bits)
+{
     union halves x = {number};
     if (bits == 0)
         return number;

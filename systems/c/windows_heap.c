@@ -4,15 +4,18 @@
 
 #include "rattle.h"
 
-void *rattle_find(size_t size) {
+void *rattle_find(size_t size)
+{
     return HeapAlloc(GetProcessHeap(), 0, size);
 }
 
-void *rattle_resize(void *place, size_t kept, size_t size) {
+void *rattle_resize(void *place, size_t kept, size_t size)
+{
     (void)kept;
     return HeapReAlloc(GetProcessHeap(), 0, place, size);
 }
 
-void rattle_dealloc(void *place) {
+void rattle_dealloc(void *place)
+{
     HeapFree(GetProcessHeap(), 0, place);
 }

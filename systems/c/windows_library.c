@@ -2,7 +2,8 @@
 #define WIN32_LEAN_AND_MEAN
 #include <windows.h>
 
-BOOL WINAPI start_library(HINSTANCE library, DWORD reason, LPVOID reserved) {
+BOOL WINAPI start_library(HINSTANCE library, DWORD reason, LPVOID reserved)
+{
     (void)library;
     (void)reason;
     (void)reserved;

@@ -2,7 +2,8 @@
 
 The bytes follow MS-DTYP: 2.4.2.2 (SID), 2.4.4 (ACE), 2.4.5 (ACL), 2.4.6 (self-relative SECURITY_DESCRIPTOR). The texts
 follow 2.4.2.1 (SID), 2.4.2.4 (well-known SIDs), 2.3.4.3 (GUID) and 2.5.1 (SDDL), and RFC 4648 (base64). Nothing here is
-fast, and nothing is shared with the program. What the tests take stands here; a file takes only from those that are named before it:
+fast, and nothing is shared with the program. What the tests take stands here; a file takes only from those that are
+named before it:
 
   parts.py          SIDs, ACEs and ACLs, and their bytes
   binary.py         the bytes of a descriptor, read and laid out

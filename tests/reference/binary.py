@@ -5,8 +5,8 @@ All numbers are little-endian but a SID's authority.
 import itertools
 import struct
 
-from .parts import (ACE_HEADER, ACL_HEADER, INHERITED_OBJECT_TYPE_PRESENT, LABEL_TYPE, OBJECT_TYPE_PRESENT, OBJECT_TYPES,
-                    PLAIN_TYPES, Ace, Acl, Descriptor, Fault, Sid)
+from .parts import (ACE_HEADER, ACL_HEADER, INHERITED_OBJECT_TYPE_PRESENT, LABEL_TYPE, OBJECT_TYPE_PRESENT,
+                    OBJECT_TYPES, PLAIN_TYPES, Ace, Acl, Descriptor, Fault, Sid)
 
 HEADER = struct.Struct("<BBHIIII")  # revision, resource manager byte, control, offsets: owner, group, SACL, DACL
 DACL_PRESENT, SACL_PRESENT, SELF_RELATIVE = 0x0004, 0x0010, 0x8000

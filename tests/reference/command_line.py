@@ -51,7 +51,8 @@ def entries_of_text(text, domain):
     pieces = text.split(b",")
     if len(pieces) > MOST_ENTRIES:
         raise Fault(25, "sid-form")
-    return tuple((sid_of_text(piece[1:] if piece[:1] == b"!" else piece, domain), piece[:1] == b"!") for piece in pieces)
+    return tuple((sid_of_text(piece[1:] if piece[:1] == b"!" else piece, domain), piece[:1] == b"!")
+                 for piece in pieces)
 
 
 def needed_guid(text):
@@ -95,8 +96,9 @@ def ask_of(given, domain):
         raise Usage("error 50 empty-request")
     if want & RESERVED:
         raise Usage("error 51 reserved-bits")
-    return Ask(token, mapped(want, mapping) & ~MAXIMUM_ALLOWED, given["maximum"] or bool(want & MAXIMUM_ALLOWED), mapping,
-               object_type, principal_self, given["security"], given["take_ownership"], level)
+    return Ask(token, mapped(want, mapping) & ~MAXIMUM_ALLOWED,
+               given["maximum"] or bool(want & MAXIMUM_ALLOWED), mapping, object_type, principal_self,
+               given["security"], given["take_ownership"], level)
 
 
 def settings_of(words):

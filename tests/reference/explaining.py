@@ -33,7 +33,8 @@ def acl_lines(letter, acl, descriptor, settings):
 def explanation(descriptor, settings):
     """A line for each thing that the descriptor has, without the last one's LF."""
     codes = [code for code, bit in CONTROL_CODES.items() if descriptor.control & bit]
-    return "\n".join([" ".join([f"control 0x{descriptor.control:04x}", *codes]), f"rm 0x{descriptor.resource_manager:02x}",
-                      f"owner {sid_words(descriptor.owner, settings)}", f"group {sid_words(descriptor.group, settings)}",
+    return "\n".join([" ".join([f"control 0x{descriptor.control:04x}", *codes]),
+                      f"rm 0x{descriptor.resource_manager:02x}", f"owner {sid_words(descriptor.owner, settings)}",
+                      f"group {sid_words(descriptor.group, settings)}",
                       *acl_lines("D", descriptor.dacl, descriptor, settings),
                       *acl_lines("S", descriptor.sacl, descriptor, settings), "end"])

@@ -1,5 +1,5 @@
-"""What a descriptor has: SIDs (MS-DTYP 2.4.2), ACEs (2.4.4) and ACLs (2.4.5), each with the bytes that it is laid out as; and
-the fault that a line is answered with, which names the parts that it speaks of.
+"""What a descriptor has: SIDs (MS-DTYP 2.4.2), ACEs (2.4.4) and ACLs (2.4.5), each with the bytes that it is laid out
+as; and the fault that a line is answered with, which names the parts that it speaks of.
 """
 import struct
 from typing import NamedTuple, Optional, Tuple

@@ -1,12 +1,13 @@
-"""Where the fault of bytes (MS-DTYP 2.4.6) or of SDDL (2.5.1) is: its part, its ACE, its field, and a range of the input."""
+"""Where the fault of bytes (MS-DTYP 2.4.6) or of SDDL (2.5.1) is: its part, its ACE, its field, and a range of the
+input."""
 import re
 from typing import NamedTuple, Optional
 
 from .binary import HEADER, read, read_ace, read_sid
-from .parts import (ACE_HEADER, ACL_HEADER, INHERITED_OBJECT_TYPE_PRESENT, LARGEST_ACL, OBJECT_TYPE_PRESENT, OBJECT_TYPES,
-                    Fault)
-from .sddl_reading import (BLANKS, PART_TEXT, ace_of_text, acl_of_text, bits_of_text, from_sddl, guid_of_text, parts_of_sddl,
-                           rights_of_text, sid_of_text)
+from .parts import (ACE_HEADER, ACL_HEADER, INHERITED_OBJECT_TYPE_PRESENT, LARGEST_ACL, OBJECT_TYPE_PRESENT,
+                    OBJECT_TYPES, Fault)
+from .sddl_reading import (BLANKS, PART_TEXT, ace_of_text, acl_of_text, bits_of_text, from_sddl, guid_of_text,
+                           parts_of_sddl, rights_of_text, sid_of_text)
 from .tables import ACE_FLAGS, KINDS
 
 OFFSETS = {"owner": 4, "group": 8, "sacl": 12, "dacl": 16}  # of the offsets in the header

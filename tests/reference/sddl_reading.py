@@ -85,7 +85,8 @@ def ace_of_text(text, domain):
         raise Fault(29, "kind")
     is_object = ace_type in OBJECT_TYPES
     return Ace(ace_type, bits_of_text(flags, ACE_FLAGS, Fault(26, "flags")), rights_of_text(rights),
-               guid_of_text(object_type, is_object), guid_of_text(inherited_object_type, is_object), sid_of_text(sid, domain))
+               guid_of_text(object_type, is_object), guid_of_text(inherited_object_type, is_object),
+               sid_of_text(sid, domain))
 
 
 def acl_of_text(letter, text, ace_texts, domain):

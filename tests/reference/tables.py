@@ -1,5 +1,5 @@
-"""The names of SIDs (MS-DTYP 2.4.2.4), of types, flags and rights (2.5.1, 2.4.3) and of the bits of the control word (2.4.6),
-and what generic rights mean.
+"""The names of SIDs (MS-DTYP 2.4.2.4), of types, flags and rights (2.5.1, 2.4.3) and of the bits of the control word
+(2.4.6), and what generic rights mean.
 """
 import pathlib
 import re
@@ -11,10 +11,10 @@ FORMAT = pathlib.Path(__file__).resolve().parents[2] / "docs/FORMAT.md"
 ALIASES = FORMAT.read_text(encoding="utf-8").split("\n### Aliases\n")[1].split("\n#")[0]
 # Each alias, with the authority and the sub-authorities of its SID.
 WELL_KNOWN = {alias: tuple(map(int, numbers.split("-")))
-              for alias, numbers in re.findall(r"^\| `(\w\w)` \| S-1-([0-9-]+) \|", ALIASES, re.MULTILINE)}
+              for alias, numbers in re.findall(r"^(\w\w) +S-1-([0-9-]+) ", ALIASES, re.MULTILINE)}
 # Each alias of an account or group of the domain, with what follows the domain's own sub-authorities.
 OF_THE_DOMAIN = {alias: int(number)
-                 for alias, number in re.findall(r"^\| `(\w\w)` \| ([0-9]+) \|", ALIASES, re.MULTILINE)}
+                 for alias, number in re.findall(r"^(\w\w) +([0-9]+) ", ALIASES, re.MULTILINE)}
 KINDS = {0x00: "A", 0x01: "D", 0x02: "AU", 0x05: "OA", 0x06: "OD", 0x07: "OU", 0x11: "ML"}
 ACE_FLAGS = {"OI": 0x01, "CI": 0x02, "NP": 0x04, "IO": 0x08, "ID": 0x10, "SA": 0x40, "FA": 0x80}
 RIGHTS = {

@@ -1,4 +1,4 @@
-//! The flags that most ACEs have. `make figures` writes this file by `tests/usual_texts.py`.
+//! The flags that most ACEs have. `make figures` writes this file by `tools/usual_texts.py`.
 
 use sd_sink::FRONT;
 use sd_text::USUAL_ROWS;

@@ -1,4 +1,5 @@
-//! SIDs, ACEs and masks as values. The texts of SIDs and their aliases stand in `tests/rows/` and `tests/tables.py`.
+//! SIDs, ACEs and masks as values. The texts of SIDs and their aliases stand in `tests/rows/` and
+//! `tests/program/tables.py`.
 
 use sd_core::{Ace, AceKind, Mapping, Sid, has_right};
 use uuid::Uuid;

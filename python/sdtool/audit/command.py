@@ -1,31 +1,37 @@
 """The command line: sdtool-audit."""
 import functools
 import gc
-from typing import Any, Dict, List, Optional, Sequence, Tuple
+from typing import Any, List, Optional, Sequence, Tuple
 
 import click
 
 import sdtool
-from sdtool.audit import asked, files, stopping
-from sdtool.audit.asked import Asking, say
+from sdtool.audit import files, inquiry, library, stopping
+from sdtool.audit.directory import forest
+from sdtool.audit.directory.groups import read_groups
+from sdtool.audit.directory.machines import Machines
+from sdtool.audit.directory.tokens import in_words, is_spelled, read_token
 from sdtool.audit.engine import engine_of
+from sdtool.audit.findings import SEVERITIES
+from sdtool.audit.inquiry import Inquiry
+from sdtool.audit.library import WordsFault
 from sdtool.audit.pool import processors
 from sdtool.audit.progress import Bar
-from sdtool.audit.questions import answers, cache, forest, names, rights, risks, windows_defaults
-from sdtool.audit.questions.answers import WordsFault
-from sdtool.audit.questions.asking import SEVERITIES, Asked, Can, Who
+from sdtool.audit.questions import risks
+from sdtool.audit.questions.can import Can
 from sdtool.audit.questions.differences import Differences
-from sdtool.audit.questions.groups import read_groups
 from sdtool.audit.questions.having import Having
 from sdtool.audit.questions.inheritance import Inheritance
-from sdtool.audit.questions.names import Names
-from sdtool.audit.questions.tokens import in_words, is_spelled, read_token
+from sdtool.audit.questions.who import Listing, Who
 from sdtool.audit.reports import describing
 from sdtool.audit.reports.accepting import read_accepted
 from sdtool.audit.reports.baseline import Baseline, read_report
-from sdtool.audit.reports.shown import shown
+from sdtool.audit.reports.shown import say
 from sdtool.audit.sources.items import WITHOUT_OWNER
 from sdtool.audit.sources.opening import STANDARD_INPUT, OpeningFault
+from sdtool.audit.store import cache
+from sdtool.audit.windows import names, rights
+from sdtool.audit.windows.names import Names
 from sdtool.audit.words import OF_REPORTS, Common, check_files, is_database, paths_of, with_common
 
 FOUND_NOTHING, WRONG_WORDS = 0, 2
@@ -56,9 +62,9 @@ def cli() -> None:
     show SOURCE.. [--name NAME]  objects in words
 
     RIGHT is change, write, delete, permissions, owner, read, another word of 'sdtool-audit rights', a name of SDDL or a
-    mask. SOURCE is a file, a folder, a file that --into made, or '-': CSV, JSON, what Get-Acl, icacls, secedit, reg, sc,
-    wevtutil, ldapsearch, smbcacls, samba-tool or getfattr wrote, or lines of SDDL, hex or base64, in any encoding,
-    compressed or not.
+    mask. SOURCE is a file, a folder, a file that --into made, or '-': CSV, JSON, XML, YAML, what Get-Acl, icacls,
+    secedit, reg, sc, wevtutil, ldapsearch, smbcacls, samba-tool or getfattr wrote, or lines of SDDL, hex or base64, in
+    any encoding, compressed or not.
 
     An object that can't be read is in every report as unknown, with the reason.
 
@@ -97,10 +103,13 @@ def _abilities_first(given: Sequence[str], common: Common) -> Tuple[Tuple[str, .
 
 @cli.command(short_help="Who gets any of the rights: RIGHT.. SOURCE..")
 @click.argument("words", nargs=-1, metavar="RIGHT.. SOURCE..")
-@click.option("--groups", metavar="FILE", help="Who is in which group: an LDIF, or lines of GROUP,MEMBER,..; groups are then expanded.")
-@click.option("--most-members", default=1000, type=click.IntRange(0), show_default=True, metavar="N", help="A group with more "
+@click.option("--groups", metavar="FILE",
+              help="Who is in which group: an LDIF, or lines of GROUP,MEMBER,..; groups are then expanded.")
+@click.option("--most-members", default=1000, type=click.IntRange(0), show_default=True, metavar="N",
+              help="A group with more "
               "members isn't expanded.")
-@click.option("--trusted", metavar="SID", multiple=True, help="SIDs that are left to a count, beside System, Administrators, "
+@click.option("--trusted", metavar="SID", multiple=True,
+              help="SIDs that are left to a count, beside System, Administrators, "
               "TrustedInstaller and the administrators of a domain.")
 @click.option("--all-trustees", is_flag=True, help="Trusted trustees are listed too.")
 @with_common()
@@ -108,25 +117,28 @@ def who(common: Common, words: Sequence[str], groups: Optional[str], most_member
         all_trustees: bool) -> int:
     """Who gets any of the rights: RIGHT.. SOURCE..
 
-    Each trustee that an ACE names, and the owner, is checked with its own SID, Everyone and Authenticated Users. Trustees
-    that an ACE names and a deny stops are listed too. Of a directory, RIGHT can be what somebody can do, such as dcsync.
+    Each trustee that an ACE names, and the owner, is checked with its own SID, Everyone and Authenticated Users.
+    Trustees that an ACE names and a deny stops are listed too. Of a directory, RIGHT can be what somebody can do, such
+    as dcsync.
     """
     abilities, paths = _abilities_first(words, common)
     wanted, paths = (None, paths) if abilities else _rights_first(words, common)
     check_files(common, paths, files.named("--groups", groups))
-    trust = names.Trust(_sids(trusted, common.question.domain), common.domains)
-    known = read_groups(groups, common.question.domain) if groups else None
-    for group in known.cut if known else ():
-        say(f"--groups: {shown(group)} is not whole: the file has a range of its members")
+    common = inquiry.informed(common, paths)
+    trust = names.Trust(_sids(trusted, common.context.domain), common.domains)
+    known = read_groups(groups, common.context.domain) if groups else None
+    common = common.saying(*(f"--groups: {group} is not whole: the file has a range of its members"
+                             for group in (known.cut if known else ())))
     if known:
-        named = Names({**known.names, **common.question.names.given})
-        common = common._replace(question=common.question._replace(names=named))
-    listed = Asked(known, most_members, trust, all_trustees)
+        named = Names({**known.names, **common.context.names.given}, common.context.names.all)
+        common = common._replace(context=common.context._replace(names=named))
+    listed = Listing(known, most_members, trust, all_trustees)
     if wanted is None:
         if known:
             raise OpeningFault("--groups expands who gets rights, and not what somebody can do with a directory object")
-        return asked.ask(common, Asking(Having(common.question, abilities, listed), f"Who can: {', '.join(abilities)}", paths))
-    return asked.ask(common, Asking(Who(common.question, wanted, listed), f"Who gets: {wanted.words}", paths))
+        title = f"Who can: {', '.join(abilities)}"
+        return inquiry.ask(common, Inquiry(Having(common.context, abilities, listed), title, paths))
+    return inquiry.ask(common, Inquiry(Who(common.context, wanted, listed), f"Who gets: {wanted.words}", paths))
 
 
 @cli.command(short_help="What a user gets of the rights: TOKEN RIGHT.. SOURCE..")
@@ -136,103 +148,117 @@ def who(common: Common, words: Sequence[str], groups: Optional[str], most_member
 @click.option("--self", "principal_self", metavar="SID", default="", help="The SID that Principal Self stands for.")
 @click.option("--exact", is_flag=True, help="The token has the SIDs that are listed and no others.")
 @with_common()
-def can(common: Common, token: str, words: Sequence[str], level: Optional[int], principal_self: str, exact: bool) -> int:
+def can(common: Common, token: str, words: Sequence[str], level: Optional[int], principal_self: str,
+        exact: bool) -> int:
     """What a user gets of the rights: TOKEN RIGHT.. SOURCE..
 
-    TOKEN is a file that 'whoami /all', 'id' or a directory's tokenGroups made, a file with a SID in each line, or SIDs with
-    commas between them; '!' before one makes it deny-only. A user's SID brings Everyone and Authenticated Users.
+    TOKEN is a file that 'whoami /all', 'id' or a directory's tokenGroups made, a file with a SID in each line, or SIDs
+    with commas between them; '!' before one makes it deny-only. A user's SID brings Everyone and Authenticated Users.
     """
     wanted, paths = _rights_first(words, common)
     check_files(common, paths, [files.Named("the token", token)])
-    holder = read_token(token, common.question.domain, exact)
+    common = inquiry.informed(common, paths)
+    holder = read_token(token, common.context.domain, exact)
     if level is not None:
         holder = holder._replace(level=level)
     if principal_self:
-        holder = holder._replace(principal_self=answers.sid_of_text(principal_self, common.question.domain))
-    answers.granted("sddl", ["D:"], holder, "file", 1)  # wrong words are told before the first object
-    in_full = in_words(holder, common.question.names)
-    for line in (f"the token: {in_full}", *holder.notes):
-        say(line)
-    named = token if is_spelled(token, holder, common.question.domain) else f"{token} ({in_full})"
-    return asked.ask(common, Asking(Can(common.question, holder, wanted), f"What {named} gets of: {wanted.words}", paths))
+        holder = holder._replace(principal_self=library.sid_of_text(principal_self, common.context.domain))
+    library.granted("sddl", ["D:"], holder, "file", 1)  # wrong words are told before the first object
+    in_full = in_words(holder, common.context.names)
+    say(f"the token: {in_full}")
+    common = common.saying(*holder.notes)
+    named = token if is_spelled(token, holder, common.context.domain) else f"{token} ({in_full})"
+    title = f"What {named} gets of: {wanted.words}"
+    return inquiry.ask(common, Inquiry(Can(common.context, holder, wanted), title, paths))
 
 
 def _sids(given: Sequence[str], domain: str) -> Tuple[str, ...]:
     """SIDs that were listed, each by itself or with commas."""
-    return tuple(answers.sid_of_text(one, domain) for word in given for one in word.split(","))
+    return tuple(library.sid_of_text(one, domain) for word in given for one in word.split(","))
 
 
 def _rule_names(given: str) -> Tuple[str, ...]:
-    """The rules of a list, or all but those of a list that begins with '-'."""
+    """The rules of a list, or all that are on but those of a list that begins with '-'."""
     named = [name.strip() for name in given.lstrip("-").split(",")]
     for name in named:
         if name not in risks.RULE_NAMES:
             raise OpeningFault(f"{name!r} is no rule: the rules are {', '.join(risks.RULE_NAMES)}")
-    return tuple(name for name in risks.RULE_NAMES if (name in named) != given.startswith("-"))
+    if given.startswith("-"):
+        return tuple(name for name in risks.DEFAULT_RULES if name not in named)
+    return tuple(name for name in risks.RULE_NAMES if name in named)
 
 
 @cli.command("risks", short_help="What is risky: SOURCE..")
 @click.argument("given", nargs=-1, metavar="SOURCE..")
-@click.option("--trusted", metavar="SID", multiple=True, help="SIDs that may have any right, beside System, Administrators, "
+@click.option("--trusted", metavar="SID", multiple=True,
+              help="SIDs that may have any right, beside System, Administrators, "
               "TrustedInstaller and the administrators of a domain.")
 @click.option("--owner", "owners", metavar="SID", multiple=True, help="SIDs that may own an object, beside the same.")
-@click.option("--forest-root", metavar="SID", help="The domain of the forest's own groups, such as Enterprise Admins, if it isn't "
+@click.option("--forest-root", metavar="SID",
+              help="The domain of the forest's own groups, such as Enterprise Admins, if it isn't "
               "one of --domain.")
-@click.option("--schema", metavar="FILE", help="An LDIF of the directory's schema: its classes then say which ACEs are Windows' own.")
-@click.option("--rules", metavar="NAME,..", help="The rules to use, with commas; with '-' before the first, all but these.")
+@click.option("--schema", metavar="FILE",
+              help="An LDIF of the directory's schema: its classes then say which ACEs are Windows' own.")
+@click.option("--rules", metavar="NAME,..",
+              help="The rules to use, with commas; with '-' before the first, all but these.")
 @click.option("--accept", metavar="FILE", help="A TOML file with findings that are accepted.")
-@click.option("--min-severity", type=click.Choice(SEVERITIES), default=SEVERITIES[-1], help="The slightest findings that are "
+@click.option("--min-severity", type=click.Choice(SEVERITIES), default=SEVERITIES[-1],
+              help="The slightest findings that are "
               "reported. Default: all.")
-@click.option("--fail-on", type=click.Choice(SEVERITIES[:-1]), help="The slightest findings that make the exit status 1. "
+@click.option("--fail-on", type=click.Choice(SEVERITIES[:-1]),
+              help="The slightest findings that make the exit status 1. "
               "Default: all that are reported, but notes.")
-@click.option("--baseline", metavar="FILE", help="A database of --into, or a report in JSON lines: only what is new, changed or "
+@click.option("--baseline", metavar="FILE",
+              help="A database of --into, or a report in JSON lines: only what is new, changed or "
               "mended since then is reported.")
 @with_common()
-def ask_risks(common: Common, given: Sequence[str], trusted: Sequence[str], owners: Sequence[str], forest_root: Optional[str],
-              schema: Optional[str], rules: Optional[str], accept: Optional[str], min_severity: str, fail_on: Optional[str],
-              baseline: Optional[str]) -> int:
+def ask_risks(common: Common, given: Sequence[str], trusted: Sequence[str], owners: Sequence[str],
+              forest_root: Optional[str], schema: Optional[str], rules: Optional[str], accept: Optional[str],
+              min_severity: str, fail_on: Optional[str], baseline: Optional[str]) -> int:
     """What is risky about objects.
 
     'sdtool-audit rules' lists the rules. unknown-sid needs --sid-names. readable is used if --rules names it.
     """
-    domain = common.question.domain
-    root = answers.sid_of_text(forest_root) if forest_root else ""
-    trust = names.Trust(_sids(trusted, domain), common.domains, root)
-    lists = risks.Lists(trust, _sids(owners, domain), _rule_names(rules) if rules else risks.DEFAULT_RULES, severity=min_severity)
+    root = library.sid_of_text(forest_root) if forest_root else ""
+    named = _rule_names(rules) if rules else risks.DEFAULT_RULES
     paths = paths_of(given, common)
-    read = [named for option, path in (("--accept", accept), ("--schema", schema), ("--baseline", baseline))
-            for named in files.named(option, path)]
+    read = [one for option, path in (("--accept", accept), ("--schema", schema), ("--baseline", baseline))
+            for one in files.named(option, path)]
     check_files(common, paths, read)
     for one in read:
         files.require(one)
+    common = inquiry.informed(common, paths)
+    domain = common.context.domain
+    trust = names.Trust(_sids(trusted, domain), common.domains, root)
+    options = risks.RiskOptions(trust, _sids(owners, domain), named, severity=min_severity)
     accepted = read_accepted(accept, risks.RULE_NAMES) if accept else None
     known = forest.Schema(schema, domain) if schema else None
     if not common.domains:
         say("the administrators of every domain are trusted: --domain SID trusts those of one domain alone")
-    before = _baseline(common, baseline, lists, known) if baseline else None
-    question, found = _risks(common, paths, lists, known)
-    return asked.ask(common, Asking(question, "Risks", paths, accepted, found, before, fail_on))
+    before = _baseline(common, baseline, options, known) if baseline else None
+    question, found = _risks(common, paths, options, known)
+    return inquiry.ask(common, Inquiry(question, "Risks", paths, accepted, found, before, fail_on))
 
 
-def _risks(common: Common, paths: Sequence[str], lists: risks.Lists,
+def _risks(common: Common, paths: Sequence[str], options: risks.RiskOptions,
            schema: Optional[forest.Schema]) -> Tuple[risks.Risks, Optional[forest.Forest]]:
     """The question what is risky about sources. The objects of directories among them are read a first time."""
-    found = _forest(common, paths, lists.trust)
-    accounts = {sid: name for sid, name in common.question.names.given.items() if name in windows_defaults.ACCOUNTS}
+    found = _forest(common, paths, options.trust)
     if schema:
-        lists = lists._replace(of_classes=tuple(schema.of_classes), named_types=schema.named_types)
-    lists = lists._replace(accounts={**accounts, **_accounts(paths, found)}, heirs=found.heirs if found else {})
-    return risks.Risks(common.question, lists), found
+        options = options._replace(of_classes=tuple(schema.of_classes), named_types=schema.named_types)
+    options = options._replace(accounts={**forest.accounts_of(common.context.names.given), **common.accounts},
+                               heirs=found.heirs if found else {})
+    return risks.Risks(common.context, options), found
 
 
-def _baseline(common: Common, path: str, lists: risks.Lists, schema: Optional[forest.Schema]) -> Baseline:
+def _baseline(common: Common, path: str, options: risks.RiskOptions, schema: Optional[forest.Schema]) -> Baseline:
     """What a kept report or database has found."""
     baseline = Baseline()
     if not is_database(path):
         baseline.fill(read_report(path))
         return baseline
     cache.require_whole(path)
-    question, found = _risks(common, [path], lists, schema)
+    question, found = _risks(common, [path], options, schema)
     items = cache.items(path)
     with engine_of(question, common.jobs or processors()) as engine:
         baseline.fill(engine.answer(found.placed(items) if found else items))
@@ -240,32 +266,25 @@ def _baseline(common: Common, path: str, lists: risks.Lists, schema: Optional[fo
 
 
 def _forest(common: Common, paths: Sequence[str], trust: names.Trust) -> Optional[forest.Forest]:
-    """The objects of directories among the sources, read a first time. Standard input and pipes can be read only once."""
+    """The objects of directories among the sources, read a first time. Standard input and pipes can be read only
+    once."""
     found = None
     for path in paths:
         if path == STANDARD_INPUT or not files.can_be_read_again(path):
             continue
-        items = asked.items_of(common, [path], Bar([path], False))
-        first = next((item for item in items if item.form), None)
+        items = inquiry.items_of(common, [path], Bar([path], False), True)
+        first = next((item for item in items if item.form and item.kind not in rights.RULE_OF), None)
         if first is not None and first.place not in ("", WITHOUT_OWNER):
-            found = found or forest.Forest(common.question.domain, trust)
-            found.read(asked.items_of(common, [path], Bar([path], False)))
+            found = found or forest.Forest(common.context.domain, trust, common.machines or Machines())
+            found.read(inquiry.items_of(common, [path], Bar([path], False), True))
     return found
-
-
-def _accounts(paths: Sequence[str], found: Optional[forest.Forest]) -> Dict[str, str]:
-    """The accounts without a fixed number that sources name."""
-    accounts: Dict[str, str] = {}
-    for path in paths if found else ():
-        if path != STANDARD_INPUT and files.can_be_read_again(path) and not is_database(path) and forest.is_ldif(path):
-            accounts.update(forest.accounts_of(path))
-    return accounts
 
 
 @cli.command(short_help="What changed between two lists of the same objects: OLD NEW")
 @click.argument("old")
 @click.argument("new")
-@click.option("--old-root", metavar="TEXT", help="The beginning of the old names that is left out when names are compared, such "
+@click.option("--old-root", metavar="TEXT",
+              help="The beginning of the old names that is left out when names are compared, such "
               "as a snapshot's folder. Of a folder it is the folder.")
 @click.option("--new-root", metavar="TEXT", help="The same of the new names.")
 @with_common("into")
@@ -273,35 +292,39 @@ def diff(common: Common, old: str, new: str, old_root: Optional[str], new_root: 
     """What changed between two lists of the same objects: OLD NEW."""
     paths = paths_of([old, new], common)
     check_files(common, paths)
-    question = Differences(common.question)
-    asked.begin_all(common, paths)
+    common = inquiry.informed(common, paths)
+    question = Differences(common.context)
+    inquiry.begin_all(common, paths)
     bar = Bar(paths, common.bar)
     with engine_of(question, common.jobs or processors()) as engine:
         for table, path, root in (("old", old, old_root), ("new", new, new_root)):
-            question.read(table, asked.items_of(common, [path], bar), files.root_of(path) if root is None else root)
+            question.read(table, inquiry.items_of(common, [path], bar), files.root_of(path) if root is None else root)
         try:
-            return asked.report_of(common, Asking(question, f"Changes from {old} to {new}", paths), question, bar,
-                                   functools.partial(question.answered, engine))
+            return inquiry.report_of(common, Inquiry(question, f"Changes from {old} to {new}", paths), question, bar,
+                                     functools.partial(question.answered, engine))
         finally:
             bar.stop()
 
 
 @cli.command(short_help="What isn't as its folder hands it on: SOURCE..")
 @click.argument("given", nargs=-1, metavar="SOURCE..")
-@click.option("--fix", metavar="FILE", help="A file for what would have to be written: CSV with name and SDDL. Nothing else is changed.")
+@click.option("--fix", metavar="FILE",
+              help="A file for what would have to be written: CSV with name and SDDL. Nothing else is changed.")
 @with_common()
 def inherit(common: Common, given: Sequence[str], fix: Optional[str]) -> int:
     """Objects whose inherited ACEs are not those that their folder hands on."""
     paths = paths_of(given, common)
     check_files(common, paths, (), files.named("--fix", fix))
-    question = Inheritance(common.question)
-    asked.begin_all(common, paths)
+    common = inquiry.informed(common, paths)
+    question = Inheritance(common.context)
+    inquiry.begin_all(common, paths)
     bar = Bar(paths, common.bar)
-    with cache.kept(common.into) as keep, question.fixing(fix), engine_of(question, common.jobs or processors()) as engine:
-        items = keep(bar.count(asked.items_of(common, paths, bar)))
+    with cache.kept(common.into) as keep, question.fixing(fix), engine_of(question,
+                                                                          common.jobs or processors()) as engine:
+        items = keep(bar.count(inquiry.items_of(common, paths, bar)))
         try:
-            return asked.report_of(common, Asking(question, "Inheritance", paths), question, bar,
-                                   functools.partial(question.answered, items, engine))
+            return inquiry.report_of(common, Inquiry(question, "Inheritance", paths), question, bar,
+                                     functools.partial(question.answered, items, engine))
         finally:
             bar.stop()
 
@@ -314,16 +337,18 @@ def show(common: Common, given: Sequence[str], name: Optional[str]) -> int:
     """Objects in words."""
     paths = paths_of(given, common)
     check_files(common, paths)
-    asked.begin_all(common, paths)
-    with asked.opened(common.out) as file:
-        return describing.show(asked.items_of(common, paths, Bar(paths, False)), name, common.question, file)
+    common = inquiry.informed(common, paths)
+    inquiry.begin_all(common, paths)
+    with inquiry.opened(common.out) as file:
+        return describing.show(inquiry.items_of(common, paths, Bar(paths, False)), name, common.context, file)
 
 
 @cli.command("rights")
 def list_rights() -> int:
     """The words for rights, with their masks."""
     for word, masks in rights.WORDS.items():
-        told = ", ".join(f"{kind} {mask:#x} ({rights.text(mask, kind)})" for kind, mask in masks.items() if mask)
+        told = ", ".join(f"{kind} {masks[kind]:#x} ({rights.text(masks[kind], kind)})" for kind in rights.KINDS
+                         if masks[kind])
         click.echo(f"{word}: {told}")
     return FOUND_NOTHING
 
@@ -336,30 +361,35 @@ def list_rules() -> int:
     return FOUND_NOTHING
 
 
-def _status() -> int:
+def status() -> int:
+    """Does what the words say, and gives the exit status."""
+    # Objects and answers have no cycles, and looking for some takes a fifth of the time.
+    gc.set_threshold(200_000)
     try:
-        # Without a status of its own a command has shown help or a version.
-        return cli.main(prog_name="sdtool-audit", standalone_mode=False) or FOUND_NOTHING
+        # Windows would take the names of other files for those with [1] or %X%. Without a status of its own a command
+        # has shown help or a version.
+        return cli.main(prog_name="sdtool-audit", standalone_mode=False, windows_expand_args=False) or FOUND_NOTHING
     except click.ClickException as error:
-        say(_usage(error))
+        say(*_usage(error))
         return WRONG_WORDS
     except _FAULTS as error:
-        say(f"sdtool-audit: {shown(str(error))}")
+        say(f"sdtool-audit: {error}")
         return WRONG_WORDS
-    except (click.Abort, stopping.Stopped):
-        say(stopping.INTERRUPTED)
+    except click.Abort as error:
+        raise stopping.Stopped from error
     except MemoryError:
         say("sdtool-audit: out of memory, so the report isn't whole")
     except Exception as error:  # whatever it is, the status must not be the one for something found
-        say(f"sdtool-audit: the report isn't whole: {shown(_reason(error))}")
+        say(f"sdtool-audit: the report isn't whole: {_reason(error)}")
     return stopping.NOT_WHOLE
 
 
-def _usage(error: click.ClickException) -> str:
-    """What click says about wrong words."""
+def _usage(error: click.ClickException) -> List[str]:
+    """What click says about wrong words, in lines."""
     context = error.ctx if isinstance(error, click.UsageError) else None
-    hint = f"{context.get_usage()}\nTry '{context.command_path} --help' for help.\n\n" if context is not None else ""
-    return f"{hint}Error: {shown(error.format_message())}"
+    hint = ([*context.get_usage().split("\n"), f"Try '{context.command_path} --help' for help.", ""]
+            if context is not None else [])
+    return [*hint, f"Error: {error.format_message()}"]
 
 
 def _reason(error: Exception) -> str:
@@ -368,16 +398,3 @@ def _reason(error: Exception) -> str:
     if type(error).__name__ == "BrokenProcessPool":
         return "a process that answers was ended from outside"
     return f"{type(error).__name__}: {error}"
-
-
-def main() -> None:
-    try:
-        stopping.open_streams()
-        stopping.listen()
-        # Objects and answers have no cycles, and looking for some takes a fifth of the time.
-        gc.set_threshold(200_000)
-        status = _status()
-    except stopping.Stopped:  # before the command began, or after it ended
-        say(stopping.INTERRUPTED)
-        status = stopping.NOT_WHOLE
-    stopping.end(status)

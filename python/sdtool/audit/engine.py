@@ -6,9 +6,9 @@ import itertools
 from typing import Any, Deque, Dict, Iterable, Iterator, List, NamedTuple, Optional, Set, Tuple
 
 from sdtool.audit import pool
+from sdtool.audit.findings import Answer, unknown
+from sdtool.audit.library import AnswersFault
 from sdtool.audit.protocols import Question
-from sdtool.audit.questions.answers import AnswersFault
-from sdtool.audit.questions.asking import Answer, unknown
 from sdtool.audit.sources.items import UNREADABLE, WITHOUT_OWNER, Item
 
 CHUNK = 4_000          # objects that are answered together
@@ -54,7 +54,8 @@ def _keys(items: List[Item], asks: str) -> List[Key]:
     """What the answer for an object depends on: form, kind and text, and its place if the question asks for it."""
     if not asks or not any(item.place for item in items):
         return [(item[3], item[5], item[4]) for item in items]
-    return [(item[3], item[5] + _PLACE + item.place if item.place and (asks == ALL_PLACES or item.place == WITHOUT_OWNER)
+    return [(item[3], item[5] + _PLACE + item.place if item.place
+             and (asks == ALL_PLACES or item.place == WITHOUT_OWNER)
              else item[5], item[4]) for item in items]
 
 
@@ -98,10 +99,6 @@ def _chunks(items: Iterable[Item]) -> Iterator[List[Item]]:
         size = CHUNK
 
 
-def _unread(item: Item) -> Answer:
-    return unknown(item.text, item.help)
-
-
 class Engine:
     """Answers a question for objects: by this process, and by those of a pool if it has one."""
 
@@ -142,7 +139,7 @@ class Engine:
 
     def _end(self, chunk: _Chunk) -> Iterator[Answered]:
         work = chunk.work
-        found = work.result() if isinstance(work, concurrent.futures.Future) else work
+        found = self._pool.result(work) if self._pool and isinstance(work, concurrent.futures.Future) else work
         for key, answer in found or ():
             self._memory.put(key, answer)
             self._under_way.discard(key)

@@ -60,7 +60,8 @@ def refuse(read: Sequence[Named], written: Sequence[Named]) -> None:
                 raise OpeningFault(f"{output.option} {output.path} is {other.option} too: name another file")
         for source in read:
             if source.option == "a source" and _is_inside(output.path, source.path):
-                raise OpeningFault(f"{output.option} {output.path} is in the source {source.path}: name a file elsewhere")
+                raise OpeningFault(f"{output.option} {output.path} is in the source {source.path}: name a file "
+                                   "elsewhere")
         folder = os.path.dirname(os.path.realpath(output.path))
         if os.path.isdir(output.path):
             raise OpeningFault(f"{output.option} {output.path}: is a folder")
@@ -68,6 +69,8 @@ def refuse(read: Sequence[Named], written: Sequence[Named]) -> None:
             raise OpeningFault(f"{output.option} {output.path}: no such folder")
         if not os.access(folder, os.W_OK):
             raise OpeningFault(f"{output.option} {output.path}: the folder can't be written to")
+        if os.path.exists(output.path) and not os.access(output.path, os.W_OK):
+            raise OpeningFault(f"{output.option} {output.path}: the file is read-only")
 
 
 def refuse_standard_output(read: Sequence[Named]) -> None:
@@ -93,14 +96,12 @@ def part_of(path: str) -> str:
 def unfinished(path: str) -> Iterator[str]:
     """A new empty file, which is removed unless it was given its name."""
     part = part_of(path)
-    os.close(os.open(part, os.O_WRONLY | os.O_CREAT | os.O_EXCL, 0o666))
     stopping.unfinished.add(part)
     try:
+        os.close(os.open(part, os.O_WRONLY | os.O_CREAT | os.O_EXCL, 0o666))
         yield part
     finally:
-        with contextlib.suppress(OSError):
-            os.remove(part)
-        stopping.unfinished.discard(part)
+        stopping.remove(part)
 
 
 @contextlib.contextmanager
@@ -113,6 +114,8 @@ def whole(option: str, path: str) -> Iterator[TextIO]:
             file = stack.enter_context(open(part, "w", encoding="utf-8", errors=AS_THEY_CAME, newline=""))
         except OSError as error:
             raise OpeningFault(f"{option} {path}: {error.strerror}") from error
+        if part != path:
+            stopping.close_early(file.close)
         yield file
         file.close()
         if part == path:
@@ -121,7 +124,6 @@ def whole(option: str, path: str) -> Iterator[TextIO]:
         if before is not None:
             os.chmod(part, stat.S_IMODE(before.st_mode))
         os.replace(part, target)
-
 
 
 def can_be_read_again(path: str) -> bool:

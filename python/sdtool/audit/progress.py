@@ -3,6 +3,7 @@ import os
 import sys
 from typing import Any, Iterable, Iterator, Sequence
 
+from sdtool.audit import stopping
 from sdtool.audit.sources.items import Item
 
 
@@ -20,14 +21,16 @@ class Bar:
             from rich.progress import BarColumn, Progress, TextColumn, TimeElapsedColumn, TimeRemainingColumn
         except ImportError:
             return
-        self._progress = Progress(TextColumn("{task.fields[objects]:,} objects"), BarColumn(), TextColumn("{task.fields[rate]:,.0f}/s"),
-                                  TimeElapsedColumn(), TimeRemainingColumn(), console=Console(stderr=True), transient=True,
+        self._progress = Progress(TextColumn("{task.fields[objects]:,} objects"), BarColumn(),
+                                  TextColumn("{task.fields[rate]:,.0f}/s"), TimeElapsedColumn(), TimeRemainingColumn(),
+                                  console=Console(stderr=True), transient=True,
                                   # It would send what is written to standard output to the terminal.
                                   redirect_stdout=False, redirect_stderr=False)
         sizes = [os.path.getsize(path) if os.path.isfile(path) else None for path in paths]
         total = None if None in sizes else sum(size for size in sizes if size is not None)
         self._task = self._progress.add_task("", total=total, objects=0, rate=0.0)
         self._progress.start()
+        stopping.before_end.append(self.stop)
 
     def read(self, count: int) -> None:
         self._bytes += count

@@ -1,15 +1,25 @@
-"""What sources, questions and reports are to each other. docs/ARCHITECTURE.md says what a further one needs."""
-from typing import Any, Callable, Iterator, List, Optional, Protocol, Sequence, Tuple
+"""What sources, questions and reports are to each other, and what every question knows. docs/ARCHITECTURE.md says
+what a further one needs."""
+from typing import Any, Callable, Iterator, List, NamedTuple, Optional, Protocol, Sequence, Tuple
 
-from sdtool.audit.questions.asking import Answer, Rule
+from sdtool.audit.findings import Answer, Rule
 from sdtool.audit.sources.items import Item
 from sdtool.audit.sources.options import SourceOptions
+from sdtool.audit.windows.names import Names
 
 
 class Source(Protocol):
-    """Gives the objects of a path, each once, and an object that can't be read for what can't. It tells how many bytes it read."""
+    """Gives the objects of a path, each once, and an object that can't be read for what can't. It tells how many bytes
+    it read."""
 
     def __call__(self, path: str, options: SourceOptions, tell: Callable[[int], None]) -> Iterator[Item]: ...
+
+
+class Context(NamedTuple):
+    """What every question knows: the domain of aliases, and names."""
+
+    domain: str
+    names: Names
 
 
 class Question(Protocol):
@@ -31,8 +41,8 @@ class ListQuestion(Question, Protocol):
 
 
 class ReportForm(Protocol):
-    """Writes a report. rows is how many groups it lists, or None for all of them. What another process has written of a block
-    is its piece."""
+    """Writes a report. rows is how many groups it lists, or None for all of them. What another process has written of a
+    block is its piece."""
 
     rows: Optional[int]
     rules: Sequence[Rule]

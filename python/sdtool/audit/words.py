@@ -7,15 +7,17 @@ from typing import Any, Callable, Dict, List, NamedTuple, Optional, Sequence, Tu
 
 import click
 
-from sdtool.audit import files, stopping
-from sdtool.audit.questions import answers, rights
-from sdtool.audit.questions.asking import Question
-from sdtool.audit.questions.groups import read_names
-from sdtool.audit.questions.names import Names
+from sdtool.audit import files, library, stopping
+from sdtool.audit.directory.groups import read_names
+from sdtool.audit.directory.machines import Machines
+from sdtool.audit.protocols import Context
 from sdtool.audit.reports import outputs
+from sdtool.audit.reports.shown import say
 from sdtool.audit.sources import reading
 from sdtool.audit.sources.opening import STANDARD_INPUT, OpeningFault
 from sdtool.audit.sources.options import DEFAULT_ATTRIBUTES, SourceOptions
+from sdtool.audit.windows import rights
+from sdtool.audit.windows.names import Names
 
 A_SOURCE = "a source"
 
@@ -25,7 +27,7 @@ class Common(NamedTuple):
 
     options: SourceOptions
     of_sources: Tuple[str, ...]  # the options about sources that were given
-    question: Question
+    context: Context
     jobs: Optional[int]
     report: outputs.Form
     out: Optional[str]
@@ -33,6 +35,14 @@ class Common(NamedTuple):
     bar: bool
     domains: Tuple[str, ...]
     reads: Tuple[files.Named, ...]
+    accounts: Dict[str, str] = {}  # SIDs of accounts without a fixed number that sources name
+    machines: Optional[Machines] = None  # those that sources name
+    said: Tuple[str, ...] = ()  # what decides about all answers beside the words, which each report says too
+
+    def saying(self, *lines: str) -> "Common":
+        """The same with more that is said, beside the report and in it."""
+        say(*lines)
+        return self._replace(said=(*self.said, *lines))
 
 
 class _FormatChoice(click.Choice):
@@ -46,49 +56,65 @@ class _FormatChoice(click.Choice):
 
 
 _SOURCE_OPTIONS = (
-    click.option("--format", "source_format", type=_FormatChoice(reading.NAMES), help="The format of the sources, if their "
+    click.option("--format", "source_format", type=_FormatChoice(reading.NAMES),
+                 help="The format of the sources, if their "
                  "content doesn't show it. 'help' says what counts as an object in each, and what as none."),
-    click.option("--encoding", help="The encoding of text without a byte order mark, such as cp1252. Default: UTF-8 or UTF-16, "
+    click.option("--encoding",
+                 help="The encoding of text without a byte order mark, such as cp1252. Default: UTF-8 or UTF-16, "
                  "by its bytes."),
     click.option("--delimiter", help="Of a table: a character, or 'tab'."),
     click.option("--no-quotes", is_flag=True, help="Quotation marks in a table mean nothing."),
     click.option("--header/--no-header", default=None, help="Whether the first row of a table has titles."),
-    click.option("--name-column", metavar="COLUMN", help="The column or member with names: its title, or its number from 1."),
+    click.option("--name-column", metavar="COLUMN",
+                 help="The column or member with names: its title, or its number from 1."),
     click.option("--descriptor-column", metavar="COLUMN", help="The same of the descriptors."),
-    click.option("--object-names", metavar="FILE", help="A file with the names of plain lines, as many as the list has lines."),
-    click.option("--type", "kind", type=click.Choice(rights.KINDS), metavar="KIND", help="What the rights mean: those of files "
-                 f"(default), or of another kind of object: {', '.join(rights.KINDS[1:])}."),
-    click.option("--attribute", "attributes", metavar="NAME", multiple=True, help="The extended attribute with the descriptor. Default: "
+    click.option("--object-names", metavar="FILE",
+                 help="A file with the names of plain lines, as many as the list has lines."),
+    click.option("--type", "kind", type=click.Choice(rights.KINDS), metavar="KIND",
+                 help="What the rights mean: those of "
+                 f"{', '.join(rights.KINDS)}. Default: what a source tells, or file if the rights can be those "
+                 "of a file."),
+    click.option("--attribute", "attributes", metavar="NAME", multiple=True,
+                 help="The extended attribute with the descriptor. Default: "
                  f"{' or '.join(DEFAULT_ATTRIBUTES)}."),
-    click.option("--domain", "domains", metavar="SID", multiple=True, help="The SID whose aliases, such as DA, are read. risks "
+    click.option("--domain", "domains", metavar="SID", multiple=True,
+                 help="The SID whose aliases, such as DA, are read. risks "
                  "trusts the administrators of this domain alone; given again it names further domains."),
-    click.option("--sid-names", metavar="FILE", help="A file with the names of SIDs: CSV, lines of SID and name, or LDIF."),
+    click.option("--sid-names", metavar="FILE",
+                 help="A file with the names of SIDs: CSV, lines of SID and name, or LDIF."),
 )
 # What a database has kept, so that these options come too late for it.
-_LOST_ON_DATABASES = {"source_format": "--format", "encoding": "--encoding", "delimiter": "--delimiter", "no_quotes": "--no-quotes",
+_LOST_ON_DATABASES = {"source_format": "--format", "encoding": "--encoding", "delimiter": "--delimiter",
+                      "no_quotes": "--no-quotes",
                       "header": "--header", "name_column": "--name-column", "descriptor_column": "--descriptor-column",
                       "object_names": "--object-names", "kind": "--type", "attributes": "--attribute"}
 _REPORT_OPTIONS = {
     "to": click.option("--to", type=click.Choice(tuple(outputs.OUTPUTS)), default="table", show_default=True,
                        help="The form of the report."),
     "out": click.option("--out", metavar="FILE", help="The file of the report. Default: standard output."),
-    "lists": click.option("--list", "lists", type=click.Choice(["found", "all"]), help="Whether the report lists objects with "
+    "lists": click.option("--list", "lists", type=click.Choice(["found", "all"]),
+                          help="Whether the report lists objects with "
                           "nothing found. Default: all in csv and jsonl. Each report counts all."),
     "most": click.option("--most", type=click.IntRange(0), metavar="N", help=f"Rows of the table; 0 for all. Default: "
                          f"{outputs.TABLE_ROWS}."),
-    "each": click.option("--each", is_flag=True, help="Lists each object, and not the place where a permission is set with the "
+    "each": click.option("--each", is_flag=True,
+                         help="Lists each object, and not the place where a permission is set with the "
                          "number of objects that inherit it."),
-    "spreadsheet": click.option("--spreadsheet", is_flag=True, help="CSV that is safe to open in a spreadsheet: what looks like a "
+    "spreadsheet": click.option("--spreadsheet", is_flag=True,
+                                help="CSV that is safe to open in a spreadsheet: what looks like a "
                                 "formula begins with an apostrophe."),
-    "into": click.option("--into", metavar="FILE", help="A new file that keeps the objects, for the next question: name it as "
+    "into": click.option("--into", metavar="FILE",
+                         help="A new file that keeps the objects, for the next question: name it as "
                          "a source."),
-    "jobs": click.option("--jobs", type=click.IntRange(1, 512), metavar="N", help="Processes that answer. Default: one for each "
+    "jobs": click.option("--jobs", type=click.IntRange(1, 512), metavar="N",
+                         help="Processes that answer. Default: one for each "
                          "processor."),
     "no_bar": click.option("--no-bar", is_flag=True, help="No progress bar."),
 }
 # What an option says that a command doesn't have.
 _UNSAID: Dict[str, Any] = {
-    "to": "table", "out": None, "lists": None, "most": None, "each": False, "spreadsheet": False, "into": None, "jobs": None,
+    "to": "table", "out": None, "lists": None, "most": None, "each": False, "spreadsheet": False, "into": None,
+    "jobs": None,
     "no_bar": True}
 OF_REPORTS = tuple(_UNSAID)
 
@@ -101,7 +127,8 @@ def with_common(*without: str) -> Callable[[Callable[..., int]], Callable[..., i
             words = {**_UNSAID, **words}
             return command(_common(words), **words)
 
-        for option in reversed([*_SOURCE_OPTIONS, *(one for name, one in _REPORT_OPTIONS.items() if name not in without)]):
+        for option in reversed([*_SOURCE_OPTIONS,
+                                *(one for name, one in _REPORT_OPTIONS.items() if name not in without)]):
             run = option(run)
         return run
     return decorated
@@ -112,7 +139,7 @@ def _common(given: Dict[str, Any]) -> Common:
     of_sources = tuple(option for name, option in _LOST_ON_DATABASES.items() if given[name] not in (None, False, ()))
     if given["header"] is False:
         of_sources = tuple("--no-header" if option == "--header" else option for option in (*of_sources, "--header"))
-    domains = tuple(answers.sid_of_text(domain) for domain in given.pop("domains"))
+    domains = tuple(library.sid_of_text(domain) for domain in given.pop("domains"))
     domain = domains[0] if domains else ""
     delimiter = given.pop("delimiter")
     delimiter = "\t" if delimiter in ("tab", "\\t") else delimiter
@@ -138,21 +165,24 @@ def _common(given: Dict[str, Any]) -> Common:
         raise OpeningFault(f"--most is for tables, and a report in {to} has all rows")
     if is_for_spreadsheets and to != "csv":
         raise OpeningFault("--spreadsheet is for --to csv")
+    if to == "html":
+        outputs.page_around()  # a page that is missing is told before anything is read
     if out is None and isinstance(sys.stdout, stopping.ClosedOutput):
         raise OpeningFault("standard output is closed: name a file with --out")
-    form = outputs.Form(to, None if lists is None else lists == "all", outputs.TABLE_ROWS if most is None else most, is_each,
-                        is_for_spreadsheets)
+    form = outputs.Form(to, None if lists is None else lists == "all",
+                        outputs.TABLE_ROWS if most is None else most, is_each, is_for_spreadsheets)
     # Rows that come on a terminal leave no place for a bar.
     bar = not given.pop("no_bar") and (to == "table" or out is not None or not sys.stdout.isatty())
     reads = (*files.named("--sid-names", sid_names), *files.named("--object-names", object_names))
     into = given.pop("into")
     files.refuse(reads, [*files.named("--out", out), *files.named("--into", into)])
     names = Names(read_names(sid_names, domain) if sid_names else None)
-    return Common(options, of_sources, Question(domain, names), given.pop("jobs"), form, out, into, bar, domains, reads)
+    return Common(options, of_sources, Context(domain, names), given.pop("jobs"), form, out, into, bar, domains, reads)
 
 
 def paths_of(given: Sequence[str], common: Common) -> List[str]:
-    """The sources; without any, standard input if it is no terminal. Refuses options that a database comes too late for."""
+    """The sources; without any, standard input if it is no terminal. Refuses options that a database comes too late
+    for."""
     if not given:
         if sys.stdin is None or sys.stdin.isatty():
             raise OpeningFault("name a source, such as export.csv")
@@ -165,8 +195,8 @@ def paths_of(given: Sequence[str], common: Common) -> List[str]:
         if path != STANDARD_INPUT and not os.path.exists(path):
             raise OpeningFault(f"{path}: no such file or folder")
         if common.of_sources and is_database(path):
-            raise OpeningFault(f"{path} keeps its objects as they were read, so {', '.join(common.of_sources)} can't be honoured: "
-                               "say so when --into makes it")
+            raise OpeningFault(f"{path} keeps its objects as they were read, so {', '.join(common.of_sources)} can't "
+                               "be honoured: say so when --into makes it")
     return list(given)
 
 

@@ -13,7 +13,7 @@ import signal
 import sys
 import threading
 import uuid
-from typing import Callable, List, NoReturn, Optional, TextIO, Tuple, Union
+from typing import Callable, Iterator, List, NoReturn, Optional, TextIO, Tuple, Union
 
 import dask.config
 import sdtool
@@ -23,10 +23,11 @@ from distributed.comm import CommClosedError
 
 from .crew import PATIENT_SECONDS, Crew
 from .inputs import Refused, Taking, opened
-from .work import OURS, RUN, UNFINISHED, Given, Place, Unfit, Work, modules_digest, reason_of
+from .work import OURS, RUN, UNFINISHED, Given, Place, Unfit, Work, entries, modules_digest, printable, reason_of
 
 CLOSE_SECONDS = 5
 LEAST_THREADS = 4  # without a cluster: a task that hangs keeps its thread, and others go on
+CLAIMS = 20  # how often a run tries to own an output while others begin there
 ESCAPED = "sdtool.distributed"  # how names are printed
 
 
@@ -39,11 +40,12 @@ def put(text: str, stream: Optional[TextIO]) -> None:
 
 
 def say(what: object) -> None:
-    put(f"sdtool.distributed: {what}\n", sys.stderr)
+    put(f"sdtool.distributed: {printable(str(what))}\n", sys.stderr)
 
 
 def escape(error: UnicodeError) -> Tuple[Union[str, bytes], int]:
-    """Bytes of a name that are no text go out as they are, and characters that a stream does not have as their numbers."""
+    """Bytes of a name that are no text go out as they are, and characters that a stream does not have as their
+    numbers."""
     try:
         return codecs.lookup_error("surrogateescape")(error)
     except UnicodeError:
@@ -59,16 +61,34 @@ class Parser(argparse.ArgumentParser):
         sys.exit(2)
 
 
-def take_over(work: Work, crew: Crew) -> None:
-    """Makes this run the owner of the output. What an earlier one has not finished is removed. An input whose answers cannot have
-    their place costs no other one."""
-    place = work.place
-    place.fs.makedirs(work.mine, exist_ok=True)
-    unfinished = f"{work.mine}/{uuid.uuid4().hex}"
+def claim(work: Work) -> None:
+    """Makes this run the owner of the output. The folder that this takes may be removed by another run that begins."""
+    place, folder = work.place, f"{work.place.ours}/sdtool-{uuid.uuid4().hex}"
+    unfinished = f"{folder}/{uuid.uuid4().hex}"
+    place.fs.makedirs(folder, exist_ok=True)
     place.fs.pipe_file(unfinished, json.dumps({"run": work.run, "words": work.words}).encode())
     place.move(unfinished, f"{place.ours}/run.json")
-    for told in place.fs.ls(place.ours, detail=True):
-        folder = told["name"].rstrip("/")
+    remove_run(place, folder)
+
+
+def take_over(work: Work, crew: Crew) -> None:
+    """Makes this run the owner of the output, and removes what earlier ones have not finished. An input whose answers
+    cannot have their place costs no other one.
+
+    A run has its folder only when it has owned the output. So the folders that are there while this one owns it are its
+    own and those of earlier runs, also where several begin at once."""
+    place = work.place
+    for left in reversed(range(CLAIMS)):
+        try:
+            claim(work)
+            break
+        except FileNotFoundError:
+            if not left:
+                raise
+    place.fs.makedirs(work.mine, exist_ok=True)
+    folders = [told["name"].rstrip("/") for told in entries(place.fs, place.ours)]
+    work.require_ownership()
+    for folder in folders:
         if RUN.fullmatch(os.path.basename(folder)) and folder != work.mine:
             remove_run(place, folder)
     for job in crew.jobs:
@@ -99,14 +119,29 @@ def remove_run(place: Place, folder: str) -> None:
 
 
 def client_of(wanted: argparse.Namespace) -> Client:
-    """A client of the scheduler, or of a cluster in this process. That one has no profiler: Python 3.11 may stop for good
-    where two threads look at the frames of all, as Dask's profiler does."""
+    """A client of the scheduler, or of a cluster in this process. That one has no profiler: Python 3.11 may stop for
+    good where two threads look at the frames of all, as Dask's profiler does."""
     if wanted.scheduler:
         return Client(wanted.scheduler, timeout=wanted.wait, set_as_default=False)
     with dask.config.set({"distributed.worker.profile.enabled": False}):
-        return Client(timeout=wanted.wait, set_as_default=False, n_workers=1, threads_per_worker=max(LEAST_THREADS, CPU_COUNT),
-                      processes=False, memory_limit=0, silence_logs="error", dashboard_address="127.0.0.1:0",
-                      worker_dashboard_address="127.0.0.1:0", scheduler_kwargs={"worker_ttl": "1 day"})
+        return Client(timeout=wanted.wait, set_as_default=False, n_workers=1,
+                      threads_per_worker=max(LEAST_THREADS, CPU_COUNT), processes=False, memory_limit=0,
+                      silence_logs="error", dashboard_address="127.0.0.1:0", worker_dashboard_address="127.0.0.1:0",
+                      scheduler_kwargs={"worker_ttl": "1 day"})
+
+
+@contextlib.contextmanager
+def quiet() -> Iterator[None]:
+    """Dask's logs, while a client is closed, tell of answers on their way that nobody waits for."""
+    logs = [logging.getLogger(name) for name in ("tornado.application", "distributed.client", "distributed.batched")]
+    before = [log.disabled for log in logs]
+    for log in logs:
+        log.disabled = True
+    try:
+        yield
+    finally:
+        for log, was_disabled in zip(logs, before):
+            log.disabled = was_disabled
 
 
 def drive(wanted: argparse.Namespace, work: Work, taking: Taking) -> Crew:
@@ -126,12 +161,9 @@ def drive(wanted: argparse.Namespace, work: Work, taking: Taking) -> Crew:
         crew.end(f"{type(error).__name__}: {error}")
     finally:
         waiting.cancel()
-        log = logging.getLogger("tornado.application")  # tells of answers on their way that nobody waits for any more
-        was_disabled, log.disabled = log.disabled, True
-        with contextlib.suppress(Exception):
+        with contextlib.suppress(Exception), quiet():
             if client is not None:
                 client.close(timeout=CLOSE_SECONDS)
-        log.disabled = was_disabled
         with contextlib.suppress(Exception):
             remove_run(work.place, work.mine)
     return crew
@@ -155,7 +187,8 @@ def wanted_of(words: List[str]) -> argparse.Namespace:
     parser = Parser(prog="python3 -m sdtool.distributed", allow_abbrev=False,
                     usage="%(prog)s [--scheduler ADDRESS] --out URL [..] COMMAND [OPTIONS] -- INPUT..")
     add = parser.add_argument
-    add("--scheduler", metavar="ADDRESS", help="of Dask, as tcp://host:8786; without it, a cluster in this process")
+    add("--scheduler", metavar="ADDRESS", default=dask.config.get("scheduler-address", None),
+        help="of Dask, as tcp://host:8786; without it and DASK_SCHEDULER_ADDRESS, a cluster in this process")
     add("--out", metavar="URL", required=True, help="the folder of the answers")
     add("--parts", action="store_true", help="leave the answers to an input in parts, in a folder of its name")
     add("--block", default="64000000", metavar="BYTES", help="of an input in one task (%(default)s)")
@@ -170,9 +203,10 @@ def wanted_of(words: List[str]) -> argparse.Namespace:
     wanted.urls, wanted.words = words[at + 1:], [wanted.command, *wanted.options]
     if not wanted.urls:
         parser.error("inputs stand behind --")
-    limits: List[Tuple[str, Callable[[str], float], str]] = [("block", functools.partial(counted, 1), "a number, and is at least 1"),
-                             ("retries", functools.partial(counted, 0), "a number, and is at least 0"),
-                             ("wait", positive, "a number of seconds"), ("slowest", positive, "a number of bytes")]
+    limits: List[Tuple[str, Callable[[str], float], str]] = [
+        ("block", functools.partial(counted, 1), "a number, and is at least 1"),
+        ("retries", functools.partial(counted, 0), "a number, and is at least 0"),
+        ("wait", positive, "a number of seconds"), ("slowest", positive, "a number of bytes")]
     for name, read, what in limits:
         try:
             setattr(wanted, name, read(getattr(wanted, name)))
@@ -217,7 +251,8 @@ def answered(wanted: argparse.Namespace) -> Report:
     taking.take_all(wanted.urls)
     if not taking.inputs:
         return Report(None, taking.refused)
-    work = Work(f"sdtool-{uuid.uuid4().hex}", wanted.words, sdtool._library.digest(), modules_digest(), wanted.out, wanted.parts)
+    work = Work(f"sdtool-{uuid.uuid4().hex}", wanted.words, sdtool._library.digest(), modules_digest(), wanted.out,
+                wanted.parts)
     with contextlib.redirect_stdout(sys.stderr):  # for what Dask prints
         return Report(drive(wanted, work, taking), taking.refused)
 
@@ -243,8 +278,8 @@ def main(words: List[str]) -> int:
 
 
 def shown(report: Report) -> int:
-    """Shows the report: first what has no answers, whatever becomes of the counts. Gives the status, which does not pass over
-    counts that cannot be printed."""
+    """Shows the report: first what has no answers, whatever becomes of the counts. Gives the status, which does not
+    pass over counts that cannot be printed."""
     report.say_unanswered()
     if sys.stdout is None:
         say("standard output is closed, so the counts are not shown")

@@ -1,11 +1,11 @@
 """Which worker does what, and what follows a failure.
 
-Every task is sent to one worker, no more of them than it has threads. So a failure has a worker and a task, and nothing of
-a run stays in the cluster: the scheduler drops all when the driver goes.
+Every task is sent to one worker, no more of them than it has threads. So a failure has a worker and a task, and nothing
+of a run stays in the cluster: the scheduler drops all when the driver goes.
 
-A failure is the worker's until another worker has failed too, be it by an error, by hanging or by dying. A worker that is
-not fit at the time may be that other, so the task waits until it has been looked at, but not for longer than `--wait`. An
-input whose task was on a worker that died is done again, alone on a worker, when all others are done.
+A failure is the worker's until another worker has failed too, be it by an error, by hanging or by dying. A worker that
+is not fit at the time may be that other, so the task waits until it has been looked at, but not for longer than
+`--wait`. An input whose task was on a worker that died is done again, alone on a worker, when all others are done.
 """
 import collections
 import dataclasses
@@ -13,7 +13,7 @@ import operator
 import queue
 import sys
 import time
-from typing import Any, Callable, Deque, Dict, List, NamedTuple, Optional, Set, Tuple
+from typing import Any, Callable, Deque, Dict, List, NamedTuple, Optional, Sequence, Set, Tuple
 
 from distributed import Client, Future, TimeoutError, as_completed
 
@@ -23,6 +23,7 @@ SILENT_SECONDS = 15  # a worker that says nothing for so long gets nothing, and 
 PATIENT_SECONDS = 10  # without progress, a line says what is waited for
 LOOK_SECONDS = 1
 FIRST_SECONDS = 30  # each task has these, besides those for its bytes
+LONG_SECONDS = 45  # of a task that takes so long a line tells, though it may have more
 MOST_LEFT_OUT = 30  # seconds until a worker that was left out is looked at again
 MOST_UNFITS = 20  # workers that turn out not to be fit at one task
 MOST_TURNS = 10  # how often an input is begun anew because its attributes have changed
@@ -30,6 +31,7 @@ BATCH, BATCH_BYTES = 50, 4 << 20  # small inputs in one task
 LOOKED_AT = 50  # tasks at the front of those that wait
 UNPACKED = 20  # how often as long as its file a compressed input may be, for the time that its task has
 SILENT_SCHEDULER = "the scheduler does not answer"
+MISSING, RETIRED, LEAVING = "missing", "retired", "closing_gracefully"  # what a worker is; the last is Dask's word
 Say = Callable[[str], None]
 
 
@@ -71,8 +73,9 @@ class Job:
     given: Given
     cuts: List[Tuple[int, Optional[int]]]
     blocks: Dict[int, Dict[str, Any]] = dataclasses.field(default_factory=dict)
-    compared: Set[int] = dataclasses.field(default_factory=set)
-    comparing: Set[int] = dataclasses.field(default_factory=set)
+    answered: List[int] = dataclasses.field(default_factory=list)  # blocks that nobody compares yet
+    compared: int = 0
+    is_long: bool = False  # a line has told that a task takes long
     turn: int = 0
     repairs: int = 0
     came: Any = None  # counts, or the reason why it has no answers
@@ -102,6 +105,7 @@ class Worker:
     look_at: float = 0  # when it is looked at again
     delay: float = 1
     is_able: bool = True  # it is not silent, paused or closing
+    status: str = ""  # at the last look
     doubted: Set[Job] = dataclasses.field(default_factory=set)  # of which it failed a task that nobody else has done
     tasks: Dict[str, Sent] = dataclasses.field(default_factory=dict)
     hung: Set[str] = dataclasses.field(default_factory=set)  # tasks that were given up, and hold threads
@@ -129,8 +133,13 @@ class Seen(NamedTuple):
     is_busy: bool  # it does more than the scheduler knows: what was taken back
 
 
-def see(name: str, dask_scheduler: Any = None) -> Dict[str, Tuple[Any, ...]]:
+def see(name: str, known: Tuple[str, ...] = (), dask_scheduler: Any = None) -> Dict[str, Tuple[Any, ...]]:
+    """The workers, and of those that are known the ones that were retired."""
     told: Dict[str, Tuple[Any, ...]] = {}
+    for address in known:
+        events = getattr(dask_scheduler, "events", {}).get(address)
+        if events and events[-1][1].get("action") == RETIRED:
+            told[address] = 0, RETIRED, 0, [], 0, False
     for address, its in dask_scheduler.workers.items():
         # The keys of others are any values, as tuples.
         ours = [task.key for task in its.executing if str(task.key).startswith(name) and task in its.processing]
@@ -184,8 +193,8 @@ class Crew:
 
     def begin(self, job: Job) -> None:
         job.blocks.clear()
-        job.compared.clear()
-        job.comparing.clear()
+        job.answered.clear()
+        job.compared = 0
         if len(job.cuts) == 1:
             size = job.given.told["size"] or 0
             self.add(job, "answer_whole", (job.cuts[0][1],), size * UNPACKED if job.given.compression else size)
@@ -205,9 +214,9 @@ class Crew:
         job = task.job
         if task.method == "answer":
             job.blocks[task.index] = value
+            job.answered.append(task.index)
         elif task.method == "compare":
-            job.comparing.discard(task.index)
-            job.compared.add(task.index)
+            job.compared += 1
         else:
             self.close(job, value)
             return
@@ -215,14 +224,16 @@ class Crew:
             self.put_together(job)
 
     def put_together(self, job: Job) -> None:
-        """Goes on with a job whose blocks are all answered. Parts that stay are compared before, by many workers."""
-        blocks = [job.blocks[index] for index in range(len(job.cuts))]
-        if not self.work.is_parts or len(job.compared) == len(blocks):
+        """Goes on with a job whose blocks are all answered. Before, many workers compare parts that stay, and inputs
+        that have no version."""
+        if job.given.is_versioned and not self.work.is_parts or job.compared == len(job.cuts):
+            blocks = [job.blocks[index] for index in range(len(job.cuts))]
             self.add(job, "finish", (blocks,), sum(block["bytes"] for block in blocks))
             return
-        for index in sorted(set(job.blocks) - job.compared - job.comparing):
-            job.comparing.add(index)
-            self.add(job, "compare", (index, blocks[index]), blocks[index]["bytes"], index)
+        for index in sorted(job.answered):
+            start, end = job.cuts[index]
+            self.add(job, "compare", (index, job.blocks[index]), job.blocks[index]["bytes"] + (end or 0) - start, index)
+        job.answered.clear()
 
     def repair(self, task: Task, damaged: List[int]) -> None:
         """Answers parts again that are not what their workers wrote."""
@@ -232,8 +243,10 @@ class Crew:
             self.close(job, f"RuntimeError: part {damaged[0] if damaged else 0} is never what its worker wrote")
         elif task.method == "answer_whole" or not damaged:
             self.later.append(task)
+        elif not job.given.is_versioned:  # what was compared may be another state of the input than what is read now
+            job.turn += 1
+            self.begin(job)
         else:
-            job.comparing.discard(task.index)
             for index in damaged:
                 if job.blocks.pop(index, None) is not None:
                     self.answer(job, index)
@@ -268,8 +281,8 @@ class Crew:
     # Failures.
 
     def fail(self, task: Task, worker: Worker, reason: str, is_sure: bool = True, is_enough: bool = False) -> None:
-        """A task is tried again after a failure, or that was enough. Where others were sent with it, it is not sure which one
-        has failed, so each is tried by itself first."""
+        """A task is tried again after a failure, or that was enough. Where others were sent with it, it is not sure
+        which one has failed, so each is tried by itself first."""
         if task.is_stale:
             return
         self.note(task, worker, reason)
@@ -286,17 +299,20 @@ class Crew:
         task.failed_at = task.failed_at or time.monotonic()
 
     def has_hope(self, task: Task) -> bool:
-        """Whether one worker alone has failed, and another one may do the task. A run waits for that, but not for longer than
-        for any progress."""
+        """Whether one worker alone has failed, and another one may do the task. A run waits for that, but not for
+        longer than for any progress."""
         is_late = time.monotonic() - task.failed_at > self.wanted.wait
         return not is_late and len(task.failed) < 2 and any(
             each.address not in task.failed and each.is_hopeful(task.failed_at) for each in self.workers.values())
 
     def blame(self, task: Task, worker: Worker) -> None:
-        """Leaves out the workers that failed a task which another one has done."""
+        """Leaves out the workers that failed a task which another one has done. Then they may go on with its input."""
         for address, reason in task.failed.items():
-            if address in self.workers and address != worker.address:
-                self.leave_out(self.workers[address], reason)
+            failed = self.workers.get(address)
+            if failed is not None:
+                failed.doubted.discard(task.job)
+                if failed is not worker:
+                    self.leave_out(failed, reason)
         task.failed.clear()
         task.failed_at = 0
 
@@ -307,12 +323,12 @@ class Crew:
         worker.delay = min(MOST_LEFT_OUT, worker.delay * 2)
         self.give_up(worker)
 
-    def give_up(self, worker: Worker) -> None:
-        """Takes a worker's tasks back, for others."""
-        for sent in worker.tasks.values():
+    def give_up(self, worker: Worker, executed: Sequence[str] = ()) -> None:
+        """Takes a worker's tasks back, for others, but for those that it still does."""
+        for key in [key for key in worker.tasks if key not in executed]:
+            sent = worker.tasks.pop(key)
             sent.future.release()
             self.later += sent.tasks
-        worker.tasks.clear()
 
     def bury(self, worker: Worker) -> None:
         """A worker is gone. What it did may have killed it, so each of its tasks gets a worker for itself, later."""
@@ -326,6 +342,9 @@ class Crew:
             self.note(task, worker, "its worker died")
             if task.deaths > self.wanted.retries and not self.has_hope(task):
                 self.close(task.job, f"KilledWorker: {task.deaths} workers died that had {task.words}")
+        self.let_go(worker)
+
+    def let_go(self, worker: Worker) -> None:
         self.give_up(worker)
         del self.workers[worker.address]
 
@@ -340,29 +359,43 @@ class Crew:
     def look(self) -> None:
         """Asks the scheduler for its workers, and follows what has become of them."""
         try:
-            told = self.client.run_on_scheduler(see, self.work.run, callback_timeout=PATIENT_SECONDS / 2)
+            told = self.client.run_on_scheduler(see, self.work.run, tuple(self.workers),
+                                                callback_timeout=PATIENT_SECONDS / 2)
         except TimeoutError:
             if time.monotonic() - self.seen > min(PATIENT_SECONDS, self.wanted.wait / 2):
                 self.tell(SILENT_SCHEDULER)
             if time.monotonic() - self.seen > self.wanted.wait:
-                raise Lost(f"the scheduler has not answered for {self.wanted.wait:g} seconds") from None
+                raise Lost(f"the scheduler is lost: it has not answered for {self.wanted.wait:g} seconds") from None
             return
         self.seen = time.monotonic()
         self.told.discard(SILENT_SCHEDULER)
         self.take(0)  # what has come meanwhile is not late, however long this driver was kept from looking
         for address in [address for address in self.workers if address not in told]:
-            self.bury(self.workers[address])
+            self.miss(self.workers[address])
         for address, fields in told.items():
             self.follow(self.workers.setdefault(address, Worker(address)), Seen(*fields))
 
+    def miss(self, worker: Worker) -> None:
+        """A worker is gone: it was retired, or is dead. The scheduler may tell of the first only a moment later."""
+        if worker.status == LEAVING:
+            self.let_go(worker)
+        elif worker.status == MISSING:
+            self.bury(worker)
+        worker.is_able, worker.status = False, MISSING
+
     def follow(self, worker: Worker, seen: Seen) -> None:
-        worker.threads = seen.threads
+        if seen.status == RETIRED:
+            self.let_go(worker)
+            return
+        worker.threads, worker.status = seen.threads, seen.status
         worker.is_able = seen.status == "running" and seen.silent < SILENT_SECONDS
         if not seen.is_busy:
             worker.hung.clear()
         if seen.silent >= SILENT_SECONDS:
             self.tell(f"worker {worker.address} is silent; others get its tasks")
             self.give_up(worker)
+        elif not worker.is_able:  # it begins nothing more
+            self.give_up(worker, seen.ours)
         for key in set(seen.ours) & worker.tasks.keys():
             self.go_on()
             worker.tasks[key].begun = worker.tasks[key].begun or time.monotonic()
@@ -382,12 +415,13 @@ class Crew:
         self.done.add(worker.state)
 
     def end_hung(self, worker: Worker, executed: List[str]) -> None:
-        """Takes tasks back that take too long, or that others keep from beginning. One that was begun and is not executed is
-        done, and what came of it may be on its way."""
+        """Takes tasks back that take too long, or that others keep from beginning. One that was begun and is not
+        executed is done, and what came of it may be on its way."""
         now = time.monotonic()
         for key, sent in list(worker.tasks.items()):
-            limit = FIRST_SECONDS + sent.bytes / self.wanted.slowest
-            if now - (sent.begun or sent.at) <= limit:
+            limit, taken = FIRST_SECONDS + sent.bytes / self.wanted.slowest, now - (sent.begun or sent.at)
+            if taken <= limit:
+                self.tell_of_long(worker, sent, taken, limit)
                 continue
             del worker.tasks[key]
             sent.future.release()
@@ -395,7 +429,8 @@ class Crew:
                 worker.crowded_until = now + PATIENT_SECONDS
                 self.later += sent.tasks
                 continue
-            self.say(f"worker {worker.address} has had {sent.tasks[0].words} for {limit:.0f} seconds; another one gets it")
+            self.say(f"worker {worker.address} has had {sent.tasks[0].words} for {limit:.0f} seconds; another "
+                     "one gets it")
             worker.hung.add(key)
             is_sure = len(sent.tasks) == 1
             for task in sent.tasks:
@@ -403,11 +438,21 @@ class Crew:
                 reason = f"TimeoutError: it took more than {limit:.0f} seconds"
                 self.fail(task, worker, reason, is_sure, is_enough=task.hangs > 1)
 
+    def tell_of_long(self, worker: Worker, sent: Sent, taken: float, limit: float) -> None:
+        """Says of an input, once, that a task of it takes long. A compressed one may have hours until it counts as
+        hung."""
+        task = sent.tasks[0]
+        if sent.begun and taken > LONG_SECONDS and not task.job.is_long:
+            task.job.is_long = True
+            self.say(f"worker {worker.address} has had {task.words} for {taken:.0f} seconds, of {limit:.0f} "
+                     "that it has")
+
     def be_patient(self) -> None:
         """Says what is waited for, and ends a run that waits for too long."""
         waited = time.monotonic() - self.progress
         fit = [worker for worker in self.workers.values() if worker.is_fit and worker.is_able]
-        waits = [f"worker {address} {what}" for address, what in sorted(self.waits.items()) if what and address in self.workers]
+        waits = [f"worker {address} {what}" for address, what in sorted(self.waits.items()) if what
+                 and address in self.workers]
         if waited > min(PATIENT_SECONDS, self.wanted.wait / 2) and not self.is_patient:
             self.is_patient = True
             reason = "nothing goes on" if fit else f"no worker is fit of {len(self.workers)}"
@@ -462,7 +507,8 @@ class Crew:
     def has_other(self, task: Task, worker: Worker) -> bool:
         """Whether another fit worker has not failed at this, and has threads that do not hang."""
         return any(each is not worker and each.is_fit and each.is_able and len(each.hung) < each.threads
-                   and each.address not in task.failed and task.job not in each.doubted for each in self.workers.values())
+                   and each.address not in task.failed and task.job not in each.doubted
+                   for each in self.workers.values())
 
     def send(self, worker: Worker, tasks: List[Task]) -> None:
         key = f"{self.work.run}-{next(self.numbers)}"
@@ -478,7 +524,8 @@ class Crew:
         except queue.Empty:
             return
         for future, result in came:
-            worker = next((each for each in self.workers.values() if future.key in each.tasks or each.state is future), None)
+            worker = next((each for each in self.workers.values() if future.key in each.tasks or each.state is future),
+                          None)
             if worker and worker.state is future:
                 self.take_state(worker, future, result)
             elif worker:

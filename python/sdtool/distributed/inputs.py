@@ -10,7 +10,7 @@ from fsspec.implementations.local import LocalFileSystem
 from fsspec.registry import known_implementations
 
 from . import packed
-from .work import OURS, Given, Place, look, shown_url
+from .work import OURS, Given, Place, entries, look, shown_url
 
 MAGIC = re.compile(r"[*?\[]")
 # The files that runs write beside answers. Their content says whether a run wrote them.
@@ -48,9 +48,9 @@ class Finder:
         return os.path.relpath(path, self.above)
 
     def listed(self, folder: str) -> List[Dict[str, Any]]:
-        self.fs.invalidate_cache(folder)
-        told = self.fs.ls(folder, detail=True)
-        return sorted((each for each in told if each["name"].rstrip("/") != folder.rstrip("/")), key=lambda each: each["name"])
+        told = entries(self.fs, folder)
+        return sorted((each for each in told if each["name"].rstrip("/") != folder.rstrip("/")),
+                      key=lambda each: each["name"])
 
     def below(self, folder: str) -> Iterator[Found]:
         try:
@@ -166,7 +166,8 @@ def is_folder(fs: Any, path: str) -> bool:
 
 
 def opened(url: str) -> Any:
-    """The file system and the path of a URL. fsspec takes a chain of protocols with one that it does not know for a path."""
+    """The file system and the path of a URL. fsspec takes a chain of protocols with one that it does not know for a
+    path."""
     for name in url.split("::")[:-1]:
         if name.split("://")[0] not in known_implementations:
             raise ValueError(f"{url}: fsspec knows no protocol {name}")
@@ -183,7 +184,8 @@ class Taking:
         self.place, self.is_parts = place, is_parts
         self.inputs: List[Given] = []
         self.refused: List[Refused] = []
-        self.taken: Dict[str, int] = {}  # the paths of answers, and with / behind them the folders above, by the argument
+        # the paths of answers, and with / behind them the folders above, by the argument
+        self.taken: Dict[str, int] = {}
 
     def take_all(self, urls: List[str]) -> None:
         for number, url in enumerate(urls):
@@ -258,11 +260,13 @@ class Taking:
     def problem_of(self, given: Given, name: str, number: int) -> str:
         if f"{name}/".startswith(f"{OURS}/"):
             return "has a name that is kept for runs"
-        clashing = {self.taken[each] for each in [given.answers, f"{given.answers}/", *above(given.answers)] if each in self.taken}
+        clashing = {self.taken[each] for each in [given.answers, f"{given.answers}/", *above(given.answers)]
+                    if each in self.taken}
         if clashing - {number}:
             raise ValueError(f"{given.url} has the answers of another input; give the folder of both")
         if clashing:
-            return f"would have its answers at {given.answers}, as another input has; answer it alone, to another folder"
+            return (f"would have its answers at {given.answers}, as another input has; answer it alone, to "
+                    "another folder")
         return self.place.problem_of(given, self.is_parts)
 
 

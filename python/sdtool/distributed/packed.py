@@ -8,8 +8,8 @@ PIECE = 1 << 12  # bytes, which may become 32,000 times as long
 # How files begin that nothing here reads: zip, 7z, rar, lz4, lzip, lzop, compress.
 OTHER_BEGINNINGS = (b"PK\3\4", b"PK\5\6", b"7z\xbc\xaf\x27\x1c", b"Rar!\x1a\7", b"\4\x22M\x18", b"\2\x21L\x18", b"LZIP",
                     b"\x89LZO", b"\x1f\x9d")
-OTHER_SUFFIXES = (".zip", ".7z", ".rar", ".lz4", ".lz", ".lzo", ".lzma", ".z", ".br", ".sz", ".snappy", ".zz", ".tar", ".tgz",
-                  ".tbz", ".tbz2", ".txz", ".tzst")
+OTHER_SUFFIXES = (".zip", ".7z", ".rar", ".lz4", ".lz", ".lzo", ".lzma", ".z", ".br", ".sz", ".snappy", ".zz",
+                  ".tar", ".tgz", ".tbz", ".tbz2", ".txz", ".tzst")
 TAR_AT, TAR = 257, b"ustar"  # where the header of a tar archive says what it is
 LONGEST_BEGINNING = TAR_AT + len(TAR)
 
@@ -60,8 +60,8 @@ def name_without_suffix(name: str, kind: Optional[str]) -> str:
 
 
 def unpacked(raw: IO[bytes], name: str) -> Iterator[bytes]:
-    """The bytes of all streams of a file. It is an error if the file is empty, ends within a stream, or has anything but
-    streams and their padding."""
+    """The bytes of all streams of a file. It is an error if the file is empty, ends within a stream, or has anything
+    but streams and their padding."""
     kind, data = KINDS[name], raw.read(PIECE)
     if not data:
         raise EOFError(f"the file is empty, and so is no {name}")

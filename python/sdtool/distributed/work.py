@@ -8,6 +8,7 @@ import itertools
 import json
 import os
 import re
+import time
 import uuid
 from typing import Any, Callable, Counter, Dict, Iterator, List, Optional, Tuple
 
@@ -24,7 +25,9 @@ PART = re.compile(r"part-(\d{6,})")
 EVIDENCE = re.compile(rf"{OURS}-part-(\d{{6,}})\.json")
 RUN = re.compile(r"sdtool-[0-9a-f]{32}")
 UNFINISHED = re.compile(r"[0-9a-f]{32}")
-VERSION_KEYS = {"ino", "ETag", "etag", "VersionId", "generation", "md5Hash"}  # with one, each change of a file shows
+# With one of these, each change of a file shows.
+VERSION_KEYS = {"ino", "ETag", "etag", "VersionId", "generation", "md5Hash", "Content-MD5", "Digest"}
+TIME_KEYS = {"created", "mtime", "modified", "modify", "modificationTime", "last_modified", "LastModified", "updated"}
 # What may change of a local file though its content does not: `created` is the time of the last change of attributes.
 ATTRIBUTES = {"mode", "uid", "gid", "nlink", "created"}
 LONGEST_RECORD = 1 << 30  # bytes
@@ -47,7 +50,8 @@ def chunks_of(fs: Any, path: str, start: int, end: int, size: int = READ) -> Ite
     """Bytes of a file, each by a request of its own: threads that open a file of memory:// share its position."""
     while start < end:
         chunk = fs.cat_file(path, start=start, end=min(start + size, end))
-        if not 0 < len(chunk) <= min(size, end - start):  # some servers ignore what is asked for, and give the whole file
+        # some servers ignore what is asked for, and give the whole file
+        if not 0 < len(chunk) <= min(size, end - start):
             raise OSError(f"{path} has {len(chunk)} bytes in place of those from {start} to {end}")
         start += len(chunk)
         yield chunk
@@ -55,8 +59,12 @@ def chunks_of(fs: Any, path: str, start: int, end: int, size: int = READ) -> Ite
 
 def shown_url(fs: Any, path: str) -> str:
     """The URL of a file, without a password and without control characters."""
-    url = fs.unstrip_protocol(path).replace("///", f"//{getattr(fs, 'host', '')}/", 1)
-    return re.sub("[\0-\x1f\x7f-\x9f]", lambda found: f"%{ord(found[0]):02X}", url)
+    return printable(fs.unstrip_protocol(path).replace("///", f"//{getattr(fs, 'host', '')}/", 1))
+
+
+def printable(text: str) -> str:
+    """A text on one line, whose names and reasons move no cursor."""
+    return re.sub("[\0-\x1f\x7f-\x9f]", lambda found: f"%{ord(found[0]):02X}", text)
 
 
 def look(fs: Any, path: str) -> Dict[str, Any]:
@@ -66,12 +74,29 @@ def look(fs: Any, path: str) -> Dict[str, Any]:
     return {key: value if isinstance(value, (int, type(None))) else str(value) for key, value in told if key != "time"}
 
 
+def entries(fs: Any, folder: str) -> List[Dict[str, Any]]:
+    """What is in a folder. A local file that goes meanwhile is listed, as something that was there."""
+    fs.invalidate_cache(folder)
+    if not isinstance(fs, LocalFileSystem):
+        return list(fs.ls(folder, detail=True))
+    with os.scandir(folder) as found:
+        return [entry_of(fs, entry) for entry in found]
+
+
+def entry_of(fs: Any, entry: "os.DirEntry[str]") -> Dict[str, Any]:
+    try:
+        return dict(fs.info(entry))
+    except FileNotFoundError:
+        return {"name": fs._strip_protocol(entry.path), "type": "other"}
+
+
 def modules_digest() -> str:
     """The digest of the files of the module and of this package, since they count the answers and compare them with the
     lines."""
     from sdtool import _library
     top, digest = os.path.dirname(os.path.abspath(_library.__file__)), new_digest()
-    names = [os.path.join(folder, name) for folder in ("", "distributed") for name in os.listdir(os.path.join(top, folder))]
+    names = [os.path.join(folder, name) for folder in ("", "distributed")
+             for name in os.listdir(os.path.join(top, folder))]
     for name in sorted(names):
         if name.endswith((".py", ".so")):
             with open(os.path.join(top, name), "rb") as file:
@@ -91,7 +116,7 @@ class Given:
 
     @property
     def fields(self) -> Tuple[Any, ...]:
-        return tuple(getattr(self, field.name) for field in dataclasses.fields(self))
+        return tuple([getattr(self, field.name) for field in dataclasses.fields(self)])
 
     @property
     def url(self) -> str:
@@ -102,13 +127,21 @@ class Given:
         """None: it can be read only from its start."""
         return None if self.compression else self.told["size"]
 
+    @property
+    def is_versioned(self) -> bool:
+        """Whether its file system tells when its content changes. Else only its bytes do."""
+        return bool((VERSION_KEYS | TIME_KEYS) & self.told.keys())
+
     def require_same(self) -> None:
         told = look(self.fs, self.path)
         changed = {key for key in {*told, *self.told} if told.get(key) != self.told.get(key)}
         if changed and changed <= ATTRIBUTES and isinstance(self.fs, LocalFileSystem):
             raise Touched
         if changed:
-            raise OSError(f"{self.url} has changed since the run began, or is another file here")
+            raise self.changed()
+
+    def changed(self) -> OSError:
+        return OSError(f"{self.url} has changed since the run began, or is another file here")
 
     def stream(self) -> Iterator[bytes]:
         """The bytes from the start, decompressed."""
@@ -132,6 +165,13 @@ class Given:
             return self.stream()
         first = self.next_line(start, end)
         return chunks_of(self.fs, self.path, first, self.next_line(end, self.size) if first < end else first)
+
+    def digest(self, start: int, end: Optional[int]) -> str:
+        """The digest of the lines that begin in a block."""
+        digest = new_digest()
+        for piece in self.pieces(start, end):
+            digest.update(piece)
+        return digest.hexdigest()
 
 
 class Place:
@@ -193,7 +233,8 @@ class Place:
         if manifest.get("url", given.url) != given.url:
             return f"has answers at {given.answers}, which are those of {manifest['url']}"
         is_folder = self.fs.info(given.answers)["type"] == "directory"
-        return "" if is_folder == is_parts else f"has answers at {given.answers}, which is no {('file', 'folder')[is_parts]}"
+        return ("" if is_folder == is_parts
+                else f"has answers at {given.answers}, which is no {('file', 'folder')[is_parts]}")
 
     def manifest_of(self, folder: str) -> Optional[Dict[str, Any]]:
         """What a run wrote of an input's answers, whole or not."""
@@ -208,16 +249,23 @@ class Place:
 
     def files_of(self, folder: str, *names: "re.Pattern[str]") -> Iterator[Tuple[str, "re.Match[str]"]]:
         """The files in a folder that have such a name as a whole."""
-        self.fs.invalidate_cache(folder)
-        for told in self.fs.ls(folder, detail=True) if self.fs.exists(folder) else ():
+        there: List[Dict[str, Any]] = []
+        with contextlib.suppress(FileNotFoundError):  # another run may remove it
+            there = entries(self.fs, folder) if self.fs.exists(folder) else []
+        for told in there:
             match = next(filter(None, (name.fullmatch(os.path.basename(told["name"])) for name in names)), None)
             if match and told["type"] != "directory":
                 yield told["name"], match
 
+    @property
+    def renames(self) -> bool:
+        """Whether a file gets another name in one step. Object stores copy it."""
+        return self.is_local or type(self.fs).mv is not AbstractFileSystem.mv
+
     def move(self, old: str, new: str) -> None:
         if self.is_local:
             os.replace(old, new)
-        elif type(self.fs).mv is not AbstractFileSystem.mv:
+        elif self.renames:
             self.fs.mv(old, new)
         else:  # AbstractFileSystem.mv takes a name for a pattern
             self.fs.cp_file(old, new)
@@ -231,8 +279,8 @@ def seal_of(record: Dict[str, Any]) -> str:
 
 @dataclasses.dataclass
 class Work:
-    """A run as a worker has it. Files that are not whole are in a folder of the run, which the next run removes: a worker
-    that was stopped and goes on later has nothing to rename."""
+    """A run as a worker has it. Files that are not whole are in a folder of the run, which the next run removes: a
+    worker that was stopped and goes on later has nothing to rename."""
     run: str
     words: List[str]
     library: str  # its digest
@@ -304,9 +352,9 @@ class Work:
         return False
 
     def do(self, tasks: List[Tuple[str, Tuple[Any, ...], Tuple[Any, ...]]]) -> List[Tuple[str, Any]]:
-        """What came of each task, which has a method, the fields of an input and arguments: `done` and a value, `touched`,
-        `again` and numbers of parts, `failed` and why, or `unfit` and why, if it is the worker that cannot go on. Small
-        inputs come together. They are answered side by side, as each waits for a disk or a server."""
+        """What came of each task, which has a method, the fields of an input and arguments: `done` and a value,
+        `touched`, `again` and numbers of parts, `failed` and why, or `unfit` and why, if it is the worker that cannot
+        go on. Small inputs come together. They are answered side by side, as each waits for a disk or a server."""
         with concurrent.futures.ThreadPoolExecutor(min(len(tasks), AT_ONCE)) as threads:
             return list(threads.map(self.outcome, *zip(*tasks)))
 
@@ -327,7 +375,8 @@ class Work:
     def answer(self, given: Given, index: int, start: int, end: Optional[int]) -> Dict[str, Any]:
         """Answers a block, unless a run did so and nothing has changed. Gives its record."""
         path, evidence = f"{given.folder}/part-{index:06}", f"{given.folder}/{OURS}-part-{index:06}.json"
-        basis = {"library": self.library, "modules": self.modules, "words": self.words, "url": given.url, "start": start,
+        basis = {"library": self.library, "modules": self.modules, "words": self.words, "url": given.url,
+                 "start": start,
                  "end": end, "input": given.told if VERSION_KEYS & given.told.keys() else self.run}
         for record in [self.place.read_record(evidence), *self.manifest(given)[index:index + 1]]:
             is_ours = {**record, **basis} == record and record.get("path") in (path, given.answers)
@@ -336,13 +385,16 @@ class Work:
         given.require_same()
         from sdtool import _runs
         total: Counter[str] = Counter()
-        digest = new_digest()
+        digest, read = new_digest(), new_digest()
+        pieces = given.pieces(start, end) if given.is_versioned else seen(given.pieces(start, end), read.update)
         with self.written(path) as file:
-            for answers in _runs.checked(self.words, given.pieces(start, end), total):
+            for answers in _runs.checked(self.words, pieces, total):
                 digest.update(answers)
                 file.write(answers)
             given.require_same()
         record = {**basis, "path": path, "at": 0, **total, "digest": digest.hexdigest()}
+        if not given.is_versioned:
+            record["read"] = read.hexdigest()
         return self.write_record(evidence, record)
 
     def manifest(self, given: Given) -> List[Dict[str, Any]]:
@@ -352,15 +404,18 @@ class Work:
         return self.manifests[given.folder]
 
     def compare(self, given: Given, index: int, record: Dict[str, Any]) -> None:
-        """Compares a part with its digest."""
+        """Compares a part with its digest, and a block of an input that has no version with what was read of it. That
+        is done when all blocks were read, so that all answers are to one state of the file."""
         if not self.is_whole(record):
             raise Damaged(index)
+        if not given.is_versioned and given.digest(record["start"], record["end"]) != record.get("read"):
+            raise given.changed()
 
     def answer_whole(self, given: Given, end: Optional[int]) -> Dict[str, int]:
         """Answers an input of one block."""
         record = self.answer(given, 0, 0, end)
         self.manifests.pop(given.folder, None)
-        if self.is_parts:
+        if self.is_parts or not given.is_versioned:
             self.compare(given, 0, record)
         return self.finish(given, [record])
 
@@ -399,11 +454,33 @@ class Work:
             return None
 
     def tidy(self, given: Given, count: int) -> None:
-        """Removes parts and evidence that the answers do not need."""
-        self.require_ownership()
+        """Removes parts and evidence that the answers do not need. A worker that is stopped here may go on when a later
+        run has files of these names. So each is renamed into the folder of this run first, which is gone then. Object
+        stores have no folders: there it looks again whose the output is, once a second."""
+        looked = 0.0
         for path, match in list(self.place.files_of(given.folder, PART, EVIDENCE)):
-            if not (self.is_parts and int(match[1]) < count):
-                self.place.fs.rm_file(path)
+            if self.is_parts and int(match[1]) < count:
+                continue
+            if not 0 <= time.time() - looked < 1:
+                self.require_ownership()
+                looked = time.time()
+            try:
+                self.remove(path)
+            except FileNotFoundError:  # a copy of this task has removed it, or a later run the folder of this one
+                self.require_ownership()
+
+    def remove(self, path: str) -> None:
+        if self.place.renames:
+            unneeded = f"{self.mine}/{uuid.uuid4().hex}"
+            self.place.move(path, unneeded)
+            path = unneeded
+        self.place.fs.rm_file(path)
+
+
+def seen(pieces: Iterator[bytes], see: Callable[[bytes], Any]) -> Iterator[bytes]:
+    for piece in pieces:
+        see(piece)
+        yield piece
 
 
 def reason_of(error: BaseException) -> str:

@@ -1,1 +1,1 @@
-"""What is asked about each object, and the knowledge that questions need."""
+"""The questions that are asked of objects. Each has a module, and nothing else is here."""

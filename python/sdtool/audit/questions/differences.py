@@ -2,23 +2,24 @@
 import collections
 from typing import Any, Callable, Dict, Iterable, Iterator, List, NamedTuple, Optional, Sequence, Tuple, Union
 
-from sdtool.audit.questions import names as sids
-from sdtool.audit.questions import rights
-from sdtool.audit.questions.answers import FLAGS, Ace, Descriptor, Refusal, answerable, converted, explained
-from sdtool.audit.reports.describing import ace_in_words
+from sdtool.audit.checks import Checks, as_owner, trustee_token, why_unanswerable
+from sdtool.audit.directory.trees import Repeats, is_cut, is_rest, unnamed
 from sdtool.audit.engine import NO_PLACES, Answered, Engine
-from sdtool.audit.questions.trees import Repeats, is_cut, is_rest, unnamed
-from sdtool.audit.reports.summing import ADDED, CHANGED, GONE, SAME
+from sdtool.audit.findings import ADDED, CHANGED, GONE, SAME, Answer, Finding, Rule, complete, unknown, unknown_of
+from sdtool.audit.library import FLAGS, Ace, Descriptor, Refusal, answerable, converted, explained
+from sdtool.audit.protocols import Context
 from sdtool.audit.sources.items import HEX, SDDL, UNREADABLE, Item, unreadable
 from sdtool.audit.sources.opening import OpeningFault
-from sdtool.audit.questions.asking import (Answer, Checks, Finding, Question, Rule, complete, trustee_token, unknown, unknown_of,
-                                    why_unanswerable, as_owner)
-from sdtool.audit.sources.scratch import COLUMNS, Scratch, item_of, row_of, stored
+from sdtool.audit.store.scratch import COLUMNS, Scratch, item_of, row_of, stored
+from sdtool.audit.windows import names as sids
+from sdtool.audit.windows import rights
+from sdtool.audit.windows.aces import ace_in_words
 
 _PAIR = "pair"
 _PART = "\0"  # between the parts of a text that is asked about; no descriptor has it
 _CONTROLS = ((0x1000, "DACL protected"), (0x2000, "SACL protected"), (0x400, "DACL made by inheritance"),
-             (0x800, "SACL made by inheritance"), (0x100, "DACL asks for inheritance"), (0x200, "SACL asks for inheritance"),
+             (0x800, "SACL made by inheritance"), (0x100, "DACL asks for inheritance"),
+             (0x200, "SACL asks for inheritance"),
              (0x1, "owner by default"), (0x2, "group by default"), (0x8, "DACL by default"), (0x20, "SACL by default"),
              (0x40, "bit 0x40"), (0x80, "bit 0x80"), (0x4000, "resource manager byte counts"))
 
@@ -42,19 +43,21 @@ class Differences:
     """Compares objects by name: by the content of their descriptors, not by their spelling."""
 
     rules = (Rule("owner", "The owner or the group changed."), Rule("ace", "An ACE was added, removed or changed."),
-             Rule("order", "The same ACEs are in another order."), Rule("acl", "An ACL as a whole came, went or became null."),
-             Rule("control", "A flag of the descriptor changed."), Rule("rights", "A trustee gets more or less than before."))
+             Rule("order", "The same ACEs are in another order."),
+             Rule("acl", "An ACL as a whole came, went or became null."),
+             Rule("control", "A flag of the descriptor changed."),
+             Rule("rights", "A trustee gets more or less than before."))
 
     asks_places = NO_PLACES
 
-    def __init__(self, common: Question) -> None:
-        self._common = common
+    def __init__(self, context: Context) -> None:
+        self._context = context
         self._scratch = Scratch()
         self._cut: Dict[str, Item] = {}  # what stands for the rest of a list
         self.seen = 0
 
     def __getstate__(self) -> Dict[str, Any]:
-        return {"_common": self._common}  # all that an answer takes
+        return {"_context": self._context}  # all that an answer takes
 
     def read(self, table: str, items: Iterable[Item], root: str = "") -> None:
         """Reads one of the lists, "old" or "new". Names are compared without the root that they begin with."""
@@ -75,11 +78,11 @@ class Differences:
             self._cut.setdefault(table, item)
 
     def answered(self, engine: Engine) -> Iterator[Answered]:
-        """Every object of both lists with its answer: those of the new list in its order, then those that are gone. What may
-        stand behind the place where the other list is cut is neither new nor gone."""
+        """Every object of both lists with its answer: those of the new list in its order, then those that are gone.
+        What may stand behind the place where the other list is cut is neither new nor gone."""
         yield from engine.answer(_joined(self._scratch, self._cut))
-        query = ("SELECT (SELECT count(*) FROM new) + count(*) FROM old LEFT JOIN new ON new.key = old.key AND new.nth = old.nth "
-                 "WHERE new.id IS NULL")
+        query = ("SELECT (SELECT count(*) FROM new) + count(*) FROM old LEFT JOIN new ON new.key = old.key AND new.nth "
+                 "= old.nth WHERE new.id IS NULL")
         self.seen = next(self._scratch.select(query))[0]
 
     def answer(self, form: str, kind: str, texts: Sequence[str], place: str = "") -> List[Answer]:
@@ -105,7 +108,7 @@ class Differences:
         return complete(answers)
 
     def _explained(self, sides: Sequence[_Side]) -> List[Union[Descriptor, Refusal]]:
-        return self._by_form(sides, lambda form, texts: explained(form, texts, self._common.domain))
+        return self._by_form(sides, lambda form, texts: explained(form, texts, self._context.domain))
 
     @staticmethod
     def _by_form(sides: Sequence[_Side], ask: Callable[[str, List[str]], List[Any]]) -> List[Any]:
@@ -125,7 +128,7 @@ class Differences:
         for to in dict.fromkeys(through):
             places = [at for at, one in enumerate(through) if one == to]
             both = [self._by_form([getattr(pairs[at], side) for at in places],
-                                  lambda form, texts: converted(form, texts, to, self._common.domain))
+                                  lambda form, texts: converted(form, texts, to, self._context.domain))
                     for side in ("old", "new")]
             for at, before, after in zip(places, *both):
                 same[at] = isinstance(before, str) and before == after
@@ -135,38 +138,42 @@ class Differences:
                  kind: str) -> Iterator[Tuple[int, List[Finding]]]:
         trustees = {at: _trustees(old[at], new[at]) for at in changed
                     if not why_unanswerable(old[at], kind) and not why_unanswerable(new[at], kind)}
-        before = self._granted([pair.old for pair in pairs], old, trustees, kind)
-        after = self._granted([pair.new for pair in pairs], new, trustees, kind)
+        too_many: Dict[int, Answer] = {}
+        before = self._granted([pair.old for pair in pairs], old, trustees, kind, too_many)
+        after = self._granted([pair.new for pair in pairs], new, trustees, kind, too_many)
         for at in changed:
             findings = list(self._differences(old[at], new[at], kind))
             if not findings:
                 findings.append(Finding("control", "", "", "the resource manager byte or a control bit"))
-            why = why_unanswerable(old[at], kind) or why_unanswerable(new[at], kind)
+            why = why_unanswerable(old[at], kind) or why_unanswerable(new[at], kind) or too_many.get(at)
             if why:
                 findings.append(Finding("rights", "", "", f"whose rights changed is unknown: {why.reason}"))
             told: Dict[Tuple[str, str], int] = {}
-            for sid in trustees.get(at, ()):
+            for sid in () if why else trustees[at]:
                 findings += self._of_rights(sid, before[at, sid], after[at, sid], kind, told)
             yield at, findings
 
-    def _granted(self, sides: Sequence[_Side], descriptors: Sequence[Any], trustees: Dict[int, List[str]],
-                 kind: str) -> Dict[Tuple[int, str], Dict[str, int]]:
-        """What trustees get: by object type, or '' for the object itself."""
+    def _granted(self, sides: Sequence[_Side], descriptors: Sequence[Any], trustees: Dict[int, List[str]], kind: str,
+                 too_many: Dict[int, Answer]) -> Dict[Tuple[int, str], Dict[str, int]]:
+        """What trustees get: by object type, or '' for the object itself. too_many takes why an object has none."""
         everything = rights.EVERYTHING[kind]
         found: Dict[Tuple[int, str], Dict[str, int]] = {}
         for form in dict.fromkeys(sides[at].form for at in trustees):
             checks = Checks(*answerable(form, [side.text for side in sides], descriptors, kind), kind, everything,
-                            self._common.domain)
+                            self._context.domain)
             places = [at for at in trustees if sides[at].form == form]
-            types = {at: ["", *_types(descriptors[at])] for at in places}
             for at in places:
+                checks.know(at, descriptors[at].deciding)
                 for sid in trustees[at]:
-                    for one in types[at]:
-                        checks.ask(at, trustee_token(sid), one)
+                    checks.ask(at, trustee_token(sid))
             checks.run()
             for at in places:
-                for sid in trustees[at]:
-                    found[at, sid] = {one: checks.mask(at, trustee_token(sid), one) for one in types[at]}
+                why = checks.too_many(at)
+                if why:
+                    too_many[at] = why
+                for sid in () if why else trustees[at]:
+                    token = trustee_token(sid)
+                    found[at, sid] = {one: checks.mask(at, token, one) for one in ("", *checks.types(at, token))}
         return found
 
     def _of_rights(self, sid: str, before: Dict[str, int], after: Dict[str, int], kind: str,
@@ -183,10 +190,11 @@ class Differences:
                     own[verb] = changed
                 if mask:
                     bound = f"only for object type {sids.object_type(one)}" if one else ""
-                    yield Finding("rights", self._common.names.named(sid), f"{verb} {rights.short_text(mask, kind)}", bound)
+                    yield Finding("rights", self._context.names.named(sid), f"{verb} {rights.short_text(mask, kind)}",
+                                  bound)
 
     def _differences(self, old: Descriptor, new: Descriptor, kind: str) -> Iterator[Finding]:
-        named = self._common.names.named
+        named = self._context.names.named
         for title, before, after in (("owner", old.owner, new.owner), ("group", old.group, new.group)):
             if before != after:
                 yield Finding("owner", "", "", f"{title}: {named(before) if before else 'none'}, then "
@@ -208,10 +216,10 @@ class Differences:
                 removed.remove(ace)
                 added.remove(partner)
                 yield Finding("ace", "", "", f"{title}: flags {_flags(ace)}, then {_flags(partner)}: "
-                                             f"{ace_in_words(partner, kind, self._common.names)}")
+                                             f"{ace_in_words(partner, kind, self._context.names)}")
         for verb, aces in (("removed", removed), ("added", added)):
             for ace in aces:
-                yield Finding("ace", "", "", f"{title}: {verb}: {ace_in_words(ace, kind, self._common.names)}")
+                yield Finding("ace", "", "", f"{title}: {verb}: {ace_in_words(ace, kind, self._context.names)}")
         if not surplus(old, new) and not surplus(new, old) and tuple(old) != tuple(new):
             yield Finding("order", "", "", f"{title}: the same ACEs in another order")
 
@@ -254,8 +262,8 @@ def _single(form: str, item: Item, cut: Optional[Item]) -> Item:
         return item._replace(text=f"{form}, and it can't be read: {item.text}")
     if cut is not None:
         which = "new" if form == GONE else "old"
-        return unreadable(item.name, item.source, item.line, f"not in what can be read of the {which} list: {cut.text}", cut.help,
-                          item.kind)
+        return unreadable(item.name, item.source, item.line,
+                          f"not in what can be read of the {which} list: {cut.text}", cut.help, item.kind)
     return item._replace(form=form, text=item.form + _PART + item.text)
 
 
@@ -308,7 +316,3 @@ def _trustees(old: Descriptor, new: Descriptor) -> List[str]:
         found[descriptor.owner] = None
     found.pop("", None)
     return list(found)
-
-
-def _types(descriptor: Descriptor) -> List[str]:
-    return list(dict.fromkeys(ace.object_type for ace in descriptor.deciding if ace.object_type))

@@ -6,21 +6,22 @@ from typing import Any, Dict, Iterable, Iterator, List, NamedTuple, Optional, Se
 
 import sdtool
 from sdtool._windows import CLASSES
-from sdtool.audit.questions import names as sids
-from sdtool.audit.questions.answers import ALLOWS, DENIES, INHERIT_ONLY, INHERITED, OTHERS, PROTECTED, Ace, Descriptor, Refusal, converted, derived, \
-    explained
 from sdtool.audit import files
+from sdtool.audit.directory.trails import Trails, places_of
+from sdtool.audit.directory.trees import folder_of, key_of
 from sdtool.audit.engine import NO_PLACES, Answered, Engine
-from sdtool.audit.questions.asking import (NOT_COMPARED, NOTHING, Answer, Finding, Question, Rule, answer_of, complete, unknown,
-                                            unknown_of)
-from sdtool.audit.questions.differences import surplus as surplus_of, surplus_places
-from sdtool.audit.questions.trails import Trails, places_of
-from sdtool.audit.questions.trees import folder_of, key_of
-from sdtool.audit.reports.describing import ace_in_words
-from sdtool.audit.questions.windows_defaults import place_of
+from sdtool.audit.findings import NOT_COMPARED, NOTHING, Answer, Finding, Rule, answer_of, complete, unknown, unknown_of
+from sdtool.audit.library import (ALLOWS, DENIES, INHERIT_ONLY, INHERITED, OTHERS, PROTECTED, Ace, Descriptor, Refusal,
+                                  converted, derived, explained)
+from sdtool.audit.masks import GENERIC, WITHOUT_MAPPING
+from sdtool.audit.protocols import Context
+from sdtool.audit.questions.differences import surplus as surplus_of
+from sdtool.audit.questions.differences import surplus_places
 from sdtool.audit.sources.items import SDDL, UNREADABLE, WITHOUT_OWNER, Item, unreadable
-from sdtool.audit.questions.rights import GENERIC, WITHOUT_MAPPING
-from sdtool.audit.sources.scratch import COLUMNS, Scratch, item_of, row_of
+from sdtool.audit.sources.places import place_of
+from sdtool.audit.store.scratch import COLUMNS, Scratch, item_of, row_of
+from sdtool.audit.windows import names as sids
+from sdtool.audit.windows.aces import ace_in_words
 
 _CHILD, _TOP = "child", "top"
 _PART = "\0"
@@ -62,14 +63,14 @@ class Inheritance:
 
     asks_places = NO_PLACES
 
-    def __init__(self, common: Question) -> None:
-        self._common = common
+    def __init__(self, context: Context) -> None:
+        self._context = context
         self._has_fixes = False
         self._fix_file: Optional[TextIO] = None
         self.seen = 0
 
     def __getstate__(self) -> Dict[str, Any]:
-        return {"_common": self._common, "_has_fixes": self._has_fixes}  # all that an answer takes
+        return {"_context": self._context, "_has_fixes": self._has_fixes}  # all that an answer takes
 
     @contextlib.contextmanager
     def fixing(self, path: Optional[str]) -> Iterator[None]:
@@ -92,7 +93,7 @@ class Inheritance:
         self.seen = next(scratch.select("SELECT count(*) FROM objects"))[0]
         file = self._fix_file
         writer = csv.writer(file, lineterminator="\n", quoting=csv.QUOTE_ALL) if file else None
-        trails = Trails(scratch, self._common.domain)
+        trails = Trails(scratch, self._context.domain)
         for answered in engine.answer(_children(scratch)):
             for finding in answered.answer.findings:
                 if writer and finding.rule == _FIX:
@@ -127,7 +128,7 @@ class Inheritance:
         found: List[Any] = [None] * len(sides)
         for form in dict.fromkeys(side[0] for side in sides):
             places = [at for at, side in enumerate(sides) if side[0] == form]
-            for at, one in zip(places, explained(form, [sides[at][1] for at in places], self._common.domain)):
+            for at, one in zip(places, explained(form, [sides[at][1] for at in places], self._context.domain)):
                 found[at] = one
         return found
 
@@ -136,7 +137,7 @@ class Inheritance:
         found: Dict[int, str] = {}
         for form in dict.fromkeys(side[0] for side in sides.values()):
             places = [at for at, side in sides.items() if side[0] == form]
-            for at, one in zip(places, converted(form, [sides[at][1] for at in places], SDDL, self._common.domain)):
+            for at, one in zip(places, converted(form, [sides[at][1] for at in places], SDDL, self._context.domain)):
                 assert isinstance(one, str)
                 found[at] = one
         return found
@@ -144,8 +145,8 @@ class Inheritance:
     def _spelled(self, children: Sequence[_Child], places: Sequence[int]) -> Dict[int, str]:
         return self._converted({at: (children[at].form, children[at].text) for at in places})
 
-    def _derived(self, children: Sequence[_Child], objects: Sequence[Any], folders: Sequence[Any], places: Sequence[int], what: str,
-                 kind: str) -> Dict[int, Union[_Handed, Refusal, None]]:
+    def _derived(self, children: Sequence[_Child], objects: Sequence[Any], folders: Sequence[Any],
+                 places: Sequence[int], what: str, kind: str) -> Dict[int, Union[_Handed, Refusal, None]]:
         """What each folder hands on to an object of its owner and group; None where the owner is needed and unknown."""
         found: Dict[int, Union[_Handed, Refusal, None]] = {at: None for at in places}
         spelled = self._converted({at: (children[at].folder_form, children[at].folder_text) for at in places})
@@ -168,8 +169,8 @@ class Inheritance:
     def _compared(self, found: Descriptor, handed: Dict[str, Union[_Handed, Refusal, None]], kind: str,
                   spelled: Optional[str]) -> Answer:
         if any(one is None for one in handed.values()):
-            return unknown("the folder hands on an ACE for the creator, and the object's owner or group isn't in the source",
-                           "export owner and group too, as Get-Acl does")
+            return unknown("the folder hands on an ACE for the creator, and the object's owner or group isn't in "
+                           "the source", "export owner and group too, as Get-Acl does")
         for one in handed.values():
             if isinstance(one, Refusal):
                 return unknown_of(one)
@@ -182,7 +183,8 @@ class Inheritance:
         if any(tuple(own) == one.aces for one in wanted.values()):
             return Answer(NOTHING)
         # The nearer of the two, if the source doesn't say what the object is.
-        what = min(wanted, key=lambda one: len(surplus_of(own, wanted[one].aces)) + len(surplus_of(wanted[one].aces, own)))
+        what = min(wanted, key=lambda one: len(surplus_of(own, wanted[one].aces)) +
+                   len(surplus_of(wanted[one].aces, own)))
         findings = list(self._differences(own, wanted[what], what == _FOLDER, kind))
         if spelled is not None:
             findings.append(self._fixed(found, spelled, wanted, what))
@@ -194,9 +196,10 @@ class Inheritance:
             folder = sdtool.SecurityDescriptor.from_sddl(handed.folder)
             above = places_of(folder, is_folder, handed.owner, handed.group, kind)
             for at in missing:
-                yield Finding("missing", "", "", ace_in_words(handed.aces[at], kind, self._common.names), above=above[at])
+                yield Finding("missing", "", "", ace_in_words(handed.aces[at], kind, self._context.names),
+                              above=above[at])
         for ace in surplus:
-            yield Finding("surplus", "", "", ace_in_words(ace, kind, self._common.names))
+            yield Finding("surplus", "", "", ace_in_words(ace, kind, self._context.names))
         if not missing and not surplus:
             yield Finding("order", "", "", "")
 
@@ -234,7 +237,8 @@ def _children(scratch: Scratch) -> Iterator[Item]:
              "folder.form, folder.text, folder.help, "
              "(SELECT count(DISTINCT form || text) FROM objects WHERE key = one.folder), one.of_class "
              "FROM objects AS one LEFT JOIN objects AS folder ON folder.id = "
-             "(SELECT min(id) FROM objects WHERE key = one.folder AND one.folder <> x'' AND id <> one.id) ORDER BY one.id")
+             "(SELECT min(id) FROM objects WHERE key = one.folder AND one.folder <> x'' AND id <> one.id) ORDER "
+             "BY one.id")
     for row in scratch.select(query):
         item = item_of(row[:8])
         has_children, folder_form, folder_text, advice, different, of_class = row[8:]
@@ -243,15 +247,18 @@ def _children(scratch: Scratch) -> Iterator[Item]:
         elif folder_form is None:
             yield item._replace(form=_TOP, text=item.form + _PART + item.text)
         elif folder_form == UNREADABLE:
-            yield unreadable(item.name, item.source, item.line, f"its folder can't be read: {folder_text}", advice, item.kind)
+            yield unreadable(item.name, item.source, item.line, f"its folder can't be read: {folder_text}",
+                             advice, item.kind)
         elif different > 1:
             yield unreadable(item.name, item.source, item.line, "its folder is in the source more than once",
                              "take one of them out", item.kind)
         else:
             # Every object of a directory can have others below it.
-            is_folder = item.is_folder if item.is_folder is not None else True if has_children or item.kind == "ds" else None
+            is_folder = (item.is_folder if item.is_folder is not None else True if has_children
+                         or item.kind == "ds" else None)
             what = _EITHER if is_folder is None else _FOLDER if is_folder else _FILE
-            yield item._replace(form=_CHILD, text=_PART.join([folder_form, folder_text, item.form, item.text, what, of_class]))
+            yield item._replace(form=_CHILD,
+                                text=_PART.join([folder_form, folder_text, item.form, item.text, what, of_class]))
 
 
 def _creator(found: Descriptor, folder: Descriptor) -> Tuple[str, str]:
@@ -287,7 +294,8 @@ def _unanswerable(found: Union[Descriptor, Refusal], folder: Union[Descriptor, R
         return answer._replace(reason=f"its folder can't be read: {answer.reason}")
     for ace in (*found.aces, *folder.aces):
         if ace.kind not in ALLOWS | DENIES | OTHERS:
-            return unknown(f"an ACE has the kind {ace.kind}, which isn't known here", "look at the object on its own system")
+            return unknown(f"an ACE has the kind {ace.kind}, which isn't known here",
+                           "look at the object on its own system")
     if kind in WITHOUT_MAPPING and any(ace.mask & GENERIC and ace.flags & _INHERITABLE for ace in folder.aces):
         return unknown(f"the folder hands on an ACE with a generic right, and the library has no mapping for {kind}",
                        "look at the object on its own system")
@@ -309,6 +317,7 @@ def _aces_of(sddl: str) -> List[str]:
 
 
 def _ace_text(ace: Ace) -> str:
-    flags = "".join(name for bit, name in ((1, "OI"), (2, "CI"), (4, "NP"), (8, "IO"), (16, "ID"), (64, "SA"), (128, "FA"))
+    flags = "".join(name for bit, name in ((1, "OI"), (2, "CI"), (4, "NP"), (8, "IO"), (16, "ID"), (64, "SA"),
+                                           (128, "FA"))
                     if ace.flags & bit)
     return f"({ace.kind};{flags};{ace.mask:#x};{ace.object_type};{ace.inherited_type};{ace.sid})"

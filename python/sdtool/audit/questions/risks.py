@@ -1,37 +1,38 @@
-"""What is risky about an object: rules with a name, a severity and a reason. windows/ has the rules and what they go by."""
+"""What is risky about an object: rules with a name, a severity and a reason. windows/ has the rules and what they go
+by."""
 import functools
 from typing import Callable, Dict, Iterable, Iterator, List, NamedTuple, Optional, Sequence, Set, Tuple
 
-from sdtool._windows import ABILITIES, SIDS
 from sdtool._windows import RULES as _RULES
-from sdtool.audit.questions import names as sids
-from sdtool.audit.questions import rights
-from sdtool.audit.questions.abilities import Abilities, class_names, is_harmless, is_own
-from sdtool.audit.questions.answers import (ALLOWS, CONTAINER_INHERIT, DENIES, INHERIT_ONLY, INHERITED, NO_DACL, NO_PROPAGATE,
-                                            OBJECT_INHERIT, PROTECTED, Ace, Descriptor, Refusal, ace_text, explained, mapped, mapped_below, spelled)
-from sdtool.audit.questions.asking import (LESSER, NO_MARK, NOTHING, OWNER_KEY, SEVERITIES as ORDER, Answer, Because, Checks,
-                                           Finding, Got, Mark, Question, Rule, answer_of, as_owner, ask_all, complete, got_of, mark_of, parts_of,
-                                           trustee_token, unknown_of, why_unanswerable)
-from sdtool.audit.questions.windows_defaults import Default, Defaults, Place, known_place
+from sdtool._windows import ABILITIES, QUIET, RISKS_OF, RULE_OF, SIDS
+from sdtool.audit.checks import Checks, as_owner, mark_of, shares_of, trustee_token, why_unanswerable
+from sdtool.audit.findings import SEVERITIES as ORDER
+from sdtool.audit.findings import (LESSER, NOTHING, Answer, Because, Finding, Mark, Rule, answer_of, complete,
+                                   owner_key, unknown_of)
+from sdtool.audit.library import (ALLOWS, CONTAINER_INHERIT, DENIES, INHERIT_ONLY, INHERITED, NO_DACL, NO_PROPAGATE,
+                                  OBJECT_INHERIT, PROTECTED, Ace, Descriptor, Got, Refusal, ace_text, explained, mapped,
+                                  mapped_below, spelled)
+from sdtool.audit.masks import WITHOUT_MAPPING
+from sdtool.audit.protocols import Context
+from sdtool.audit.sources.places import Place, known_place
+from sdtool.audit.windows import names as sids
+from sdtool.audit.windows import rights
+from sdtool.audit.windows.abilities import Abilities, Gives, Where, class_names, is_harmless, is_own
+from sdtool.audit.windows.classes import Group, as_one_of, groups_of, here, of_any
+from sdtool.audit.windows.defaults import Default, Defaults
 
 _OF_ABILITIES = {one["name"]: (one["severity"], one["says"]) for one in reversed(ABILITIES)}
-RULES = (*(Rule(name, reason, severity) for name, severity, _, reason, _ in _RULES),
+RULES = (*(Rule(name, reason, severity) for name, severity, _, reason, *_ in _RULES),
          *(Rule(name, f"Somebody who isn't trusted can {_OF_ABILITIES[name][1]}.", _OF_ABILITIES[name][0])
            for name in dict.fromkeys(one["name"] for one in ABILITIES)))
 RULE_NAMES = tuple(rule.name for rule in RULES)
 SEVERITIES = {rule.name: rule.severity for rule in RULES}
+_OF_DIRECTORY = {**SEVERITIES, **{row[0]: row[5] for row in _RULES}}
 _OFF = frozenset(row[0] for row in _RULES if row[2])
 DEFAULT_RULES = tuple(name for name in RULE_NAMES if name not in _OFF)
-# The rule for each class of everybody, and the risks of rights that count for it.
-_RULE_OF = {sids.ANYONE: "everyone-changes", sids.LOGGED_ON: "users-change", sids.APPLICATION: "apps-change"}
-_RISKS_OF = {sids.ANYONE: ("takeover", "everybody", "anyone", "anonymous"), sids.LOGGED_ON: ("takeover", "everybody"),
-             sids.APPLICATION: ("takeover", "everybody")}
-_QUIET = frozenset({sids.STAND_IN, sids.PACKAGE})
-# Kinds whose rights run code as another account: there the accounts that services share aren't trusted.
-_STRICT = frozenset({"service", "service-manager"})
 
 
-class Lists(NamedTuple):
+class RiskOptions(NamedTuple):
     """What the words of the command line say."""
 
     trust: sids.Trust = sids.Trust()
@@ -40,19 +41,30 @@ class Lists(NamedTuple):
     accounts: Dict[str, str] = {}
     of_classes: Tuple[Default, ...] = ()
     named_types: Dict[str, str] = {}  # object types that have another GUID in each forest, by name
-    heirs: Dict[str, Dict[Tuple[str, str], int]] = {}  # of objects: how many have inherited an ACE of a trustee and object type
+    # of objects: how many have inherited an ACE of a trustee and object type
+    heirs: Dict[str, Dict[Tuple[str, str], int]] = {}
     severity: str = ORDER[-1]  # of the slightest findings
 
 
 class _Wanted(NamedTuple):
-    """Which rights of a trustee are a finding, and by which rule; and which are one for reading."""
+    """Which rights of a trustee are a finding, and by which rule; which are one for reading, and which in what is made
+    below."""
 
     rule: str
     mask: int
     read: int = 0
+    below: int = 0
 
 
 _NOTHING_WANTED = _Wanted("", 0)
+
+# What grants rights, here or for an object type.
+_Why = Callable[[int, str], Tuple[Because, ...]]
+
+
+def _unsaid(mask: int, object_type: str) -> Tuple[Because, ...]:
+    """What grants rights of a finding that is not told."""
+    return ()
 
 
 class _View(NamedTuple):
@@ -60,17 +72,38 @@ class _View(NamedTuple):
 
     checks: Checks
     at: int
+    is_denied: bool  # whether an ACE denies
     numbers: Optional[Sequence[int]] = None  # of its ACEs in the object's DACL, if it hasn't all of them
 
     def because(self, sid: str, aces: Sequence[Ace], mask: int, object_type: str = "") -> Tuple[Because, ...]:
         """What grants a trustee rights. aces are those of the object."""
         return self.checks.because(self.at, trustee_token(sid), mask, aces, object_type, True, self.numbers)
 
-    def ask(self, sid: str, types: Sequence[str] = ()) -> None:
-        ask_all(self.checks, self.at, trustee_token(sid), types)
+    def why(self, sid: str, aces: Sequence[Ace]) -> _Why:
+        """What tells what grants a trustee rights, or nothing without the ACEs."""
+        if not aces:
+            return _unsaid
+        return functools.partial(self.because, sid, aces)
 
-    def got(self, sid: str, types: Sequence[str], mask: int) -> Got:
-        return got_of(self.checks, self.at, trustee_token(sid), types, mask)
+    def ask(self, sid: str) -> None:
+        self.checks.ask(self.at, trustee_token(sid))
+
+    def got(self, sid: str, mask: int) -> Got:
+        return self.checks.got(self.at, trustee_token(sid), mask)
+
+    def gives(self, sid: str, own: Sequence[str]) -> Gives:
+        """What answers whether a trustee has a right for object types, of an object whose class is one of own."""
+        token = trustee_token(sid)
+        of_class = [one for one in self.checks.types(self.at, token) if is_own(one, own)]
+        return functools.partial(self.checks.gives, self.at, token, of_class)
+
+    def keeps(self, sid: str, own: Sequence[str]) -> Gives:
+        """The same about a right that an ACE gives: only one that denies takes it."""
+        return self.gives(sid, own) if self.is_denied else _kept
+
+
+def _kept(right: int, types: Sequence[str]) -> bool:
+    return True
 
 
 class _Views:
@@ -82,37 +115,53 @@ class _Views:
         self._texts: List[str] = []
         self._changed = Checks("sddl", self._texts, kind, mask, "")
 
-    def plain(self, at: int) -> _View:
-        return _View(self._plain, at)
+    def plain(self, at: int, aces: Sequence[Ace]) -> _View:
+        """A descriptor with the ACEs that decide about it."""
+        return self._view(self._plain, at, aces)
 
-    def changed(self, text: str, numbers: Sequence[int]) -> _View:
+    def changed(self, text: str, numbers: Sequence[int], aces: Sequence[Ace]) -> _View:
         self._texts.append(text)
-        return _View(self._changed, len(self._texts) - 1, numbers)
+        return self._view(self._changed, len(self._texts) - 1, aces)._replace(numbers=numbers)
+
+    @staticmethod
+    def _view(checks: Checks, at: int, aces: Sequence[Ace]) -> _View:
+        checks.know(at, aces)
+        return _View(checks, at, any(ace.kind in DENIES for ace in aces))
 
     def run(self) -> None:
         self._plain.run()
         self._changed.run()
 
 
-# What grants rights, here or for an object type.
-_Why = Callable[[int, str], Tuple[Because, ...]]
+class _About(NamedTuple):
+    """What answers about a trustee, of an object without what is excused and of all of it: whether rights are given,
+    and why."""
+
+    where: Where
+    gives: Gives
+    gives_all: Gives
+    why: _Why
+    why_all: _Why
 
 
-def _unsaid(mask: int, object_type: str) -> Tuple[Because, ...]:
-    """What grants rights of a finding that is not told."""
-    return ()
+def _about(sid: str, view: _View, whole: _View, where: Where, aces: Sequence[Ace]) -> _About:
+    """aces are those of the object, for what is told."""
+    return _About(where, view.keeps(sid, where.own), whole.gives(sid, where.own), view.why(sid, aces),
+                  whole.why(sid, aces))
 
 
 class _Case(NamedTuple):
-    """What is asked about a descriptor: its trustees here, and below with the classes of the objects that inherit."""
+    """What is asked about a descriptor: its trustees here, and below with the classes of the objects that inherit. It
+    is one of several if an object's class isn't known: groups has those that it is about."""
 
+    place: Place
+    groups: Sequence[Group]
     whole: _View
     own: _View  # without what is excused
     children: Sequence[_View]  # each sort of what inherits
     here: Dict[str, _Wanted]
     below: Dict[str, List[Ace]]
     owner: str
-    types: Sequence[str]
 
 
 class Risks:
@@ -121,20 +170,20 @@ class Risks:
     rules = RULES
     asks_places = "all"
 
-    def __init__(self, common: Question, lists: Lists) -> None:
-        self._common, self._lists = common, lists
-        self._on = frozenset(lists.rules)
-        self._most_slight = ORDER.index(lists.severity)
-        self._defaults = Defaults(lists.trust, lists.accounts, lists.of_classes)
-        self._abilities = Abilities(self._on, lists.trust, lists.named_types)
+    def __init__(self, context: Context, options: RiskOptions) -> None:
+        self._context, self._options = context, options
+        self._on = frozenset(options.rules)
+        self._most_slight = ORDER.index(options.severity)
+        self._defaults = Defaults(options.trust, options.accounts, options.of_classes)
+        self._abilities = Abilities(self._on, options.trust, options.named_types)
         self._known: Dict[Tuple[str, str], _Wanted] = {}
 
     def answer(self, form: str, kind: str, texts: Sequence[str], place: str = "") -> List[Answer]:
-        descriptors = explained(form, texts, self._common.domain)
+        descriptors = explained(form, texts, self._context.domain)
         answers: List[Optional[Answer]] = [None] * len(texts)
-        views = _Views(form, texts, kind, self._common.domain)
+        views = _Views(form, texts, kind, self._context.domain)
         where = known_place(place, kind)
-        cases: Dict[int, _Case] = {}
+        cases: Dict[int, List[_Case]] = {}
         for at, descriptor in enumerate(descriptors):
             if isinstance(descriptor, Refusal):
                 answers[at] = unknown_of(descriptor)
@@ -144,13 +193,36 @@ class Risks:
             else:
                 answers[at] = why_unanswerable(descriptor, kind)
                 if answers[at] is None:
-                    cases[at] = self._case(views, at, descriptor, kind, where)
+                    cases[at] = [self._case(views, at, descriptor, kind, one, groups)
+                                 for one, groups in self._places(descriptor, kind, where)]
         views.run()
-        for at, case in cases.items():
+        for at, of_object in cases.items():
             descriptor = descriptors[at]
             assert isinstance(descriptor, Descriptor)
-            answers[at] = self._answer(self._findings(case, descriptor, kind, where), descriptor, kind)
+            answers[at] = next(filter(None, map(_too_many, of_object)), None) or \
+                self._answer(self._found(of_object, descriptor, kind), descriptor, kind)
         return complete(answers)
+
+    def _places(self, descriptor: Descriptor, kind: str, place: Place) -> Iterable[Tuple[Place, Sequence[Group]]]:
+        """The place of an object, or those that it may have if its class isn't known: with the ACEs that are excused in
+        some classes alone, and these."""
+        groups = groups_of(descriptor, kind, place, self._abilities) if descriptor.dacl == "list" else []
+        if groups in ([], [()]):
+            return [(place, groups)]
+        open_aces = [(number, ace) for number, ace in enumerate(descriptor.aces, 1)
+                     if ace.kind in ALLOWS and not self._defaults.excuse(ace, kind, place)]
+        found: Dict[Tuple[int, ...], List[Group]] = {}
+        for group in groups:
+            of_class = place._replace(classes=group[:1])
+            excused = tuple(number for number, ace in open_aces if self._defaults.excuse(ace, kind, of_class))
+            found.setdefault(excused, []).append(group)
+        return [(place._replace(handed_on=place.handed_on + excused), listed) for excused, listed in found.items()]
+
+    def _found(self, cases: Sequence[_Case], descriptor: Descriptor, kind: str) -> Iterable[Finding]:
+        if not cases[0].groups:
+            return self._findings(cases[0], descriptor, kind, here(cases[0].place))
+        return of_any((group, self._findings(case, descriptor, kind, as_one_of(group, case.place)))
+                      for case in cases for group in case.groups)
 
     def _answer(self, findings: Iterable[Finding], descriptor: Descriptor, kind: str) -> Answer:
         """The answer of findings, each with its ACEs. Those that are too slight are left out."""
@@ -159,7 +231,8 @@ class Risks:
             return found
         kept = [one for one in found.findings if ORDER.index(one.severity) <= self._most_slight]
         answer = answer_of(one._replace(mark=_mark(one, descriptor, kind)) for one in kept)
-        return answer._replace(status=LESSER) if answer.status == NOTHING and len(kept) < len(found.findings) else answer
+        return (answer._replace(status=LESSER) if answer.status == NOTHING and len(kept) < len(found.findings)
+                else answer)
 
     # What is asked.
 
@@ -173,16 +246,22 @@ class Risks:
 
     def _wanted_of(self, sid: str, kind: str) -> _Wanted:
         """What of a trustee's rights is a finding."""
-        if self._lists.trust.has(sid):
+        if self._options.trust.has(sid):
             return _NOTHING_WANTED
         who = sids.everybody_class(sid)
+        rule = rights.RULE_OF.get(kind, "")
+        if rule:
+            is_wanted = rule in self._on and (who or not _is_quiet(sid, kind))
+            return _Wanted(rule, rights.FULL[kind]) if is_wanted else _NOTHING_WANTED
         read = rights.WORDS["read"][kind] if who and "readable" in self._on else 0
-        if who and _RULE_OF[who] in self._on:
-            risks = tuple(risk for risk in _RISKS_OF[who] if risk != "anonymous" or sid == sids.ANONYMOUS)
-            return _Wanted(_RULE_OF[who], rights.risk_of(kind, risks), read)
+        risks = tuple(risk for risk in RISKS_OF.get(who, ()) if risk != "anonymous" or sid == sids.ANONYMOUS)
+        changing = rights.risk_of(kind, risks)
+        below = changing if "children-change" in self._on else 0
+        if who and RULE_OF[who] in self._on:
+            return _Wanted(RULE_OF[who], changing, read, below)
         if "takeover" not in self._on or not who and _is_quiet(sid, kind):
-            return _Wanted("", 0, read)
-        return _Wanted("takeover", rights.risk_of(kind, ("takeover",)), read)
+            return _Wanted("", 0, read, below)
+        return _Wanted("takeover", rights.risk_of(kind, ("takeover",)), read, below)
 
     def _concerns(self, ace: Ace, sid: str, wanted: _Wanted, kind: str) -> bool:
         """Whether an ACE may give a trustee what is a finding."""
@@ -192,14 +271,16 @@ class Risks:
             if is_harmless(ace):
                 return False
         mask = mapped_below(ace, kind) if ace.flags & rights.inherits(kind) else 0
-        return bool((mask | mapped(ace.mask, kind) if ace.decides else mask) & (wanted.mask | wanted.read))
+        return bool((mask | mapped(ace.mask, kind) if ace.decides else mask) & (wanted.mask | wanted.read)
+                    or mask & wanted.below)
 
-    def _case(self, views: _Views, at: int, descriptor: Descriptor, kind: str, place: Place) -> _Case:
-        whole = views.plain(at)
-        here: Dict[str, _Wanted] = {}
+    def _case(self, views: _Views, at: int, descriptor: Descriptor, kind: str, place: Place,
+              groups: Sequence[Group]) -> _Case:
+        whole = views.plain(at, descriptor.deciding)
+        asked: Dict[str, _Wanted] = {}
         below: Dict[str, List[Ace]] = {}
         if descriptor.dacl != "list":
-            return _Case(whole, whole, (), here, below, "", ())
+            return _Case(place, groups, whole, whole, (), asked, below, "")
         is_directory, inheriting = kind in rights.DIRECTORY, rights.inherits(kind)
         # What an ACE that denies takes here, children may get all the same; and a generic right may mean more for them.
         is_denied = any(ace.kind in DENIES for ace in descriptor.aces)
@@ -209,48 +290,43 @@ class Risks:
                 sid = as_owner(ace.sid, descriptor)
                 wanted = self._wanted(sid, kind) if sid else _NOTHING_WANTED
                 if sid and self._concerns(ace, sid, wanted, kind):
-                    if ace.flags & INHERITED and place.has_parent or self._defaults.excuse(ace, kind, place):
+                    if number in place.handed_on or sid in place.makers or self._defaults.excuse(ace, kind, place):
                         continue
                     if ace.decides:
-                        here[sid] = wanted
-                    has_more = is_denied or ace.flags & INHERIT_ONLY or mapped_below(ace, kind) & ~mapped(ace.mask, kind)
+                        asked[sid] = wanted
+                    has_more = (is_denied or ace.flags & INHERIT_ONLY
+                                or mapped_below(ace, kind) & ~mapped(ace.mask, kind))
                     if ace.flags & inheriting and (is_directory or has_more and sids.everybody_class(ace.sid)):
                         below.setdefault(sid, []).append(ace)
             kept.append(number)
-        case = _Case(whole, whole, (), here, below, self._asked_owner(descriptor, kind), ())
-        return self._asked(views, descriptor, kind, case, kept) if here or below or case.owner else case
+        case = _Case(place, groups, whole, whole, (), asked, below, self._asked_owner(descriptor, kind, place))
+        return self._asked(views, descriptor, kind, case, kept) if asked or below or case.owner else case
 
     def _asked(self, views: _Views, descriptor: Descriptor, kind: str, case: _Case, kept: Sequence[int]) -> _Case:
         """Asks the library what a case needs. Of the ACEs those count that are kept, by their numbers."""
-        own, types = case.whole, []
+        own = case.whole
         children: List[_View] = []
         aces = [descriptor.aces[number - 1] for number in kept]
-        if len(kept) < len(descriptor.aces) or kind in rights.WITHOUT_MAPPING:
-            own = views.changed(spelled(descriptor, [ace_text(ace, ace.flags, mapped(ace.mask, kind)) for ace in aces]), kept)
-        if kind in rights.DIRECTORY:
-            types = list(dict.fromkeys(ace.object_type for ace in aces if ace.object_type and ace.kind in ALLOWS))
-        asked = [*case.here, *case.below]
-        for sid in asked:
-            for one in (sid, *_wider(sid, asked)):
-                own.ask(one, types)
-            if kind in rights.DIRECTORY:
-                case.whole.ask(sid, self._abilities.whole_types)
-        if case.owner:
-            own.ask(case.owner)
+        if len(kept) < len(descriptor.aces) or kind in WITHOUT_MAPPING:
+            texts = [ace_text(ace, ace.flags, mapped(ace.mask, kind)) for ace in aces]
+            own = views.changed(spelled(descriptor, texts), kept, [ace for ace in aces if ace.decides])
+        for sid in (*case.here, *case.below, *filter(None, (case.owner,))):
+            own.ask(sid)
         if case.below:
             handed_on = [number for number in kept if _is_handed_on(descriptor.aces[number - 1], kind)]
             for numbers in _sorts(descriptor, handed_on, kind, [ace for aces in case.below.values() for ace in aces]):
-                child = views.changed(_child_text(descriptor, [descriptor.aces[number - 1] for number in numbers], kind), numbers)
+                inherited = [descriptor.aces[number - 1] for number in numbers]
+                children.append(views.changed(_child_text(descriptor, inherited, kind), numbers, inherited))
                 for sid in case.below:
-                    for one in (sid, *_wider(sid, case.below)):
-                        child.ask(one, types)
-                children.append(child)
-        return case._replace(own=own, children=children, types=types)
+                    children[-1].ask(sid)
+        return case._replace(own=own, children=children)
 
-    def _asked_owner(self, descriptor: Descriptor, kind: str) -> str:
+    def _asked_owner(self, descriptor: Descriptor, kind: str, place: Place) -> str:
         """The owner, if it isn't trusted."""
         owner = descriptor.owner
-        if "foreign-owner" not in self._on or not owner or owner in self._lists.owners or self._lists.trust.has(owner):
+        if "foreign-owner" not in self._on or kind in rights.RULE_OF or not owner:
+            return ""
+        if owner in (*self._options.owners, *place.makers) or self._options.trust.has(owner):
             return ""
         if sids.everybody_class(owner):
             return owner
@@ -258,8 +334,9 @@ class Risks:
 
     # What is found.
 
-    def _findings(self, case: _Case, descriptor: Descriptor, kind: str, place: Place) -> Iterator[Finding]:
-        # Each right is found once: by the rule for the DACL as a whole, for the owner, for a wider group, or for those left.
+    def _findings(self, case: _Case, descriptor: Descriptor, kind: str, where: Where) -> Iterator[Finding]:
+        # Each right is found once: by the rule for the DACL as a whole, for the owner, for a wider group, or for those
+        # left.
         if descriptor.dacl != "list":
             everything = rights.short_text(rights.FULL[kind], kind)
             yield from self._of("no-dacl" if descriptor.dacl == "absent" else "null-dacl", sids.EVERYONE, everything,
@@ -267,93 +344,109 @@ class Risks:
         else:
             if not descriptor.aces:
                 yield from self._of("empty-dacl", "", "")
-            of_owner = case.own.got(case.owner, (), rights.WRITE_DAC).mask if case.owner else 0
+            of_owner = case.own.got(case.owner, rights.WRITE_DAC).mask if case.owner else 0
             if of_owner:
-                yield from self._of("foreign-owner", case.owner, rights.text(of_owner, kind), "", of_owner,
-                                    case.own.because(case.owner, descriptor.aces, of_owner))
+                because = case.own.because(case.owner, descriptor.aces, of_owner)
+                yield from self._of(_OWNER, case.owner, rights.text(of_owner, kind), "", of_owner, because,
+                                    severity_of(_OWNER, kind, case.owner))
             # Wider groups come first.
-            for sid, wanted in sorted(case.here.items(), key=lambda one: RULE_NAMES.index(one[1].rule) if one[1].rule else 0):
+            for sid, wanted in sorted(case.here.items(),
+                                      key=lambda one: RULE_NAMES.index(one[1].rule) if one[1].rule else 0):
                 if sid == descriptor.owner and rights.is_owner_usual(kind) and not sids.everybody_class(sid):
                     continue
-                got = self._got(case.own, sid, case.here, case, kind)
-                why = functools.partial(case.own.because, sid, descriptor.aces)
+                about = _about(sid, case.own, case.whole, where, descriptor.aces)
+                got = self._beyond(case.own, sid, case.here, case.whole, kind, where)
                 own = _without(got, Got(of_owner if sid == case.owner else 0, ()))
-                yield from self._of_got(sid, wanted, own, kind, place, case, why,
-                                        functools.partial(case.whole.because, sid, descriptor.aces))
-            yield from self._of_below(case, descriptor.aces, kind, place)
+                yield from self._of_got(sid, wanted, own, kind, case.place, about)
+            yield from self._of_below(case, descriptor.aces, kind, where)
             yield from self._of_list(descriptor)
-        if self._common.names.given:
+        if self._context.names.given:
             yield from self._of_unknown_sids(descriptor)
 
-    def _got(self, view: _View, sid: str, among: Iterable[str], case: _Case, kind: str) -> Got:
+    def _beyond(self, view: _View, sid: str, among: Iterable[str], whole: _View, kind: str, where: Where,
+                is_below: bool = False) -> Got:
         """What a trustee gets beyond what is found of wider groups."""
-        got = view.got(sid, case.types, rights.EVERYTHING[kind])
+        got = view.got(sid, rights.EVERYTHING[kind])
         for group in _wider(sid, among):
-            wanted = self._wanted(group, kind)
-            if wanted.rule:
-                got = _without(got, view.got(group, case.types, wanted.mask | wanted.read))
+            got = _without(got, self._told(view, group, whole, kind, where, is_below))
         return got
 
-    def _of_got(self, sid: str, wanted: _Wanted, got: Got, kind: str, place: Place, case: _Case, why: _Why = _unsaid,
-                why_whole: _Why = _unsaid) -> Iterator[Finding]:
-        yield from self._of_mask("readable", sid, _only(got, wanted.read), kind, "", why, got.mask, wanted.read)
-        if kind not in rights.DIRECTORY:
-            yield from self._of_mask(wanted.rule, sid, _only(got, wanted.mask), kind, "", why, got.mask, wanted.mask)
-            return
-        whole = dict(case.whole.got(sid, self._abilities.whole_types, rights.EVERYTHING[kind]).by_type)
-        plain = case.whole.got(sid, (), rights.EVERYTHING[kind]).mask
-        whole = {one: whole.get(one, 0) | plain for one in self._abilities.whole_types}
-        yield from self._of_directory(sid, wanted, got, kind, place.classes, whole, place, "", why, why_whole)
+    def _told(self, view: _View, sid: str, whole: _View, kind: str, where: Where, is_below: bool) -> Got:
+        """What the findings about a wider group tell of its rights."""
+        wanted, got = self._wanted(sid, kind), view.got(sid, rights.EVERYTHING[kind])
+        if kind not in rights.DIRECTORY and is_below:
+            return _only(got, wanted.below)
+        told = _only(got, wanted.mask | wanted.read)
+        if kind not in rights.DIRECTORY or _is_of_everybody(wanted):
+            return told
+        masks = {"": told.mask, **dict(told.by_type)}
+        about = _about(sid, view, whole, where, ())
+        for one in self._abilities.had(sid, got, where, about.gives, about.gives_all):
+            for object_type in one.types:
+                masks[object_type] = masks.get(object_type, 0) | one.mask
+        return Got(masks.pop(""), tuple(masks.items()))
 
-    def _of_directory(self, sid: str, wanted: _Wanted, got: Got, kind: str, classes: Sequence[str], whole: Dict[str, int],
-                      place: Place, where: str, why: _Why, why_whole: _Why) -> Iterator[Finding]:
-        own = classes if where else classes[-1:]
+    def _of_got(self, sid: str, wanted: _Wanted, got: Got, kind: str, place: Place, about: _About) -> Iterator[Finding]:
+        yield from self._of_mask("readable", sid, _only(got, wanted.read), kind, "", about.why, got.mask, wanted.read)
+        if kind in rights.DIRECTORY:
+            yield from self._of_directory(sid, wanted, got, kind, place, "", about)
+        else:
+            own = _only(got, wanted.mask)
+            yield from self._of_mask(wanted.rule, sid, own, kind, "", about.why, got.mask, wanted.mask)
+
+    def _of_directory(self, sid: str, wanted: _Wanted, got: Got, kind: str, place: Place, below: str,
+                      about: _About) -> Iterator[Finding]:
+        where = about.where
         over = [(one, mask) for one, mask in (("", got.mask), *got.by_type)
-                if mask & wanted.mask & rights.TAKE_OVER and (not one or is_own(one, own))]
+                if mask & wanted.mask & rights.TAKE_OVER and (not one or is_own(one, where.own))]
         for one, mask in over[:1]:
             # Who can change permissions or the owner has every other right too.
-            said = _joined(where, self._heirs(place, sid, one))
+            said = _joined(below, self._heirs(place, sid, one))
             changing = mask & rights.WORDS["change"][kind]
-            yield from self._of_mask(wanted.rule, sid, Got(0, ((one, changing),)) if one else Got(changing, ()), kind, said, why)
+            all_got = Got(0, ((one, changing),)) if one else Got(changing, ())
+            yield from self._of_mask(wanted.rule, sid, all_got, kind, said, about.why)
             return
-        had = self._abilities.had(sid, got, whole, classes, own, place.is_of_accounts)
-        for rule, mask, object_type, says, types in had:
-            bound = f", only for object type {sids.object_type(object_type)}" if object_type else ""
-            said = _joined(says + bound, where, self._heirs(place, sid, object_type))
-            of_types = why if types == (object_type,) else why_whole
-            because = tuple(dict.fromkeys(found for one in types for found in of_types(mask, one)))
-            yield from self._of(rule, sid, rights.short_text(mask, kind), said, mask, because)
-        if wanted.rule != "takeover":
-            said = _joined(where, self._heirs(place, sid, ""))
-            yield from self._of_mask(wanted.rule, sid, _only(self._abilities.rest(got, had), wanted.mask), kind, said, why)
+        all_had = self._abilities.had(sid, got, where, about.gives, about.gives_all, _is_of_everybody(wanted))
+        for had in all_had:
+            bound = f", only for object type {sids.object_type(had.object_type)}" if had.object_type else ""
+            said = _joined(had.says + bound, below, self._heirs(place, sid, had.object_type))
+            of_types = about.why if had.types == (had.object_type,) else about.why_all
+            because = tuple(dict.fromkeys(found for one in had.types for found in of_types(had.mask, one)))
+            yield from self._of(had.rule, sid, rights.short_text(had.mask, kind), said, had.mask, because, had.severity)
+        if _is_of_everybody(wanted):
+            said = _joined(below, self._heirs(place, sid, ""))
+            rest = self._abilities.rest(got, all_had, where)
+            yield from self._of_mask(wanted.rule, sid, _only(rest, wanted.mask), kind, said, about.why)
 
     def _heirs(self, place: Place, sid: str, object_type: str) -> str:
         """How many objects of the source have inherited what is found here."""
-        count = self._lists.heirs.get(place.heirs, {}).get((sid, object_type), 0) if place.heirs else 0
+        count = self._options.heirs.get(place.heirs, {}).get((sid, object_type), 0) if place.heirs else 0
         return f"{count} objects below inherit it" if count else ""
 
-    def _of_below(self, case: _Case, aces: Sequence[Ace], kind: str, place: Place) -> Iterator[Finding]:
+    def _of_below(self, case: _Case, aces: Sequence[Ace], kind: str, where: Where) -> Iterator[Finding]:
         """What is granted in what is made in an object, and not here."""
         if not case.children:
             return
-        where = f"in {rights.child_of(kind)}"
+        place, below = case.place, f"in {rights.child_of(kind)}"
         for sid, listed in case.below.items():
             classes = class_names(ace.inherited_type for ace in listed)
             wanted = self._wanted(sid, kind)
-            had = case.own.got(sid, case.types, rights.EVERYTHING[kind])
-            told = {(one.rule, one.rights) for one in self._of_got(sid, wanted, had, kind, place, case)} if kind in rights.DIRECTORY \
-                else set()
+            had = case.own.got(sid, rights.EVERYTHING[kind])
+            of_object = _about(sid, case.own, case.whole, where, ())
+            told = {(one.rule, one.rights) for one in self._of_got(sid, wanted, had, kind, place, of_object)} \
+                if kind in rights.DIRECTORY else set()
             known: Set[Tuple[str, str, str]] = set()
             for child in case.children:
-                got = self._got(child, sid, case.below, case, kind)
-                why = functools.partial(child.because, sid, aces)
+                about = _about(sid, child, child, Where(classes, classes, False), aces)
+                got = self._beyond(child, sid, case.below, child, kind, about.where, True)
                 if kind not in rights.DIRECTORY:
                     more = _without(got, had)
                     had = Got(had.mask | more.mask, ())
-                    yield from self._of_mask("children-change", sid, _only(more, wanted.mask), kind, where, why, more.mask, wanted.mask)
+                    own = _only(more, wanted.below)
+                    yield from self._of_mask("children-change", sid, own, kind, below, about.why, more.mask,
+                                             wanted.below)
                     continue
-                for one in self._of_directory(sid, wanted, got, kind, classes, {}, place._replace(is_of_accounts=False),
-                                              where, why, why):
+                for one in self._of_directory(sid, wanted, got, kind, place, below, about):
                     if (one.rule, one.rights) not in told and (one.rule, one.rights, one.text) not in known:
                         known.add((one.rule, one.rights, one.text))
                         yield one
@@ -370,43 +463,60 @@ class Risks:
         for sid, place in ([(descriptor.owner, "owner"), (descriptor.group, "group")]
                            + [(ace.sid, "DACL") for ace in descriptor.aces]
                            + [(ace.sid, "SACL") for ace in descriptor.sacl_aces if ace.kind != "ML"]):
-            if sid and not self._common.names.knows(sid) and place not in places.setdefault(sid, []):
+            if sid and not self._context.names.knows(sid) and place not in places.setdefault(sid, []):
                 places[sid].append(place)
         for sid, found in places.items():
             yield from self._of("unknown-sid", sid, "", f"in {', '.join(found)}")
 
     def _of_mask(self, rule: str, sid: str, got: Got, kind: str, text: str, why: _Why, had: int = 0,
                  asked: int = 0) -> Iterator[Finding]:
-        for part in parts_of(got, kind, text, had, asked) if rule in self._on else ():
+        for share in shares_of(got, kind, text, had, asked) if rule in self._on else ():
+            severity = severity_of(rule, kind, sid)
             # A finding that is too slight is left out later.
-            because = why(part.mask, part.object_type) if ORDER.index(SEVERITIES[rule]) <= self._most_slight else ()
-            yield from self._of(rule, sid, part.words, part.text, part.mask, because)
+            because = why(share.mask, share.object_type) if ORDER.index(severity) <= self._most_slight else ()
+            yield from self._of(rule, sid, share.words, share.text, share.mask, because, severity)
 
-    def _of(self, rule: str, sid: str, words: str, text: str = "", mask: int = 0,
-            because: Tuple[Because, ...] = ()) -> Iterator[Finding]:
+    def _of(self, rule: str, sid: str, words: str, text: str = "", mask: int = 0, because: Tuple[Because, ...] = (),
+            severity: str = "") -> Iterator[Finding]:
+        severity = severity or SEVERITIES[rule]
         if rule in self._on:
-            yield Finding(rule, self._common.names.named(sid) if sid else "", words, text, SEVERITIES[rule] != "note", "",
-                          SEVERITIES[rule], sid, mask, because=because)
+            named = self._context.names.named(sid) if sid else ""
+            yield Finding(rule, named, words, text, severity != "note", "", severity, sid, mask, because=because)
 
 
 _OWNER = "foreign-owner"
 
 
+def severity_of(rule: str, kind: str, sid: str) -> str:
+    """How grave what a rule finds is. An owner can change permissions, which is as grave as having that right."""
+    found = _OF_DIRECTORY[rule] if kind in rights.DIRECTORY else SEVERITIES[rule]
+    who = sids.everybody_class(sid) if rule == _OWNER else ""
+    return min(found, severity_of(RULE_OF[who], kind, sid), key=ORDER.index) if who else found
+
+
+def _too_many(case: _Case) -> Optional[Answer]:
+    """Why nothing is said about a descriptor, if there is too much to ask."""
+    return next(filter(None, (view.checks.too_many(view.at) for view in (case.own, *case.children))), None)
+
+
+def _is_of_everybody(wanted: _Wanted) -> bool:
+    """Whether rights are a finding of a rule for everybody."""
+    return wanted.rule not in ("", "takeover")
+
+
 def _mark(finding: Finding, descriptor: Descriptor, kind: str) -> Mark:
-    """The ACEs that a finding comes from. An owner counts as handed on: what is below usually has the same one."""
-    if finding.rule == _OWNER:
-        return Mark((), f"{OWNER_KEY} {finding.sid}", False, True)
-    if not finding.mask or descriptor.dacl != "list":
-        return NO_MARK
-    return mark_of(descriptor, (finding.sid,), finding.mask, kind, None, finding.rule == "children-change")
+    """The ACEs of a finding. What is below an object usually has the same owner."""
+    mark = mark_of(finding.because, descriptor.aces, kind)
+    return mark._replace(key=owner_key(finding.sid)) if finding.rule == _OWNER else mark
 
 
 def _is_quiet(sid: str, kind: str) -> bool:
     """Whether nobody in particular has a SID, or an account of the system that may have any right to this kind."""
     who = sids.meaning_of(sid).who
-    if who in _QUIET or sid == sids.PRINCIPAL_SELF and kind not in rights.DIRECTORY:
+    if who in QUIET or sid == sids.PRINCIPAL_SELF and kind not in rights.DIRECTORY:
         return True
-    return who == sids.SERVICE and not (kind in _STRICT and sid in SIDS)
+    # The accounts that services share aren't trusted where a right runs code as another account.
+    return who == sids.SERVICE and not (rights.runs_code(kind) and sid in SIDS)
 
 
 def _joined(*texts: str) -> str:
@@ -424,8 +534,8 @@ def _is_handed_on(ace: Ace, kind: str) -> bool:
 
 
 def _sorts(descriptor: Descriptor, numbers: Sequence[int], kind: str, listed: Sequence[Ace]) -> Iterable[Sequence[int]]:
-    """The ACEs that files inherit, and those that containers do. An ACE that denies for one class of children, or one level, stops
-    what is for others too only there, so it is left out."""
+    """The ACEs that files inherit, and those that containers do. An ACE that denies for one class of children, or one
+    level, stops what is for others too only there, so it is left out."""
     aces = [descriptor.aces[number - 1] for number in numbers]
     classes, levels = {ace.inherited_type for ace in listed}, {ace.flags & NO_PROPAGATE for ace in listed}
 
@@ -439,7 +549,8 @@ def _sorts(descriptor: Descriptor, numbers: Sequence[int], kind: str, listed: Se
 
 def _child_text(descriptor: Descriptor, aces: Iterable[Ace], kind: str) -> str:
     """A descriptor with the ACEs that a child inherits, as ACEs for the child itself. It has no owner."""
-    return spelled(descriptor._replace(owner="", sacl_aces=()), [ace_text(ace, 0, mapped_below(ace, kind)) for ace in aces])
+    return spelled(descriptor._replace(owner="", sacl_aces=()),
+                   [ace_text(ace, 0, mapped_below(ace, kind)) for ace in aces])
 
 
 def _only(got: Got, mask: int) -> Got:

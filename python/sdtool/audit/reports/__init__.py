@@ -1,1 +1,1 @@
-"""Reports of the answers: tables, text, CSV, JSON, HTML, SARIF and databases."""
+"""Reports of answers: their forms, groups of findings, sums, and what they leave out."""

@@ -3,8 +3,8 @@ import datetime
 import re
 from typing import Any, Dict, List, NamedTuple, Optional, Pattern, Sequence, Set, Tuple
 
+from sdtool.audit.findings import ACCEPTED, FOUND, Answer, Finding
 from sdtool.audit.sources.opening import OpeningFault
-from sdtool.audit.questions.asking import ACCEPTED, FOUND, Answer, Finding
 
 _KEYS = {"rule", "object", "reason", "trustee", "rights", "until"}
 
@@ -91,7 +91,8 @@ class Accepted:
 
 
 def read_accepted(path: str, rules: Sequence[str]) -> Accepted:
-    """The entries of a TOML file: tables [[accept]] with rule, object and reason, and perhaps trustee, rights and until."""
+    """The entries of a TOML file: tables [[accept]] with rule, object and reason, and perhaps trustee, rights and
+    until."""
     try:
         import tomllib
     except ImportError as error:

@@ -3,13 +3,12 @@ import json
 import re
 from typing import Any, Dict, Iterable, Iterator, List, NamedTuple, Set, Tuple
 
+from sdtool.audit.directory.trees import Repeats, is_cut, is_rest, unnamed
 from sdtool.audit.engine import Answered
-from sdtool.audit.questions.asking import ACCEPTED, FOUND, UNKNOWN, Answer, Finding, unknown
-from sdtool.audit.questions.trees import Repeats, is_cut, is_rest, unnamed
-from sdtool.audit.reports.summing import CHANGED, KNOWN, MENDED, NEW
+from sdtool.audit.findings import ACCEPTED, CHANGED, FOUND, KNOWN, MENDED, NEW, UNKNOWN, Answer, Finding, unknown
 from sdtool.audit.sources.items import SDDL, Item
 from sdtool.audit.sources.opening import OpeningFault
-from sdtool.audit.sources.scratch import Scratch, restored, stored
+from sdtool.audit.store.scratch import Scratch, restored, stored
 
 _SID_AT_END = re.compile(r"\((S-1-[0-9-]+)\)\Z")
 _OF_BASELINES = (NEW, KNOWN, MENDED)
@@ -37,14 +36,15 @@ class Baseline:
 
     def __init__(self) -> None:
         self._scratch = Scratch()
-        self._scratch.database.execute("CREATE TABLE old(id INTEGER PRIMARY KEY, name, nth, source, line, rule, who, trustee, rights, text, "
-                                       "severity, seen INTEGER)")
+        self._scratch.database.execute("CREATE TABLE old(id INTEGER PRIMARY KEY, name, nth, source, line, rule, who, "
+                                       "trustee, rights, text, severity, seen INTEGER)")
         self._names: Set[int] = set()
         self.gone = 0
 
     def fill(self, answered: Iterable[Answered]) -> None:
         """Takes the answers of the baseline."""
-        self._scratch.database.executemany("INSERT INTO old VALUES (NULL, ?, ?, ?, ?, ?, ?, ?, ?, ?, ?, 0)", self._rows(answered))
+        self._scratch.database.executemany("INSERT INTO old VALUES (NULL, ?, ?, ?, ?, ?, ?, ?, ?, ?, ?, 0)",
+                                           self._rows(answered))
         self._scratch.database.execute("CREATE INDEX old_name ON old(name)")
 
     def _rows(self, answered: Iterable[Answered]) -> Iterator[Tuple[Any, ...]]:
@@ -55,14 +55,14 @@ class Baseline:
             for finding in answer.findings:
                 if finding.counts or finding.accepted:
                     self._names.add(hash(key))
-                    yield (stored(key), nth, stored(item.source), item.line, finding.rule, _who(finding.trustee), finding.trustee,
-                           finding.rights, stored(finding.text), finding.severity)
+                    yield (stored(key), nth, stored(item.source), item.line, finding.rule, _who(finding.trustee),
+                           finding.trustee, finding.rights, stored(finding.text), finding.severity)
 
     def _of(self, key: str, nth: int) -> List[Tuple[_Old, str]]:
         if hash(key) not in self._names:
             return []
-        rows = self._scratch.database.execute("SELECT id, rule, trustee, rights, text, severity, who FROM old WHERE name = ? AND nth = ? "
-                                              "AND seen = 0", (stored(key), nth))
+        rows = self._scratch.database.execute("SELECT id, rule, trustee, rights, text, severity, who FROM old WHERE "
+                                              "name = ? AND nth = ? AND seen = 0", (stored(key), nth))
         return [(_Old(number, rule, trustee, rights, restored(text), severity), who)
                 for number, rule, trustee, rights, text, severity, who in rows.fetchall()]
 
@@ -75,7 +75,8 @@ class Baseline:
             key = unnamed(item)
             yield Answered(item, self._answer(self._of(key, repeats.number_of(key)), answer))
         is_open = is_open or is_cut(item)
-        query = "SELECT name, nth, source, line, rule, trustee, rights, text, severity FROM old WHERE seen = 0 ORDER BY id"
+        query = ("SELECT name, nth, source, line, rule, trustee, rights, text, severity FROM old WHERE seen = 0 "
+                 "ORDER BY id")
         last: Dict[str, Any] = {}
         for name, nth, source, line, rule, trustee, rights, text, severity in self._scratch.select(query):
             place = (restored(name), restored(source), line, nth)
@@ -83,7 +84,8 @@ class Baseline:
                 yield self._gone(last, is_open)
                 last = {}
             last.setdefault("place", place)
-            last.setdefault("findings", []).append(Finding(rule, trustee, rights, f"{MENDED}; {restored(text)}".rstrip("; "), False, "", severity))
+            last.setdefault("findings", []).append(
+                Finding(rule, trustee, rights, f"{MENDED}; {restored(text)}".rstrip("; "), False, "", severity))
         if last:
             yield self._gone(last, is_open)
 
@@ -92,7 +94,8 @@ class Baseline:
         name, source, line, _ = last["place"]
         item = Item(name, source, line, SDDL, "")
         if is_open:
-            return Answered(item, unknown("the baseline has findings of it, and the source is cut before it", "export the objects again"))
+            return Answered(item, unknown("the baseline has findings of it, and the source is cut before it",
+                                          "export the objects again"))
         findings = [finding._replace(text=f"{finding.text}; the object is gone") for finding in last["findings"]]
         return Answered(item, Answer(MENDED, tuple(findings)))
 
@@ -106,7 +109,8 @@ class Baseline:
         for is_exact in (True, False):
             rest: List[Finding] = []
             for finding in waiting:
-                like = next((one for one, who in left.items() if one.rule == finding.rule and who == _who(finding.trustee)
+                like = next((one for one, who in left.items() if one.rule == finding.rule
+                             and who == _who(finding.trustee)
                              and (not is_exact or one.rights == finding.rights)), None)
                 if like is None:
                     rest.append(finding)
@@ -142,12 +146,15 @@ def read_report(path: str) -> Iterator[Answered]:
             for number, line in enumerate(file, 1):
                 yield _answered(path, number, json.loads(line))
     except (OSError, ValueError, KeyError, TypeError, AttributeError) as error:
-        raise OpeningFault(f"--baseline {path}: neither a database of --into nor a report in JSON lines: {error}") from error
+        raise OpeningFault(
+            f"--baseline {path}: neither a database of --into nor a report in JSON lines: {error}") from error
 
 
 def _answered(path: str, number: int, told: Dict[str, Any]) -> Answered:
     if told["answer"] in _OF_BASELINES:
-        raise OpeningFault(f"--baseline {path}: line {number}: a report that was compared with a baseline is none itself")
-    findings = tuple(Finding(one["rule"], one["trustee"], one["rights"], one["text"], one.get("severity") != "note" and not one.get("accepted"),
-                             one.get("accepted", ""), one.get("severity", "")) for one in told["findings"])
+        raise OpeningFault(f"--baseline {path}: line {number}: a report that was compared with a baseline is "
+                           "none itself")
+    findings = tuple(Finding(one["rule"], one["trustee"], one["rights"], one["text"],
+                             one.get("severity") != "note" and not one.get("accepted"), one.get("accepted", ""),
+                             one.get("severity", "")) for one in told["findings"])
     return Answered(Item(told["name"], told["source"], told["line"] or 0, SDDL, ""), Answer(told["answer"], findings))

@@ -1,50 +1,19 @@
-"""Findings by the place where their permission is set: the object that has the explicit ACE, and how many below inherit it."""
+"""Findings by the place where their permission is set: the object that has the explicit ACE, and how many below inherit
+it."""
 import collections
-from typing import Counter, Dict, List, NamedTuple, Optional, Sequence, Tuple
+from typing import Counter, Dict, List, Optional, Sequence, Tuple
 
-from sdtool.audit.questions.asking import OWNER_KEY, SEVERITIES, TRUSTED_RULE, UNKNOWN, Answer, Finding, Mark, Rule
-from sdtool.audit.questions.trees import folder_key, key_of
+from sdtool.audit.directory.trees import folder_key, key_of
+from sdtool.audit.findings import SEVERITIES, TRUSTED_RULE, UNKNOWN, Answer, Finding, Mark, Rule
+from sdtool.audit.reports.group import ABOVE, BELOW, Group, Key, common_of
+from sdtool.audit.reports.owners import Owners
 from sdtool.audit.sources.items import Item
+from sdtool.audit.windows.rights import TAKE_OVER, WRITE_DAC
 
 _MOST_PLACES = 100_000   # whose names are kept; what objects below further ones inherit is grouped by its ACE alone
 _MOST_REASONS = 1_000    # why objects are unknown
-_OTHER_REASONS = "another reason; --each lists all"
 _RANKS = {severity: rank for rank, severity in enumerate(SEVERITIES)}
 _PLAIN = ""  # the severity of findings that have none
-
-
-# Whether a group is named by the object that has a finding, by one that sets it for those below it alone, or, where the source
-# has no such object, by the first one that has inherited it.
-HERE, BELOW, ABOVE = "here", "below", "above"
-
-
-class Group(NamedTuple):
-    """A finding of an object, and of so many objects below it; or what is to be said of objects without a finding."""
-
-    order: int
-    name: str
-    source: str
-    line: int
-    status: str
-    kind: str
-    finding: Optional[Finding]
-    reason: str = ""
-    help: str = ""
-    below: int = 0
-    origin: str = HERE
-    place: str = ""  # where the descriptor of an unknown object is wrong
-
-    @property
-    def objects(self) -> int:
-        """How many objects have it."""
-        return self.below + (self.origin == HERE)
-
-    def plus(self, count: int) -> "Group":
-        return self._replace(below=self.below + count)
-
-
-# The key of a place and of an ACE, and what else findings that belong together have in common.
-_Key = Tuple[str, str, str, str]
 
 
 class Groups:
@@ -59,9 +28,10 @@ class Groups:
         self._rows: Dict[str, List[Group]] = {}      # those without objects below, by severity, as many as are listed
         self._places: Counter[str] = collections.Counter()  # of these, by severity
         self._heads: Dict[Tuple[str, str], Group] = {}  # whoever hands on an ACE, by its key and that of the ACE
-        self._groups: Dict[_Key, Group] = {}         # findings of these
-        self._below: Dict[_Key, Group] = {}          # what is inherited, by folder
-        self._unknown: Dict[Tuple[str, str], Group] = {}
+        self._groups: Dict[Key, Group] = {}          # findings of these
+        self._owners = Owners(_MOST_PLACES)
+        self._below: Dict[Key, Group] = {}           # what is inherited, by folder
+        self._unknown: Dict[Tuple[str, str], Group] = {}  # the first object for each reason
         self.left_out = 0
         self._last = ("", "")
 
@@ -72,11 +42,19 @@ class Groups:
         if answer.status == UNKNOWN:
             self._add_unknown(self._group(item, UNKNOWN, None, answer.reason, answer.help)._replace(place=answer.place))
             return
+        owner = next((finding for finding in answer.findings if finding.mark.is_of_owner), None)
         for finding in answer.findings:
-            if finding.rule != TRUSTED_RULE or self._lists_all:
+            if (finding.rule != TRUSTED_RULE or self._lists_all) and not self._is_told_of(owner, finding):
                 self._add_finding(item, answer.status, finding)
         if not answer.findings:
             self._add_row(_PLAIN, self._group(item, answer.status, None, answer.reason))
+
+    def _is_told_of(self, owner: Optional[Finding], finding: Finding) -> bool:
+        """Whether the finding of an owner tells one of the same object. An owner that can change permissions can take
+        ownership."""
+        return (owner is not None and owner is not finding and not self._is_each
+                and 0 < finding.mask == finding.mask & TAKE_OVER and
+                (owner.sid, owner.severity, owner.accepted) == (finding.sid, finding.severity, finding.accepted))
 
     def _group(self, item: Item, status: str, finding: Optional[Finding], reason: str = "", advice: str = "") -> Group:
         self._next += 1
@@ -90,26 +68,24 @@ class Groups:
             self.left_out += 1
 
     def _add_unknown(self, group: Group) -> None:
-        if self._is_each:
-            self._add_row(UNKNOWN, group)
-            return
+        """Each unknown object has a row. The first one for a reason is kept however many rows there are."""
         key = (group.reason, group.help)
-        if key not in self._unknown and len(self._unknown) >= _MOST_REASONS:
-            key, group = (_OTHER_REASONS, ""), group._replace(reason=_OTHER_REASONS, help="")
-        found = self._unknown.get(key)
-        if found:
-            group = found.plus(group.objects)._replace(place=found.place if found.place == group.place else "")
-        self._unknown[key] = group
+        if key in self._unknown or len(self._unknown) >= _MOST_REASONS:
+            self._add_row(UNKNOWN, group)
+        else:
+            self._unknown[key] = group
 
     def _add_finding(self, item: Item, status: str, finding: Finding) -> None:
         mark = finding.mark
-        if self._is_each or not (mark.is_inherited or mark.is_handed_on):
+        if self._is_each or not mark.key or not (mark.comes_from_above or mark.is_handed_on):
             if self._most == 0:
                 self._places[finding.severity] += not finding.accepted
             else:
                 self._add_place(finding, self._group(item, status, finding))
+        elif mark.is_of_owner:
+            self._add_owned(self._group(item, status, finding))
         elif mark.is_inherited:
-            key = (self._folder_key(item.name, item.kind), mark.key, finding.rule, finding.accepted)
+            key = (self._folder_key(item.name, item.kind), *common_of(finding))
             found = self._below.get(key)
             if found is not None:
                 self._next += 1
@@ -123,7 +99,7 @@ class Groups:
         self._places[finding.severity] += not finding.accepted
         self._add_row(finding.severity, group)
 
-    def _add_below(self, key: _Key, group: Group) -> None:
+    def _add_below(self, key: Key, group: Group) -> None:
         if key not in self._below and len(self._below) >= _MOST_PLACES:
             key = ("", *key[1:])
         found = self._below.get(key)
@@ -132,19 +108,19 @@ class Groups:
     def _add_head(self, name_key: str, group: Group) -> None:
         finding = group.finding
         assert finding is not None
-        mark_key, kind = finding.mark.key, group.kind
-        if mark_key.startswith(OWNER_KEY):
-            above = self._above(folder_key(group.name, kind), mark_key, kind)
-            above_key = (key_of(above.name, kind) if above else "", mark_key, finding.rule, finding.accepted)
-            if above_key in self._groups:
-                self._groups[above_key] = self._groups[above_key].plus(group.objects)
-                return
-        key = (name_key, mark_key, finding.rule, finding.accepted)
+        key = (name_key, *common_of(finding))
         if key in self._groups or len(self._groups) >= _MOST_PLACES:
             self._add_place(finding, group)  # two objects have one name, or there are too many
             return
-        self._heads.setdefault((name_key, mark_key), group)
+        self._heads.setdefault((name_key, finding.mark.key), group)
         self._groups[key] = group
+        if finding.severity and finding.mask & WRITE_DAC:
+            self._owners.tell(group)
+
+    def _add_owned(self, group: Group) -> None:
+        if not self._owners.add(group):
+            assert group.finding is not None
+            self._add_place(group.finding, group)
 
     def _above(self, name_key: str, mark_key: str, kind: str, before: Optional[int] = None) -> Optional[Group]:
         """The nearest place at or above a name that hands on an ACE, of those that came before."""
@@ -163,6 +139,8 @@ class Groups:
 
     def origin(self, name: str, kind: str, mark: Mark, before: int) -> str:
         """The object that has set what an object was found to have, of those that came before; else the ACE."""
+        if mark.is_of_owner:
+            return self._owners.origin(name, kind, mark.key, before)
         found = self._above(self._folder_key(name, kind), mark.key, kind, before)
         return found.name if found else mark.key if mark.is_inherited else name
 
@@ -179,35 +157,44 @@ class Groups:
         def moved(group: Group) -> Group:
             return group._replace(order=start + group.order)
 
+        # The first one for a reason may be none here.
+        for group in sorted([*other._unknown.values(), *other._rows.pop(UNKNOWN, ())]):
+            self._add_unknown(moved(group))
         for severity, rows in other._rows.items():
             for group in rows:
                 self._add_row(severity, moved(group))
         self._places.update(other._places)
         self.left_out += other.left_out
+        for group in self._owners.merge(other._owners, start):
+            assert group.finding is not None
+            self._add_place(group.finding, group)
         for (name_key, *_), group in other._groups.items():
             self._add_head(name_key, moved(group))
         for key, group in other._below.items():
             self._add_below(key, moved(group))
-        for group in other._unknown.values():
-            self._add_unknown(moved(group))
 
     # What comes out.
 
     def _resolved(self) -> List[Group]:
         """The groups of places, and of ACEs that no place in the source has set."""
         groups = dict(self._groups)
-        loose: Dict[Tuple[str, str, str], Group] = {}
-        for (folder, mark_key, rule, accepted), group in self._below.items():
-            above = self._above(folder, mark_key, group.kind)
+        loose: Dict[Tuple[str, ...], Group] = {}
+        for (folder, *common), group in self._below.items():
+            above = self._above(folder, common[0], group.kind)
             if above is None:
-                found = loose.get((mark_key, rule, accepted))
-                loose[mark_key, rule, accepted] = found.plus(group.below) if found else group
+                found = loose.get(tuple(common))
+                loose[tuple(common)] = found.plus(group.below) if found else group
                 continue
-            key = (key_of(above.name, above.kind), mark_key, rule, accepted)
+            assert group.finding is not None
+            key = (key_of(above.name, above.kind), *common_of(group.finding))
             # The place may have another finding by this ACE, or none.
             groups[key] = groups[key].plus(group.below) if key in groups else above._replace(
                 finding=group.finding, status=group.status, below=group.below, origin=BELOW)
-        return [*groups.values(), *loose.values()]
+        owners, owned = self._owners.resolved()
+        for key, count in owned.items():
+            if key in groups:
+                groups[key] = groups[key]._replace(owned=count)
+        return [*groups.values(), *owners, *loose.values()]
 
     def end(self, rules: Sequence[Rule]) -> "Ended":
         return Ended(self, rules)
@@ -220,7 +207,7 @@ class Ended:
         self._ranks = {rule.name: rank for rank, rule in enumerate(rules)}
         resolved = groups._resolved()
         rows = {severity: list(of_one) for severity, of_one in groups._rows.items()}
-        self.unknown = sorted([*groups._unknown.values(), *rows.pop(UNKNOWN, ())])
+        self.unknown = [*groups._unknown.values(), *rows.pop(UNKNOWN, ())]
         self.plain = rows.pop(_PLAIN, [])
         self.places = groups._places + collections.Counter(
             group.finding.severity for group in resolved if group.finding is not None and not group.finding.accepted)
@@ -235,5 +222,5 @@ class Ended:
         """What is severe first, then by rule, then what concerns most objects. What is accepted is last."""
         finding = group.finding
         assert finding is not None
-        return (bool(finding.accepted), _RANKS.get(finding.severity, len(_RANKS)), self._ranks.get(finding.rule, len(self._ranks)),
-                -group.objects, group.order)
+        return (bool(finding.accepted), _RANKS.get(finding.severity, len(_RANKS)),
+                self._ranks.get(finding.rule, len(self._ranks)), -group.objects, group.order)

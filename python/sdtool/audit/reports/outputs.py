@@ -1,23 +1,26 @@
 """Forms of a report: a table and Markdown for people, CSV, JSON lines, SARIF and one HTML file."""
-import base64
+import contextlib
 import csv
-import hashlib
-import html
 import json
+import operator
 import os
 import urllib.parse
 from typing import Any, Dict, List, NamedTuple, Optional, Sequence, TextIO, Tuple
 
-from sdtool.audit.questions.asking import UNKNOWN, Answer, Finding, Mark, Rule
+from sdtool._windows import REPORT
+from sdtool.audit.findings import UNKNOWN, Answer, Finding, Mark, Rule
 from sdtool.audit.reports import tables
 from sdtool.audit.reports.groups import Ended, Groups
-from sdtool.audit.reports.shown import because_of, said_of, sentence_of, shown
+from sdtool.audit.reports.shown import because_of, note_of, said_of, sentence_of, shown
 from sdtool.audit.reports.summing import Summary
-from sdtool.audit.sources.items import Item
+from sdtool.audit.sources.items import BY_PATH, UNTOLD, Item
+from sdtool.audit.sources.opening import OpeningFault
+from sdtool.audit.sources.places import classes_of
 
 TABLE_ROWS = 200
 _HTML_GROUPS = 1000
-COLUMNS = ("name", "source", "line", "answer", "rule", "trustee", "rights", "text", "help", "severity", "aces", "because", "group")
+COLUMNS = ("name", "source", "line", "answer", "rule", "trustee", "rights", "text", "help", "severity", "aces",
+           "because", "group")
 
 
 class Form(NamedTuple):
@@ -57,7 +60,8 @@ class Output:
         self._file.write(piece)
 
 
-# A field for a group that is told when all places before it are known: where it begins and ends in a text, and whose it is.
+# A field for a group that is told when all places before it are known: where it begins and ends in a text, and whose it
+# is.
 _Open = Tuple[int, int, str, str, Mark, int]
 # What a program of tables takes for a formula.
 _FORMULAS = ("=", "+", "-", "@", "\t", "\r", "\n", "\uff1d", "\uff0b", "\uff0d", "\uff20")
@@ -88,14 +92,16 @@ class CsvOutput(Output):
         if not answer.findings:
             reason = _safe(answer.said) if self._is_safe else answer.said
             rule = "unknown" if status == UNKNOWN else ""
-            write((name, source, item.line or "", status, rule, "", "", reason, answer.help, "", "", "", ""))
+            advice = "; ".join(filter(None, [answer.help, note_of(item)]))
+            write((name, source, item.line or "", status, rule, "", "", reason, advice, "", "", "", ""))
             return
         start = (name, source, item.line or "", status)
         for finding in answer.findings:
             self._add_finding(write, start, item, finding, groups)
 
     def _add_finding(self, write: Any, start: Tuple[Any, ...], item: Item, finding: Finding, groups: Groups) -> None:
-        said: Tuple[str, ...] = (finding.rule, finding.trustee, finding.rights, said_of(finding), "", finding.severity)
+        said: Tuple[str, ...] = (finding.rule, finding.trustee, finding.rights, said_of(finding), note_of(item),
+                                 finding.severity)
         if self._is_safe:
             said = tuple(map(_safe, said))
         mark = finding.mark
@@ -136,17 +142,21 @@ class JsonOutput(Output):
     """JSON lines: one object a line."""
 
     def add(self, item: Item, answer: Answer, groups: Groups) -> None:
-        told: Dict[str, Any] = {"name": item.name, "source": item.source, "line": item.line or None, "answer": answer.status}
+        told: Dict[str, Any] = {"name": item.name, "source": item.source, "line": item.line or None,
+                                "answer": answer.status}
         if answer.status == UNKNOWN:
             told.update(reason=answer.said, help=answer.help)
         elif answer.reason:
             told["reason"] = answer.reason
+        if note_of(item):
+            told["note"] = note_of(item)
         told["findings"] = [_json_finding(finding) for finding in answer.findings]
         self._file.write(json.dumps(told) + "\n")
 
 
 def _json_finding(finding: Finding) -> Dict[str, Any]:
-    told: Dict[str, Any] = {"rule": finding.rule, "trustee": finding.trustee, "rights": finding.rights, "text": finding.text}
+    told: Dict[str, Any] = {"rule": finding.rule, "trustee": finding.trustee, "rights": finding.rights,
+                            "text": finding.text}
     if finding.accepted:
         told["accepted"] = finding.accepted
     if finding.severity:
@@ -161,7 +171,8 @@ def _json_finding(finding: Finding) -> Dict[str, Any]:
 
 def _because(finding: Finding) -> List[Dict[str, Any]]:
     """What grants or denies the rights: an ACE by its number and text, or a rule by its word."""
-    return [{"ace": one.number or None, "text": one.text, "rights": one.rights, "grants": one.grants} for one in finding.because]
+    return [{"ace": one.number or None, "text": one.text, "rights": one.rights, "grants": one.grants}
+            for one in finding.because]
 
 
 class TableOutput(Output):
@@ -208,8 +219,10 @@ class SarifOutput(Output):
             self._comma = ","
 
     def begin(self) -> None:
-        rules = [{"id": rule.name, "shortDescription": {"text": rule.reason}, **_sarif_severity(rule.severity)} for rule in self.rules]
-        rules.append({"id": "unknown", "shortDescription": {"text": "The object can't be read, so nothing is known about it."},
+        rules = [{"id": rule.name, "shortDescription": {"text": rule.reason}, **_sarif_severity(rule.severity)}
+                 for rule in self.rules]
+        rules.append({"id": "unknown",
+                      "shortDescription": {"text": "The object can't be read, so nothing is known about it."},
                       **_sarif_severity("high")})
         self._file.write('{"$schema": %s, "version": "2.1.0", "runs": [{"tool": {"driver": %s}, "results": ['
                          % (json.dumps(_SARIF_SCHEMA), json.dumps({"name": "sdtool-audit", "rules": rules})))
@@ -224,7 +237,8 @@ class SarifOutput(Output):
             level = _LEVELS.get(finding.severity, "error" if finding.counts else "note")
             self._result(item, finding.rule, text, level, finding.accepted, _because(finding))
 
-    def _result(self, item: Item, rule: str, text: str, level: str, accepted: str, because: List[Dict[str, Any]]) -> None:
+    def _result(self, item: Item, rule: str, text: str, level: str, accepted: str,
+                because: List[Dict[str, Any]]) -> None:
         place: Dict[str, Any] = {"artifactLocation": {"uri": _uri(item.source)}}
         if item.line:
             place["region"] = {"startLine": item.line}
@@ -240,16 +254,18 @@ class SarifOutput(Output):
         self._comma = ","
 
     def end(self, summary: Summary, ended: Ended) -> None:
-        notification = {"level": "note", "message": {"text": summary.text()}}
+        notifications = [{"level": "note", "message": {"text": shown(text)}}
+                         for text in (*summary.notes(), summary.text())]
         self._file.write('\n], "invocations": [%s]}]}\n' % json.dumps(
-            {"executionSuccessful": True, "toolExecutionNotifications": [notification]}))
+            {"executionSuccessful": True, "toolExecutionNotifications": notifications}))
 
 
 def _sarif_severity(severity: str) -> Dict[str, Any]:
     """The level of a rule."""
     if not severity:
         return {}
-    return {"defaultConfiguration": {"level": _LEVELS[severity]}, "properties": {"security-severity": _SCORES[severity]}}
+    return {"defaultConfiguration": {"level": _LEVELS[severity]},
+            "properties": {"security-severity": _SCORES[severity]}}
 
 
 def _uri(path: str) -> str:
@@ -259,46 +275,26 @@ def _uri(path: str) -> str:
 # The page, and the element of it that a report goes into.
 _PAGE_VARIABLE = "SDTOOL_PAGE"
 _PLACE = '<script type="application/json" id="report">'
-_WITHOUT_PAGE = (f"This report has no views of descriptors, since sdtool.html is not installed. {_PAGE_VARIABLE} can name the "
-                 "file.")
-_CSS = """
-body { font: 15px/1.5 system-ui, sans-serif; margin: 2rem; color: #1b1b1b; background: #fff; }
-table { border-collapse: collapse; width: 100%; } th, td { text-align: left; vertical-align: top; padding: .3rem .6rem;
-border-bottom: 1px solid #ddd; overflow-wrap: anywhere; } th { position: sticky; top: 0; background: #fff; }
-.found, .changed, .added, .gone { color: #a4000f; font-weight: 600; } .unknown { color: #8a5a00; font-weight: 600; }
-.accepted { color: #666; } input { font: inherit; padding: .3rem; width: 24rem; max-width: 100%; }
-.place { color: #666; font-size: 85%; }
-@media (prefers-color-scheme: dark) { body, th { background: #161616; color: #eee; } .found, .changed, .added, .gone
-{ color: #ff8a80; } .unknown { color: #ffc773; } }
-"""
-_SCRIPT = """
-const field = document.getElementById('filter'), count = document.getElementById('count');
-field.addEventListener('input', () => {
-  const wanted = field.value.toLowerCase();
-  let shown = 0;
-  for (const row of document.querySelectorAll('tbody tr')) {
-    row.hidden = !row.textContent.toLowerCase().includes(wanted);
-    shown += row.hidden ? 0 : 1;
-  }
-  count.textContent = wanted ? shown + ' rows match' : '';
-});
-"""
+_ROW_OF = {row: operator.itemgetter(*columns) for row, columns in REPORT["rows"].items()}
 
 
-def _page() -> Optional[Tuple[str, str]]:
-    """The page, cut where a report goes, or None where it isn't there."""
-    path = os.environ.get(_PAGE_VARIABLE) or os.path.join(os.path.dirname(os.path.abspath(__file__)), "sdtool.html")
-    try:
-        with open(path, encoding="utf-8") as file:
-            before, mark, after = file.read().partition(_PLACE)
-    except (OSError, UnicodeDecodeError):
-        return None
-    return (before + mark, after) if mark and after.startswith("</script>") else None
+def page_around() -> Tuple[str, str]:
+    """The page, cut where a report goes."""
+    audit = os.path.dirname(os.path.dirname(os.path.abspath(__file__)))
+    path = os.environ.get(_PAGE_VARIABLE) or os.path.join(audit, "sdtool.html")
+    text = ""
+    with contextlib.suppress(OSError, UnicodeDecodeError), open(path, encoding="utf-8") as file:
+        text = file.read()
+    before, mark, after = text.partition(_PLACE)
+    if not after.startswith("</script>"):
+        raise OpeningFault(f"--to html puts the report into the page, and {path} isn't that: {_PAGE_VARIABLE} can name "
+                           "sdtool.html")
+    return before + mark, after
 
 
 class HtmlOutput(Output):
-    """One file without any request. It is the page that shows permissions, with the report in it as lines of JSON, which no
-    browser takes for a script or for markup. Where the page isn't installed, it is a plain table that says so.
+    """One file without any request: the page that shows permissions, with the report in it as lines of JSON, which no
+    browser takes for a script or for markup. windows/report.toml has the columns of their rows.
     """
 
     rows = _HTML_GROUPS
@@ -307,69 +303,44 @@ class HtmlOutput(Output):
                  about: Optional[Dict[str, Any]] = None) -> None:
         super().__init__(file, rules, lists_all, title)
         self._about = about or {}
-        self._page = _page()
+        self._after = ""  # of the page, behind the report
 
     def begin(self) -> None:
-        if self._page:
-            self._file.write(self._page[0] + "\n")
-            self._line({"report": "sdtool-audit report 3", "title": self._title, **self._about})
-            return
-        script = base64.b64encode(hashlib.sha256(_SCRIPT.encode()).digest()).decode()
-        style = base64.b64encode(hashlib.sha256(_CSS.encode()).digest()).decode()
-        policy = f"default-src 'none'; style-src 'sha256-{style}'; script-src 'sha256-{script}'"
-        self._file.write(f'<!DOCTYPE html>\n<html lang="en"><head><meta charset="utf-8">\n'
-                         f'<meta http-equiv="Content-Security-Policy" content="{policy}">\n'
-                         f'<title>{_escaped(self._title)}</title>\n<style>{_CSS}</style></head><body>\n'
-                         f'<h1>{_escaped(self._title)}</h1>\n'
-                         '<p><label>Show rows with <input id="filter" type="search"></label> <span id="count"></span></p>\n'
-                         '<table><thead><tr><th>Object</th><th>Answer</th><th>Rule</th><th>Who</th><th>Rights</th><th>What</th>'
-                         '<th>Because of</th>'
-                         '</tr></thead><tbody>\n')
+        before, self._after = page_around()
+        self._file.write(before + "\n")
+        self._line({"report": REPORT["version"], "title": self._title, **self._about})
 
     def add(self, item: Item, answer: Answer, groups: Groups) -> None:
-        if self._page:
-            findings = [(found.rule, found.trustee, found.rights, found.text, found.accepted, found.severity, found.mark.numbers,
-                         found.mark.is_inherited, found.because) for found in answer.findings]
-            descriptor = item.text if item.form else ""  # of an object that can't be read, it is the answer's reason
-            self._line([item.name, item.source, item.line, answer.status, item.form, descriptor, item.kind, item.is_folder,
-                        answer.said, answer.help, findings])
-            return
-        place = f"{item.source}, line {item.line}" if item.line else item.source
-        said = [(finding.severity, finding.rule, finding.trustee, finding.rights, said_of(finding), because_of(finding))
-                for finding in answer.findings]
-        if not said:
-            is_unknown = answer.status == UNKNOWN
-            said = [("", "unknown" if is_unknown else "", "", "", answer.said + (f". Help: {answer.help}" if answer.help else ""),
-                     "")]
-        for severity, rule, trustee, rights, text, because in said:
-            self._file.write(f'<tr><td>{_escaped(item.name)}<br><span class="place">{_escaped(place)}</span></td>'
-                             f'<td class="{answer.status.replace(" ", "-")}">{answer.status}</td><td>{_escaped(severity)} {_escaped(rule)}'
-                             f'</td><td>{_escaped(trustee)}</td><td>{_escaped(rights)}</td><td>{_escaped(text)}</td>'
-                             f'<td>{_escaped(because)}</td></tr>\n')
+        self._line(_ROW_OF["object"]({
+            "name": item.name, "source": item.source, "line": item.line, "answer": answer.status, "form": item.form,
+            "descriptor": item.text if item.form else "",  # of an object that can't be read, it is the answer's reason
+            "kind": "file" if item.kind in (UNTOLD, BY_PATH) else item.kind,  # as the answers have it
+            "isFolder": item.is_folder, "reason": answer.said, "help": answer.help, "classes": classes_of(item.place),
+            "findings": [_finding_row(finding) for finding in answer.findings]}))
 
     def end(self, summary: Summary, ended: Ended) -> None:
-        found = [(rule.name, summary.rules[rule.name], rule.reason) for rule in self.rules if summary.rules[rule.name]]
-        severities = summary.severity_text(ended.places)
-        if self._page:
-            groups = [(group.finding.severity, group.finding.rule, sentence_of(group.finding._replace(rule="")), group.name,
-                       tables.place_text(group), group.objects)
-                      for group in (*ended.graded, *ended.plain) if group.finding is not None][:_HTML_GROUPS]
-            self._line({"summary": summary.text(), "severities": severities, "rules": found, "listsAll": self.lists_all,
-                        "groups": groups})
-            self._file.write(self._page[1])
-            return
-        rules = "".join(f"<li>{_escaped(name)}: {count:,}. {_escaped(reason)}</li>\n" for name, count, reason in found)
-        listed = "" if self.lists_all else " Objects with nothing found are counted, and not listed."
-        self._file.write(f'</tbody></table>\n<h2>Summary</h2>\n<p>{_escaped("; ".join(filter(None, [severities, summary.text()])))}.{listed}</p>\n<ul>{rules}</ul>\n'
-                         f'<p>{_WITHOUT_PAGE}</p>\n<script>{_SCRIPT}</script></body></html>\n')
+        rules = [_ROW_OF["rule"]({"name": rule.name, "count": summary.rules[rule.name], "reason": rule.reason})
+                 for rule in self.rules if summary.rules[rule.name]]
+        groups = [_ROW_OF["group"]({
+            "severity": group.finding.severity, "rule": group.finding.rule,
+            "text": sentence_of(group.finding._replace(rule="")), "name": group.name, "place": tables.place_text(group),
+            "objects": group.objects})
+            for group in (*ended.graded, *ended.plain) if group.finding is not None][:_HTML_GROUPS]
+        self._line({"summary": summary.text(), "notes": list(summary.notes()),
+                    "severities": summary.severity_text(ended.places), "rules": rules,
+                    "listsAll": self.lists_all, "groups": groups})
+        self._file.write(self._after)
 
     def _line(self, value: Any) -> None:
         # Without < nothing in it can end the element that it is in.
         self._file.write(json.dumps(value, separators=(",", ":")).replace("<", "\\u003c") + "\n")
 
 
-def _escaped(text: str) -> str:
-    return html.escape(shown(text))
+def _finding_row(finding: Finding) -> Any:
+    """A finding in the report of the page."""
+    causes = [_ROW_OF["cause"](one._asdict()) for one in finding.because]
+    return _ROW_OF["finding"]({**finding._asdict(), "numbers": finding.mark.numbers,
+                               "isInherited": finding.mark.is_inherited, "because": causes})
 
 
 OUTPUTS = ("table", "csv", "jsonl", "html", "sarif", "markdown")
@@ -377,7 +348,8 @@ OUTPUTS = ("table", "csv", "jsonl", "html", "sarif", "markdown")
 _LISTS_ALL = frozenset({"csv", "jsonl"})
 
 
-def output_of(form: Form, file: TextIO, rules: Sequence[Rule], title: str, about: Optional[Dict[str, Any]] = None) -> Output:
+def output_of(form: Form, file: TextIO, rules: Sequence[Rule], title: str,
+              about: Optional[Dict[str, Any]] = None) -> Output:
     """The output of a form."""
     lists_all = form.to in _LISTS_ALL if form.lists_all is None else form.lists_all
     if form.to == "table":
@@ -388,4 +360,5 @@ def output_of(form: Form, file: TextIO, rules: Sequence[Rule], title: str, about
         return CsvOutput(file, rules, lists_all, title, form.is_for_spreadsheets)
     if form.to == "html":
         return HtmlOutput(file, rules, lists_all, title, about)
-    return SarifOutput(file, rules, lists_all, title) if form.to == "sarif" else JsonOutput(file, rules, lists_all, title)
+    return (SarifOutput(file, rules, lists_all, title) if form.to == "sarif"
+            else JsonOutput(file, rules, lists_all, title))

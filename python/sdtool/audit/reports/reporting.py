@@ -7,8 +7,8 @@ from typing import Any, Callable, Deque, Iterable, Iterator, List, NamedTuple, O
 
 from sdtool.audit import pool
 from sdtool.audit.engine import Answered, Engine
+from sdtool.audit.findings import Answer
 from sdtool.audit.protocols import ReportForm
-from sdtool.audit.questions.asking import Answer
 from sdtool.audit.reports.accepting import Accepted
 from sdtool.audit.reports.groups import Ended, Groups
 from sdtool.audit.reports.summing import Summary, is_listed
@@ -19,14 +19,16 @@ from sdtool.audit.sources.opening import READ_FAULTS, whole_lines
 from sdtool.audit.sources.reading import Table, empty_item
 
 _AHEAD = 3  # blocks under way for each worker
-_NO_ACCOUNT, _TELL = "what read these lines doesn't account for all of them", "ask again with --jobs 1, and report a bug of sdtool-audit"
+_NO_ACCOUNT, _TELL = ("what read these lines doesn't account for all of them",
+                      "ask again with --jobs 1, and report a bug of sdtool-audit")
 
 
 class Report:
     """What is written and counted. seen is how many objects the sources have given."""
 
-    def __init__(self, output: ReportForm, accepted: Optional[Accepted] = None, is_each: bool = False) -> None:
-        self.output, self.accepted, self.summary = output, accepted, Summary()
+    def __init__(self, output: ReportForm, accepted: Optional[Accepted] = None, is_each: bool = False,
+                 said: Tuple[str, ...] = ()) -> None:
+        self.output, self.accepted, self.summary = output, accepted, Summary(said)
         self.groups = Groups(output.rows, is_each, output.lists_all)
         self.seen = 0
 
@@ -44,6 +46,8 @@ class Report:
             if accepted is not None:
                 answer = accepted.apply(item.name, answer)
             summary.add(answer)
+            if item.help and item.form:
+                summary.note(item.help, item.source)
             if lists_all or is_listed(answer):
                 if has_plain_rows or answer.findings:
                     groups.add(item, answer)
@@ -61,7 +65,8 @@ class Report:
 
 
 class _Piece(NamedTuple):
-    """The report of a block, the account of its lines, and how many empty lines stand at its end, which are in no account."""
+    """The report of a block, the account of its lines, and how many empty lines stand at its end, which are in no
+    account."""
 
     written: Any
     summary: Summary
@@ -96,12 +101,13 @@ def _report_block(text: str, before: int, layout: delimited.Layout) -> Optional[
     if found is None:
         return None
     blanks = delimited.blanks_behind(found)
-    account = Account(layout.label, delimited.FORMAT.name, delimited.FORMAT.unit, layout.look)
+    account = Account(layout.label, delimited.FORMAT.name, delimited.FORMAT.unit, layout.look, layout.guesses)
     pieces = delimited.pieces_of_records(found, layout, delimited.Reading(False))
     items = list(objects_of_pieces(delimited.FORMAT, pieces, Part(len(lines) - blanks), account, before + 1))
     report: Report = held.make_report()
     report.add(_engine_of(held.question).answer(items))
-    return _Piece(report.output.piece(), report.summary, report.groups, account, report.accepted.used if report.accepted else None, blanks)
+    return _Piece(report.output.piece(), report.summary, report.groups, account,
+                  report.accepted.used if report.accepted else None, blanks)
 
 
 @functools.lru_cache(maxsize=1)
@@ -111,8 +117,8 @@ def _engine_of(question: Any) -> Engine:
 
 
 class _Blocks:
-    """A text in blocks that end where a line does. lines is how many were read, which the accounts of the blocks have to add up
-    to; fault is what has ended the text early."""
+    """A text in blocks that end where a line does. lines is how many were read, which the accounts of the blocks have
+    to add up to; fault is what has ended the text early."""
 
     def __init__(self, texts: Iterator[str]) -> None:
         self._blocks = whole_lines(self._counted(texts))
@@ -144,11 +150,12 @@ class _Blocks:
 
 
 class _Handed:
-    """A part of a table that this process reads: from the empty lines before it, or its first line, to the empty lines at its
-    end, or its last line."""
+    """A part of a table that this process reads: from the empty lines before it, or its first line, to the empty lines
+    at its end, or its last line."""
 
     def __init__(self, reading: delimited.Reading, first: int) -> None:
-        self._reading, self.first, self.end = reading, reading.blanks[0] if reading.blanks else first, first  # the one behind its last
+        # the one behind its last
+        self._reading, self.first, self.end = (reading, reading.blanks[0] if reading.blanks else first, first)
 
     @property
     def count(self) -> int:
@@ -161,9 +168,9 @@ class _Handed:
 class Tables:
     """Reports tables by several processes, each of which reads, answers and writes blocks of lines.
 
-    A block is reported as if it began with a record. It does if the blocks before it ended with one; otherwise its report
-    is thrown away, and the block is read after the record that goes on in it. Each block has an account of its lines, which is
-    compared with the lines that were sent; and their sum with the lines that were read.
+    A block is reported as if it began with a record. It does if the blocks before it ended with one; otherwise its
+    report is thrown away, and the block is read after the record that goes on in it. Each block has an account of its
+    lines, which is compared with the lines that were sent; and their sum with the lines that were read.
     """
 
     def __init__(self, report: Report, engine: Engine, workers: pool.Pool, advance: Callable[[int], None]) -> None:
@@ -214,7 +221,7 @@ class Tables:
 
     def _add_block(self, block: _Block, layout: delimited.Layout, reading: delimited.Reading) -> None:
         assert block.work is not None
-        piece = block.work.result()
+        piece = self._pool.result(block.work)
         if piece is None:
             self._read(block.lines, block.before, layout, reading)
             return
@@ -263,7 +270,8 @@ class Tables:
 
     def _add_pieces(self, pieces: Iterator[Piece], handed: _Handed) -> None:
         """Reports what this process has read."""
-        account = Account(self._account.label, self._account.format_name, self._account.unit, self._account.look)
+        whole = self._account
+        account = Account(whole.label, whole.format_name, whole.unit, whole.look, whole.guesses)
         self._answer(objects_of_pieces(delimited.FORMAT, pieces, handed, account, handed.first))
         self._account.add(account)
 

@@ -1,12 +1,12 @@
 """How many objects have which answer, and which rules found how many."""
 import collections
-from typing import Counter, Optional
+from typing import Counter, Dict, Iterable, Iterator, Optional, Tuple
 
-from sdtool.audit.questions.asking import (ACCEPTED, FOUND, LESSER, NOT_COMPARED, NOTHING, SEVERITIES, TRUSTED, UNKNOWN, Answer)
+from sdtool.audit.findings import (ACCEPTED, ADDED, CHANGED, FOUND, GONE, KNOWN, LESSER, MENDED, NEW, NOT_COMPARED,
+                                   NOTHING, SAME, SEVERITIES, TRUSTED, UNKNOWN, Answer)
 
-ADDED, GONE, CHANGED, SAME = "added", "gone", "changed", "same"
-NEW, KNOWN, MENDED = "new", "known", "mended"
-_ORDER = (ADDED, GONE, CHANGED, NEW, MENDED, FOUND, ACCEPTED, UNKNOWN, KNOWN, LESSER, TRUSTED, NOT_COMPARED, SAME, NOTHING)
+_ORDER = (ADDED, GONE, CHANGED, NEW, MENDED, FOUND, ACCEPTED, UNKNOWN, KNOWN, LESSER, TRUSTED, NOT_COMPARED,
+          SAME, NOTHING)
 _FOUND = (FOUND, ADDED, GONE, CHANGED, NEW)
 # What a report for people counts and doesn't list.
 _QUIET = frozenset({KNOWN, LESSER, TRUSTED, NOT_COMPARED, SAME})
@@ -23,9 +23,12 @@ def counted(number: int, word: str) -> str:
 
 
 class Summary:
-    """Counts of a report."""
+    """Counts of a report. said is what decides about all of its answers beside the words."""
 
-    def __init__(self) -> None:
+    def __init__(self, said: Tuple[str, ...] = ()) -> None:
+        self.said = said
+        # The first source, how many objects, and whether other sources have some.
+        self._notes: Dict[str, Tuple[str, int, bool]] = {}
         self.answers: Counter[str] = collections.Counter()
         self.rules: Counter[str] = collections.Counter()
         self.severities: Counter[str] = collections.Counter()  # of objects with such a finding that counts
@@ -41,7 +44,26 @@ class Summary:
         for severity in {finding.severity for finding in answer.findings if finding.counts}:
             self.severities[severity] += count
 
+    def note(self, text: str, source: str, count: int = 1, has_others: bool = False) -> None:
+        """Counts so many objects of a source of which this is to be said."""
+        first, before, had_others = self._notes.get(text, (source, 0, False))
+        self._notes[text] = first, before + count, had_others or has_others or first != source
+
+    def note_all(self, notes: Iterable[Tuple[str, str, int]]) -> None:
+        """Takes what is said of all objects: text, source and count."""
+        self._notes.clear()
+        for text, source, count in notes:
+            self.note(text, source, count)
+
+    def notes(self) -> Iterator[str]:
+        """What is said beside the counts."""
+        yield from self.said
+        for text, (source, count, has_others) in self._notes.items():
+            yield f"{source}{' and others' * has_others}: {text} ({count:,})"
+
     def merge(self, other: "Summary") -> None:
+        for text, noted in other._notes.items():
+            self.note(text, *noted)
         self.answers.update(other.answers)
         self.rules.update(other.rules)
         self.severities.update(other.severities)
@@ -56,7 +78,8 @@ class Summary:
 
     def severity_text(self, places: Counter[str]) -> str:
         """How many objects have findings of each severity, and at how many places they are set."""
-        return "; ".join(f"{severity}: {counted(places[severity], 'place')} with {counted(self.severities[severity], 'object')}"
+        return "; ".join(f"{severity}: {counted(places[severity], 'place')} with "
+                         f"{counted(self.severities[severity], 'object')}"
                          for severity in SEVERITIES if self.severities[severity])
 
     def status(self, fail_on: Optional[str] = None) -> int:

@@ -4,20 +4,22 @@ import os
 import shutil
 import textwrap
 import unicodedata
-from typing import Any, Optional, Sequence, TextIO, Tuple
+from typing import Any, List, Optional, Sequence, TextIO, Tuple
 
 import click
 
-from sdtool.audit.questions.asking import ACCEPTED, FOUND, NOTHING, OWNER_KEY, UNKNOWN, Rule
-from sdtool.audit.reports.groups import ABOVE, BELOW, Ended, Group
-from sdtool.audit.reports.shown import sentence_of, shown
-from sdtool.audit.reports.summing import SAME, Summary, counted
+from sdtool.audit.findings import ACCEPTED, FOUND, NOTHING, SAME, UNKNOWN, Because, Mark, Rule
+from sdtool.audit.reports.group import ABOVE, BELOW, Group
+from sdtool.audit.reports.groups import Ended
+from sdtool.audit.reports.shown import sentence_of, shown, tell
+from sdtool.audit.reports.summing import Summary, counted
 
 _LABEL = 10          # columns of a severity
 _WIDEST_NAME = 60    # without a terminal
 _WIDEST_WORDS = 70
 _LEAST_WORDS = 24
-_COLORS = {"high": "red", "medium": "yellow", "low": "cyan", FOUND: "red", "changed": "red", "added": "red", "gone": "red",
+_COLORS = {"high": "red", "medium": "yellow", "low": "cyan", FOUND: "red", "changed": "red", "added": "red",
+           "gone": "red",
            "new": "red", UNKNOWN: "yellow", NOTHING: "green", SAME: "green", "mended": "green"}
 
 
@@ -25,7 +27,8 @@ def width_of(text: str) -> int:
     """The columns that a text takes on a terminal."""
     if text.isascii():
         return len(text)
-    return sum(0 if unicodedata.combining(one) else 2 if unicodedata.east_asian_width(one) in "WF" else 1 for one in text)
+    return sum(0 if unicodedata.combining(one) else 2 if unicodedata.east_asian_width(one) in "WF" else 1
+               for one in text)
 
 
 def _head_of(text: str, width: int) -> str:
@@ -57,36 +60,62 @@ def aces_text(numbers: Sequence[int]) -> str:
     return f"ACEs {', '.join(map(str, numbers[:-1]))} and {numbers[-1]}"
 
 
+def _rules_or_aces(because: Sequence[Because]) -> str:
+    """The ACEs of reasons, or what stands in their place."""
+    return (aces_text(sorted({one.number for one in because if one.number}))
+            or ", ".join(dict.fromkeys(one.text for one in because)))
+
+
 def place_text(group: Group) -> str:
-    """Where a permission is set, and how many objects below have it."""
-    finding = group.finding
-    if finding is None:
+    """What decides about a finding, where that is set, and how many objects below have it."""
+    if group.finding is None:
         return ""
-    mark = finding.mark
-    if not mark.numbers and not mark.key and finding.because:
-        # The ACEs that stop somebody, or what stands in the place of ACEs.
-        aces = aces_text([one.number for one in finding.because if one.number])
-        return f"by {aces}" if aces else finding.because[0].text
+    granting, denying = ([one for one in group.finding.because if one.grants == grants] for grants in (True, False))
+    denied = _rules_or_aces(denying)
+    if denying and not granting:
+        return f"by {denied}" if any(one.number for one in denying) else denied
+    set_at = _set_text(group, group.finding.mark) or (_rules_or_aces(granting) if not group.finding.mark.key else "")
+    return f"{set_at}; denied by {denied}" if denying else set_at
+
+
+def _set_text(group: Group, mark: Mark) -> str:
+    """Where the ACEs of a finding are set."""
     aces = aces_text(mark.numbers)
-    if mark.key.startswith(OWNER_KEY):
-        return f"and {counted(group.below, 'object')} below" if group.below else ""
+    if mark.is_of_owner:
+        return "; ".join(filter(None, [aces, _owned_text(group)]))
     if group.origin == ABOVE:
         more = f"; so is that of {counted(group.below - 1, 'more object')}" if group.below > 1 else ""
         return f"{aces}, inherited from above{more}"
     if group.origin == BELOW:
         return f"set here, and inherited by {counted(group.below, 'object')}"
-    if group.below:
-        return f"{aces}, set here; inherited by {counted(group.below, 'object')}"
     if mark.is_inherited:
         return f"{aces}, inherited"
-    return f"{aces}, set here" if aces else ""
+    told = [f"{aces}, set here" if aces else "",
+            f"inherited by {counted(group.below, 'object')}" if group.below else "",
+            f"owner of {counted(group.owned, 'object')} below" if group.owned else ""]
+    return "; ".join(filter(None, told))
+
+
+def _owned_text(group: Group) -> str:
+    """How many further objects belong to an owner: in the folder of the first one, and below these."""
+    more = [f"{counted(count, 'object')} {where}"
+            for count, where in ((group.beside, "beside it"), (group.below, "below")) if count]
+    return f"and {' and '.join(more)}" if more else ""
 
 
 def reason_text(group: Group) -> str:
-    """What is said of objects without a finding, and what would help."""
-    more = f" (and {counted(group.below, 'more object')})" if group.below else ""
+    """What is said of an object without a finding, and what would help."""
     place = f", {group.place}" if group.place else ""
-    return group.reason + place + more + (f". Help: {group.help}." if group.help else "")
+    return group.reason + place + (f". Help: {group.help}." if group.help else "")
+
+
+def _rows_of(ended: Ended, most: int) -> Tuple[List[Group], int]:
+    """The rows of a table, and how many are left. Neither what is known nor what is unknown is left out because of the
+    other."""
+    known, unknown, graded = [*ended.graded, *ended.plain], ended.unknown, len(ended.graded)
+    taken = known[:most or None]
+    rows = [*taken[:graded], *unknown[:most or None], *taken[graded:]]
+    return rows, len(known) + len(unknown) - len(rows) + ended.left_out
 
 
 class Table:
@@ -99,62 +128,65 @@ class Table:
         self._has_colors = self._is_terminal and "NO_COLOR" not in os.environ
 
     def write(self, summary: Summary, ended: Ended) -> None:
-        left = self._graded(ended) if any(rule.severity for rule in self._rules) else self._flat(ended)
+        self._unknown = summary.answers[UNKNOWN]
+        rows, left = _rows_of(ended, self._most)
+        if any(rule.severity for rule in self._rules):
+            self._graded(rows)
+        elif rows:
+            self._flat(sorted(rows, key=operator.attrgetter("order")))
         if left:
             self._line(f".. and {left:,} more: --most 0 shows all, --to csv or --to html has them.")
         for rule in self._rules:
             if summary.rules[rule.name] and not rule.severity:
                 self._line(f"{rule.name}: {summary.rules[rule.name]:,}. {rule.reason}")
-        told = summary.severity_text(ended.places)
-        if told:
-            self._line(told)
-        self._line(summary.text())
+        for text in filter(None, (*summary.notes(), summary.severity_text(ended.places), summary.text())):
+            self._line(text)
 
-    def _line(self, text: str) -> None:
-        self._file.write(text.rstrip() + "\n")
-
-    def _styled(self, text: str, status: str, bold: bool = False) -> str:
-        return click.style(text, fg=_COLORS.get(status), bold=bold) if self._has_colors else text
+    def _line(self, text: str, styled: str = "", status: str = "", bold: bool = False, behind: str = "") -> None:
+        """A line, with a part in the color of a status if a terminal has colors."""
+        if not styled or not self._has_colors:
+            tell(self._file, (text + styled + behind).rstrip())
+            return
+        colored = click.style(shown(styled), fg=_COLORS.get(status), bold=bold)
+        self._file.write((shown(text) + colored + shown(behind)).rstrip() + "\n")
 
     def _name_width(self, names: Sequence[str]) -> int:
         widest = max(24, self._columns // 3) if self._is_terminal else _WIDEST_NAME
         return min(widest, max(map(width_of, names), default=0))
 
-    def _words(self, text: str, indent: int) -> str:
-        """A text as it goes behind so many columns."""
+    def _words(self, text: str, indent: int) -> Tuple[str, List[str]]:
+        """A text as it goes behind so many columns: its first line, and the others."""
         if not self._is_terminal:
-            return text
-        lines = textwrap.wrap(text, max(_LEAST_WORDS, self._columns - indent - 1)) or [""]
-        return ("\n" + " " * indent).join(lines)
+            return text, []
+        first, *others = textwrap.wrap(text, max(_LEAST_WORDS, self._columns - indent - 1)) or [""]
+        return first, [" " * indent + line for line in others]
 
     # Findings that have severities.
 
-    def _graded(self, ended: Ended) -> int:
-        rows = [*ended.graded, *ended.unknown, *ended.plain]
-        taken = rows[:self._most or None]
-        # What is unknown is never left out because much was found.
-        taken += [row for row in ended.unknown[:self._most or None] if row not in taken] if len(taken) < len(rows) else []
+    def _graded(self, taken: Sequence[Group]) -> None:
         names = [shown(row.name) for row in taken]
         width = self._name_width(names)
         words = [self._words_of(row) for row in taken]
-        column = min(_WIDEST_WORDS, max((width_of(one) for one, row in zip(words, taken) if place_text(row)), default=0))
+        column = min(_WIDEST_WORDS,
+                     max((width_of(one) for one, row in zip(words, taken) if place_text(row)), default=0))
         last: Optional[Tuple[str, str]] = None
         for row, name, said in zip(taken, names, words):
-            title = self._title(row, ended)
+            title = self._title(row)
             if title != last:
-                self._line(self._styled(_padded(title[0].upper(), _LABEL), title[0], True) + title[1])
+                self._line("", _padded(title[0].upper(), _LABEL), title[0], True, title[1])
                 last = title
             place = place_text(row)
             text = _padded(said, column) + "  " + place if place else said
             start = " " * _LABEL + _padded(cut(name, width), width) + "  "
-            self._line(start + self._words(text if not self._is_terminal else "  ".join(filter(None, [said, place])),
-                                           _LABEL + width + 2))
-        return len(rows) - len(taken) + ended.left_out
+            first, others = self._words(text if not self._is_terminal else "  ".join(filter(None, [said, place])),
+                                        _LABEL + width + 2)
+            for line in (start + first, *others):
+                self._line(line)
 
-    def _title(self, row: Group, ended: Ended) -> Tuple[str, str]:
+    def _title(self, row: Group) -> Tuple[str, str]:
         if row.finding is None:
-            count = sum(one.objects for one in ended.unknown)
-            return row.status, f"{counted(count, 'object')}, of which nothing is known" if row.status == UNKNOWN else ""
+            return (row.status, f"{counted(self._unknown, 'object')}, of which nothing is known"
+                    if row.status == UNKNOWN else "")
         reason = next((rule.reason for rule in self._rules if rule.name == row.finding.rule), "")
         return (ACCEPTED if row.finding.accepted else row.finding.severity, f"{row.finding.rule}: {reason}")
 
@@ -164,26 +196,21 @@ class Table:
 
     # Findings in the order of the objects.
 
-    def _flat(self, ended: Ended) -> int:
-        rows = sorted([*ended.plain, *ended.graded, *ended.unknown], key=operator.attrgetter("order"))
-        taken = rows[:self._most or None]
-        if taken:
-            self._flat_rows(taken)
-        return len(rows) - len(taken) + ended.left_out
-
-    def _flat_rows(self, taken: Sequence[Group]) -> None:
+    def _flat(self, taken: Sequence[Group]) -> None:
         names = [shown(row.name) for row in taken]
         width = self._name_width(["Object", *names])
         status_width = max(width_of("Answer"), *(width_of(row.status) for row in taken))
-        self._line(self._styled(f"{_padded('Object', width)}  {_padded('Answer', status_width)}  What", "", True))
+        self._line("", f"{_padded('Object', width)}  {_padded('Answer', status_width)}  What", "", True)
         last: Any = None
         for row, name in zip(taken, names):
             told = cut(name, width) if not self._is_terminal or (name, row.source, row.line) != last else ""
             last = (name, row.source, row.line)
             said = shown(sentence_of(row.finding)) if row.finding is not None else self._words_of(row)
             place = place_text(row)
-            self._line(f"{_padded(told, width)}  {self._styled(_padded(row.status, status_width), row.status)}  "
-                       + self._words(said + (f" [{place}]" if place else ""), width + status_width + 4))
+            first, others = self._words(said + (f" [{place}]" if place else ""), width + status_width + 4)
+            self._line(f"{_padded(told, width)}  ", _padded(row.status, status_width), row.status, behind=f"  {first}")
+            for line in others:
+                self._line(line)
 
 
 class Markdown:
@@ -194,25 +221,25 @@ class Markdown:
 
     def write(self, summary: Summary, ended: Ended) -> None:
         self._file.write(f"# {escaped(self._title)}\n\n{escaped(summary.text())}.\n")
-        told = summary.severity_text(ended.places)
-        if told:
-            self._file.write(f"{escaped(told)}.\n")
-        rows = [*ended.graded, *ended.unknown, *ended.plain]
-        taken = rows[:self._most or None]
-        if taken:
+        for text in filter(None, (summary.severity_text(ended.places), *summary.notes())):
+            self._file.write(f"{escaped(text)}.\n")
+        rows, left = _rows_of(ended, self._most)
+        if rows:
             self._file.write("\n| Severity | Object | What | Where |\n|---|---|---|---|\n")
-        for row in taken:
+        for row in rows:
             finding = row.finding
-            severity = row.status if finding is None or not finding.severity else ACCEPTED if finding.accepted else finding.severity
+            severity = (row.status if finding is None or not finding.severity else ACCEPTED if finding.accepted
+                        else finding.severity)
             said = sentence_of(finding) if finding is not None else reason_text(row)
-            self._file.write(f"| {escaped(severity)} | {escaped(row.name)} | {escaped(said)} | {escaped(place_text(row))} |\n")
-        left = len(rows) - len(taken) + ended.left_out
+            self._file.write(f"| {escaped(severity)} | {escaped(row.name)} | {escaped(said)} | "
+                             f"{escaped(place_text(row))} |\n")
         if left:
             self._file.write(f"\n.. and {left:,} more, which --to csv has.\n")
         reasons = [rule for rule in self._rules if summary.rules[rule.name]]
         if reasons:
-            self._file.write("\n" + "".join(f"- {escaped(rule.name)}: {summary.rules[rule.name]:,}. {escaped(rule.reason)}\n"
-                                            for rule in reasons))
+            self._file.write("\n" +
+                             "".join(f"- {escaped(rule.name)}: {summary.rules[rule.name]:,}. {escaped(rule.reason)}\n"
+                                     for rule in reasons))
 
 
 _MARKS = {one: "\\" + one for one in "\\`*_{}[]<>()#+!|~&@"}

@@ -1,18 +1,18 @@
-"""The files of zip and tar archives, read from the first byte to the last, so that a pipe may hold one. What is no part of an
-archive, a member that can't be read and an archive without its end are told."""
+"""The files of zip and tar archives, read from the first byte to the last, so that a pipe may hold one. What is no part
+of an archive, a member that can't be read and an archive without its end are told."""
 import io
 import struct
 import zipfile
 import zlib
 from typing import Any, Callable, Dict, Generator, Iterator, List, NamedTuple, Optional, Tuple, Union
 
-from sdtool.audit.sources.opening import Trouble
-
 _LOCAL, _CENTRAL, _END = b"PK\3\4", b"PK\1\2", b"PK\5\6"
 _END_64, _LOCATOR_64, _DESCRIPTOR, _SIGNATURE = b"PK\6\6", b"PK\6\7", b"PK\7\x08", b"PK\5\5"
 _LOCAL_HEAD = struct.Struct("<4sHHHHHIIIHH")
 _CENTRAL_HEAD = struct.Struct("<4sHHHHHHIIIHHHHHII")
 _PART = 1 << 16
+_LONGEST_NUMBER = 20
+_MOST_HEAD = 1 << 24  # bytes of a head of tar with a name
 _PACK_AGAIN = "pack the files again"
 _CUT = "the archive is cut or damaged"
 
@@ -24,6 +24,14 @@ class Member(NamedTuple):
     raw: io.RawIOBase
 
 
+class Trouble(NamedTuple):
+    """A part of an archive that can't be read, and the reason."""
+
+    label: str
+    reason: str
+    help: str
+
+
 class _Bytes:
     """A stream of bytes that can be looked at and given back."""
 
@@ -33,11 +41,14 @@ class _Bytes:
         self.at = 0  # bytes taken
 
     def look(self, count: int) -> bytes:
-        while len(self._held) < count:
+        parts, wanted = [self._held], count - len(self._held)
+        while wanted > 0:
             part = self._stream.read1(_PART)
             if not part:
                 break
-            self._held += part
+            parts.append(part)
+            wanted -= len(part)
+        self._held = b"".join(parts)
         return self._held[:count]
 
     def take(self, count: int) -> bytes:
@@ -91,7 +102,7 @@ class _Packed(io.RawIOBase):
         self.left = entry.size  # compressed bytes
         self.taken = 0
         self.crc, self.whole = 0, 0
-        self._ready = b""
+        self._ready = memoryview(b"")
 
     def readable(self) -> bool:
         return True
@@ -99,14 +110,15 @@ class _Packed(io.RawIOBase):
     def readinto(self, buffer: Any) -> int:
         while not self._ready:
             if self._unpacker.eof or self.left == 0:
-                if self.left is not None and (self.left, self.crc, self.whole) != (0, self._entry.crc, self._entry.whole):
+                if self.left is not None and (self.left, self.crc, self.whole) != (0, self._entry.crc,
+                                                                                   self._entry.whole):
                     raise zipfile.BadZipFile("the member is damaged: its check sum or its size is another")
                 return 0
             data = self._source.some(_PART if self.left is None else min(self.left, _PART))
             if not data:
                 raise EOFError("the member is cut")
             self._count(len(data))
-            self._ready = self._unpacker.decompress(data)
+            self._ready = memoryview(self._unpacker.decompress(data))
             rest = getattr(self._unpacker, "unused_data", b"") if self._unpacker.eof else b""
             if rest:
                 self._source.give_back(rest)
@@ -232,10 +244,12 @@ class _Zip:
         label = f"{self._label}:{entry.name}"
         unpacker = _unpacker_of(entry)
         if flags & 1 or unpacker is None:
-            reason = "the member is encrypted" if flags & 1 else f"the member is compressed by method {method}, which isn't known"
+            reason = ("the member is encrypted" if flags & 1
+                      else f"the member is compressed by method {method}, which isn't known")
             yield Trouble(label, reason, "unpack the archive, and name its files")
             self._seen.append((entry.name, crc))
-            return entry.size is not None and _skip(source, entry.size) and (not flags & 8 or self._take_descriptor(None, flags))
+            return (entry.size is not None and _skip(source, entry.size)
+                    and (not flags & 8 or self._take_descriptor(None, flags)))
         packed = _Packed(source, entry, unpacker)
         if not entry.name.endswith("/") or whole:  # a folder has no bytes
             yield Member(label, packed)
@@ -321,14 +335,15 @@ def _is_tar_head(block: bytes) -> bool:
 
 
 def _pax(data: bytes) -> Dict[str, str]:
-    """The fields of an extended head."""
+    """The fields of an extended head. Each begins with its length and a blank."""
     fields = {}
-    while data:
-        length, _, _ = data.partition(b" ")
-        record = data[:int(length)]
-        key, _, value = record[len(length) + 1:-1].partition(b"=")
+    at = 0
+    while at < len(data):
+        blank = data.index(b" ", at, at + _LONGEST_NUMBER)
+        length = int(data[at:blank])
+        key, _, value = data[blank + 1:at + length - 1].partition(b"=")
         fields[key.decode("utf-8", "replace")] = value.decode("utf-8", "surrogateescape")
-        data = data[max(1, int(length)):]
+        at += max(1, length)
     return fields
 
 
@@ -345,14 +360,15 @@ def _tar_members(source: _Bytes, label: str) -> Iterator[Union[Member, Trouble]]
                 pass
             return
         size, kind = _number(block[124:136]), block[156:157]
-        if kind in b"Lx" and kind:
+        if kind in b"Lx" and kind and size <= _MOST_HEAD:
             data = source.take((size + 511) // 512 * 512)[:size]
             if kind == b"L":
                 long_name = data.rstrip(b"\0").decode("utf-8", "surrogateescape")
             else:
                 try:
                     fields = _pax(data)
-                    long_name, long_size = fields.get("path", long_name), int(fields["size"]) if "size" in fields else None
+                    long_name, long_size = (fields.get("path", long_name),
+                                            int(fields["size"]) if "size" in fields else None)
                 except ValueError:
                     yield Trouble(f"{label}: from byte {at} on", "the head of a member is damaged", _PACK_AGAIN)
             continue
@@ -371,8 +387,9 @@ def _tar_members(source: _Bytes, label: str) -> Iterator[Union[Member, Trouble]]
         elif kind in b"123456" and kind:
             continue  # a link, a device or a folder has no bytes
         else:
-            if kind != b"g":
-                yield Trouble(member_label, f"the member is of a kind that isn't known: {kind!r}", "unpack the archive, and name its files")
+            if kind not in (b"g", b"K"):  # fields of all members, and the name to which a link goes
+                yield Trouble(member_label, f"the member is of a kind that isn't known: {kind!r}",
+                              "unpack the archive, and name its files")
             if not _skip(source, (size + 511) // 512 * 512):
                 yield Trouble(f"{label}: from byte {source.at} on", _CUT, _PACK_AGAIN)
                 return

@@ -3,7 +3,7 @@ import struct
 from typing import Iterator
 
 from sdtool.audit.sources.frame import Data, Format, Piece
-from sdtool.audit.sources.items import bytes_item, unreadable
+from sdtool.audit.sources.items import UNTOLD, bytes_item, unreadable
 from sdtool.audit.sources.options import SourceOptions
 
 _LONGEST = 131_226
@@ -28,14 +28,17 @@ def end_of(data: bytes) -> int:
 
 
 def _read(source: Data, label: str, options: SourceOptions) -> Iterator[Piece]:
-    data, kind = source.read(_LONGEST + 1), options.kind or "file"
+    data, kind = source.read(_LONGEST + 1), options.kind or UNTOLD
     rest = data[end_of(data):] if len(data) >= 20 else b""
     if any(rest):
-        lost = unreadable(label, label, 0, f"behind the descriptor, from byte {len(data) - len(rest)} on, are other bytes" +
-                          (": a second descriptor" if looks_like_descriptor(rest) else ""), "write each descriptor to a file of its own", kind)
+        lost = unreadable(label, label, 0,
+                          f"behind the descriptor, from byte {len(data) - len(rest)} on, are other bytes" +
+                          (": a second descriptor" if looks_like_descriptor(rest) else ""),
+                          "write each descriptor to a file of its own", kind)
         yield Piece(0, source.units(), lost)
     elif data:
         yield Piece(0, len(data), bytes_item(label, label, 0, data, kind))
 
 
-FORMAT = Format("binary", "a file that is one descriptor in bytes", "the file", (), lambda look: False, _read, takes="bytes")
+FORMAT = Format("binary", "a file that is one descriptor in bytes", "the file", (), lambda look: False, _read,
+                takes="bytes")

@@ -4,37 +4,32 @@ import csv
 import functools
 import itertools
 import re
-from typing import Deque, Iterable, Iterator, List, NamedTuple, Optional, Tuple
+from typing import Deque, Iterable, Iterator, List, Mapping, NamedTuple, Optional, Tuple
 
-from sdtool.audit.sources.frame import Format, LineBlocks, Look, Piece
-from sdtool.audit.sources.items import Item, item_of, looks_like_descriptor, unreadable
+from sdtool.audit.sources.frame import BY_NAMES, Format, LineBlocks, Look, Piece, guesses_of
+from sdtool.audit.sources.items import UNTOLD, Item, item_of, looks_like_descriptor, unreadable
+from sdtool.audit.sources.messages import named_in, strange_item
+from sdtool.audit.sources.naming import (CLASS_NAME, DESCRIPTOR_NAMES, NAME_NAMES, kind_of_name, kind_of_titles,
+                                         place_of_classes, plain_name, ranked)
 from sdtool.audit.sources.options import SourceOptions
 
-DELIMITERS = (",", ";", "\t", "|")
-# Names of columns and of members in JSON, in lower case and without blanks, '_' and '-'; the first that is there counts.
-DESCRIPTOR_NAMES = ("sddl", "securitydescriptor", "ntsecuritydescriptor", "descriptor", "sd", "acl", "securitydescriptorsddl",
-                    "sddlstring", "permissions")
-NAME_NAMES = ("path", "fullname", "name", "objectname", "distinguishedname", "dn", "pspath", "object", "file", "filename",
-              "folder", "share", "pschildname", "key", "service", "id")
+_LINES = ("|", "\u2502")
+DELIMITERS = (",", ";", "\t", *_LINES)
 _MOST_LINES = 1000       # of a record: a quotation mark that stays open takes no more
 _MOST_CHARACTERS = 1 << 22
-_SAMPLE_LINES, _MOST_SAMPLE_LINES = 20, 2_000
+_SAMPLE_LINES = 20
 _MOST_SPELLED, _LONGEST_SPELLED = 20_000, 2_000  # texts of descriptors that are kept, and characters of each
-_KEYS = ("microsoft.powershell.core\\registry::", "hkey_", "hklm:", "hkcu:")
-_DIRECTORIES = ("microsoft.activedirectory", "ad:\\")
-# Most names begin with another letter, and many differ in their first 40 characters.
-_FIRST_LETTERS = frozenset(letter for start in _KEYS + _DIRECTORIES for letter in (start[0], start[0].upper()))
-
 _DELIMITER_LINE = re.compile(r'"?sep=([^"\r\n])"?\r?\Z', re.I)
 _TYPE_LINE = re.compile(r'"?#TYPE [^\s,;|"]+"?\s*\Z', re.I)
-_BLANK, _TITLES, _HEAD = "blank lines before the first row and behind the last", "the row of titles, also again", \
-    "a line '#TYPE ..' or 'sep=..' before it"
+_BLANK, _TITLES = ("blank lines before the first row and behind the last",
+                   "titles, also again, dashes below them, a count of rows")
+_HEAD = "a line '#TYPE ..' or 'sep=..' before them"
+# Lines of dashes of a table that is drawn, and the count of its rows as psql prints it.
+_RULE = re.compile(r"[ \t\r]*(?::?[-+=\u2500-\u257f]{3,}:?|\([0-9]+ \w+\))[ \t\r]*\Z")
 _SDDL_INSIDE = re.compile(r"[OGDS]:(?![\\/])", re.I)
 _BYTES_INSIDE = re.compile(r"01[0-9a-f]{38}|A[Q-Za-f][A-Za-z0-9+/]{25}", re.I)
 READ_AS = "; read as csv"
 _MAY_BE_TITLES = "if this row has titles, say --header"
-
-_NO_LETTERS = str.maketrans("", "", " _-")
 
 csv.field_size_limit(1 << 26)
 
@@ -43,15 +38,17 @@ class _Unclosed(Exception):
     """A record takes more lines than any should."""
 
 
-# A row with the line where it begins, or no row, the reason, and the text of its first line; and the number of its lines.
+# A row with the line where it begins, or no row, the reason, and the text of its first line; and the number of its
+# lines.
 Record = Tuple[int, Optional[List[str]], str, str, int]
 
 
 class Columns(NamedTuple):
     """Which columns have names and descriptors, and how many columns there are.
 
-    rivals are further columns that may have the descriptor. reason says why no row can be read, and help what would help;
-    is_words says that the words of the command line are what is wrong.
+    rivals are further columns that may have the descriptor, and others those with a name where the first has none.
+    reason says why no row can be read, and help what would help; is_words says that the words of the command line are
+    what is wrong.
     """
 
     name: Optional[int]
@@ -61,35 +58,21 @@ class Columns(NamedTuple):
     reason: str = ""
     help: str = ""
     is_words: bool = False
-
-
-def plain_name(name: str) -> str:
-    """The name of a column or member, in the form of the tables above."""
-    return name.translate(_NO_LETTERS).lower()
-
-
-def kind_of_name(name: str) -> str:
-    """The kind of an object that PowerShell names."""
-    return _kind_of_start(name[:40]) if name[:1] in _FIRST_LETTERS else "file"
-
-
-@functools.lru_cache(maxsize=10_000)
-def _kind_of_start(start: str) -> str:
-    lower = start.lower()
-    if lower.startswith(_KEYS):
-        return "key"
-    return "ds" if lower.startswith(_DIRECTORIES) else "file"
+    others: Tuple[int, ...] = ()
+    classes: Optional[int] = None  # the column with the classes of directory objects
 
 
 def _records_of_lines(block: List[str], delimiter: str, quoting: int, before: int) -> Optional[Iterable[Record]]:
-    """The records of lines that begin and end with one; None if any is malformed, or may take more lines than it should.
+    """The records of lines that begin and end with one; None if any is malformed, or may take more lines than it
+    should.
 
     Each line is a record in the usual case, which is fast.
     """
     try:
         rows = list(csv.reader(block, delimiter=delimiter, strict=True, quoting=quoting))
         if len(rows) == len(block):
-            return zip(itertools.count(before + 1), rows, itertools.repeat(""), itertools.repeat(""), itertools.repeat(1))
+            return zip(itertools.count(before + 1), rows, itertools.repeat(""), itertools.repeat(""),
+                       itertools.repeat(1))
         if sum(map(len, block)) > _MOST_CHARACTERS:
             return None
         found: List[Record] = []
@@ -156,7 +139,8 @@ def _sample_rows(sample: List[str], delimiter: str, quotes: bool = True) -> List
 
 
 def _has_descriptor(line: str) -> bool:
-    """Whether a descriptor may stand in a line. A text of SDDL has a parenthesis behind its first part, in the same cell."""
+    """Whether a descriptor may stand in a line. A text of SDDL has a parenthesis behind its first part, in the same
+    cell."""
     for cell in re.split(r"[,\t|]", line) if "(" in line else ():
         found = _SDDL_INSIDE.search(cell)
         if found and cell.rfind("(") >= found.end():
@@ -165,9 +149,9 @@ def _has_descriptor(line: str) -> bool:
 
 
 def _sample_of(lines: List[str]) -> List[str]:
-    """The first lines, as many as it takes to meet one with a descriptor."""
-    at = next((at for at, line in enumerate(lines) if _has_descriptor(line)), _SAMPLE_LINES)
-    return lines[:max(_SAMPLE_LINES, at + 1)]
+    """The first lines, and those from the first one with a descriptor on."""
+    at = next((at for at, line in enumerate(lines) if _has_descriptor(line)), 0)
+    return lines[:_SAMPLE_LINES] + lines[max(_SAMPLE_LINES, at):at + _SAMPLE_LINES]
 
 
 def _usual_width(rows: List[List[str]]) -> int:
@@ -186,18 +170,13 @@ def _delimiter(sample: List[str]) -> str:
             continue
         whole = [row for row in rows if len(row) == width]
         # A delimiter that stands in descriptors leaves parts of them, and another one leaves a name behind them.
-        described = sum(any(looks_like_descriptor(cell) and cell.count("(") == cell.count(")") and "\t" not in cell for cell in row)
+        described = sum(any(looks_like_descriptor(cell) and cell.count("(") == cell.count(")") and "\t" not in cell
+                            for cell in row)
                         for row in whole)
         score = (described, len(whole))
         if score > best_score:
             best, best_score = delimiter, score
     return best if best_score[0] or not any(map(looks_like_descriptor, sample)) else ","
-
-
-def _named_columns(row: List[str], names: Tuple[str, ...]) -> List[int]:
-    """The columns with one of these titles, the best first."""
-    found = [(names.index(plain), at) for at, cell in enumerate(row) for plain in (plain_name(cell),) if plain in names]
-    return [at for _, at in sorted(found)]
 
 
 def _chosen_column(chosen: str, header: Optional[List[str]], width: int) -> Optional[int]:
@@ -220,14 +199,17 @@ def _title(header: Optional[List[str]], at: int) -> str:
 
 
 def _is_titles(row: List[str], options: SourceOptions) -> bool:
-    """Whether a row has titles: one of them is known, or words name it. A row with an empty cell for its descriptor has not."""
+    """Whether a row has titles: one of them is known, or words name it. A row with an empty cell for its descriptor has
+    not."""
     if any(map(looks_like_descriptor, row)):
         return False
-    words = [word.strip().lower() for word in (options.name_column, options.descriptor_column) if word and not word.isdigit()]
+    words = [word.strip().lower() for word in (options.name_column, options.descriptor_column) if word
+             and not word.isdigit()]
     if any(cell.strip().lower() in words for cell in row):
         return True
-    descriptors, names = _named_columns(row, DESCRIPTOR_NAMES), _named_columns(row, NAME_NAMES)
-    return bool(descriptors and names) or all(cell.strip() for cell in row) and bool(descriptors or names and len(row) > 1)
+    descriptors, names = ranked(row, DESCRIPTOR_NAMES), ranked(row, NAME_NAMES)
+    return (bool(descriptors and names) or all(cell.strip() for cell in row)
+            and bool(descriptors or names and len(row) > 1))
 
 
 def _titles_at(rows: List[List[str]], options: SourceOptions) -> int:
@@ -251,40 +233,51 @@ def _columns(rows: List[List[str]], header: Optional[List[str]], options: Source
     if options.descriptor_column:
         descriptor = _chosen_column(options.descriptor_column, header, width)
     else:
-        named = _named_columns(header, DESCRIPTOR_NAMES) if header is not None else []
+        named = ranked(header, DESCRIPTOR_NAMES) if header is not None else []
         named.sort(key=lambda at: at not in likely)  # those that have descriptors come first
         if named and (named[0] in likely or not likely):
             # Another of these columns counts where it has a descriptor; one of the same title always.
             descriptor, rivals = named[0], named[1:]
         elif not likely:
-            return Columns(None, 0, width, (), f"no column has descriptors: {known}", "name one with --descriptor-column",
-                           options.format == "csv" and header is not None)
+            return Columns(None, 0, width, (), f"no column has descriptors: {known}",
+                           "name one with --descriptor-column", options.format == "csv" and header is not None)
         else:
             descriptor, rivals = likely[0], likely[1:]
     assert descriptor is not None
-    same = [at for at in rivals if header is not None and plain_name(_title(header, at)) == plain_name(_title(header, descriptor))]
+    same = [at for at in rivals if header is not None
+            and plain_name(_title(header, at)) == plain_name(_title(header, descriptor))]
     if same:
-        return Columns(None, descriptor, width, (), f"two columns may be the descriptor: {_title(header, descriptor)} and "
-                       f"{_title(header, same[0])}", "name one with --descriptor-column, by its number")
+        return Columns(None, descriptor, width, (),
+                       f"two columns may be the descriptor: {_title(header, descriptor)} and {_title(header, same[0])}",
+                       "name one with --descriptor-column, by its number")
+    names: List[int] = []
     if options.name_column:
-        name = _chosen_column(options.name_column, header, width)
+        names = [at for at in (_chosen_column(options.name_column, header, width),) if at is not None]
     else:
-        titles = [at for at in (_named_columns(header, NAME_NAMES) if header is not None else []) if at != descriptor]
-        twice = [at for at in titles[1:] if header is not None and plain_name(header[at]) == plain_name(header[titles[0]])]
+        names = [at for at in (ranked(header, NAME_NAMES) if header is not None else []) if at != descriptor]
+        twice = [at for at in names[1:] if header is not None
+                 and plain_name(header[at]) == plain_name(header[names[0]])]
         if twice:
-            return Columns(None, descriptor, width, (), f"two columns may be the name: {_title(header, titles[0])} and "
+            return Columns(None, descriptor, width, (), f"two columns may be the name: {_title(header, names[0])} and "
                            f"{_title(header, twice[0])}", "name one with --name-column, by its number")
-        others = [at for at in range(width) if at != descriptor]
-        name = (titles or others)[0] if titles or others else None
+        names = names or [at for at in range(width) if at != descriptor and not _is_empty(rows, at)][:1]
     if descriptor >= width:  # it has no title
         width = collections.Counter(len(row) for row in rows if len(row) > descriptor).most_common(1)[0][0]
-    return Columns(name, descriptor, width, tuple(at for at in rivals if at < width))
+    rivals = [at for at in rivals if at < width]
+    classes = next(iter(ranked(header or (), (CLASS_NAME,))), None)
+    return Columns(names[0] if names else None, descriptor, width, tuple(rivals), others=tuple(names[1:]),
+                   classes=classes)
+
+
+def _is_empty(rows: List[List[str]], at: int) -> bool:
+    """Whether no row has anything in a column, as the first one of a drawn table."""
+    return not any(row[at].strip() for row in rows if at < len(row))
 
 
 def _looks_delimited(look: Look) -> bool:
     """Whether lines are those of a table with a column of descriptors."""
     begin = _begin_of(look.lines)
-    sample = _sample_of(look.lines[begin:begin + _MOST_SAMPLE_LINES])
+    sample = _sample_of(look.lines[begin:])
     if not sample:
         return begin > 0 and any(line.strip() for line in look.lines[:begin])
     if any(map(_TYPE_LINE.match, look.lines[:begin])):
@@ -292,23 +285,24 @@ def _looks_delimited(look: Look) -> bool:
     rows = _sample_rows(sample, _delimiter(sample))
     if _usual_width(rows) == 1:
         # One column under its title.
-        return bool(_named_columns(rows[0], DESCRIPTOR_NAMES)) and any(looks_like_descriptor(row[0]) for row in rows[1:])
+        return bool(ranked(rows[0], DESCRIPTOR_NAMES)) and any(looks_like_descriptor(row[0]) for row in rows[1:])
     if _usual_width(rows) < 2 or looks_like_descriptor(sample[0]) and not _has_column_of_descriptors(rows):
         return False
-    is_headed = bool(_named_columns(rows[0], DESCRIPTOR_NAMES)) and bool(_named_columns(rows[0], NAME_NAMES))
+    is_headed = bool(ranked(rows[0], DESCRIPTOR_NAMES)) and bool(ranked(rows[0], NAME_NAMES))
     return is_headed or any(any(map(looks_like_descriptor, row)) for row in rows)
 
 
 def _has_column_of_descriptors(rows: List[List[str]]) -> bool:
     """Whether most rows have a whole descriptor in one of their fields, and something beside it."""
-    good = [row for row in rows if any(looks_like_descriptor(cell) and cell.count("(") == cell.count(")") for cell in row)
+    good = [row for row in rows if any(looks_like_descriptor(cell) and cell.count("(") == cell.count(")")
+                                       for cell in row)
             and sum(bool(cell.strip()) for cell in row) > 1]
     return 2 * len(good) > len(rows)
 
 
 def _begin_of(first: List[str]) -> int:
-    """How many lines stand before the first row. Export-Csv of Windows PowerShell begins with a type, and a spreadsheet may
-    begin with its delimiter."""
+    """How many lines stand before the first row. Export-Csv of Windows PowerShell begins with a type, and a spreadsheet
+    may begin with its delimiter."""
     begin = 0
     while begin < len(first) and not first[begin].strip():
         begin += 1
@@ -320,7 +314,7 @@ def _begin_of(first: List[str]) -> int:
 class Layout(NamedTuple):
     """What is known of a table once its first lines were seen. skipped is the number of lines before its first row.
 
-    heads are the rows that are no objects wherever they come: the titles, and the lines before them.
+    heads are the rows that are no objects wherever they come: the lines before the titles, and the titles at their end.
     """
 
     label: str
@@ -333,13 +327,20 @@ class Layout(NamedTuple):
     heads: Tuple[List[str], ...] = ()
     first: int = 0  # the line that may have titles, of a table that isn't known to have some
     look: str = ""  # what is said beside each object that can't be read
+    guesses: Mapping[str, str] = {}  # and beside the others, by their kinds
+    is_drawn: bool = False  # whether blanks and lines of dashes are there for the eye
+
+    def is_head(self, row: List[str]) -> bool:
+        """Whether a row is none that has an object."""
+        cells = [cell for cell in row if cell.strip()] if self.delimiter in _LINES else []
+        return bool(cells) and all(map(_RULE.match, cells)) or row in self.heads
 
 
 def layout_of(first: List[str], label: str, options: SourceOptions) -> Layout:
     """The layout of a table, by its first lines."""
     skipped = _begin_of(first)
     named = next(filter(None, map(_DELIMITER_LINE.match, first[:skipped])), None)
-    sample = _sample_of(first[skipped:skipped + _MOST_SAMPLE_LINES])
+    sample = _sample_of(first[skipped:])
     delimiter = options.delimiter or (named[1] if named else _delimiter(sample))
     rows = _sample_rows(sample, delimiter, options.quotes) or [sample[:1] or [""]]
     is_typed = any(map(_TYPE_LINE.match, first[:skipped]))
@@ -348,15 +349,25 @@ def layout_of(first: List[str], label: str, options: SourceOptions) -> Layout:
     has_header = titles >= 0
     header = rows[titles] if has_header else None
     columns = _columns(rows[titles + 1:], header, options)
-    heads = [row for line in first[:skipped] if line.strip() for row in _sample_rows([line], delimiter, options.quotes)]
+    before = filter(str.strip, first[:min(skipped, _SAMPLE_LINES)])
+    heads = [row for line in before for row in _sample_rows([line], delimiter, options.quotes)]
     may_be = options.has_header is None and not has_header and not any(map(looks_like_descriptor, rows[0]))
-    return Layout(label, columns, delimiter, options.quotes, options.kind, has_header, skipped,
+    kind = options.kind or kind_of_titles(header or ()) or None
+    return Layout(label, columns, delimiter, options.quotes, kind, has_header, skipped,
                   tuple([*heads, header] if header else heads), skipped + 1 if may_be else 0,
-                  "" if options.format else READ_AS)
+                  "" if options.format else READ_AS, guesses_of(FORMAT, options), _is_drawn(rows, delimiter))
+
+
+def _is_drawn(rows: List[List[str]], delimiter: str) -> bool:
+    """Whether a table has blanks beside its lines, as psql and others draw it."""
+    cells = (cell for row in rows for cell in row)
+    return (delimiter in _LINES and all(not cell or cell[0] == " " or cell[-1] in " \r" or _RULE.match(cell)
+                                        for cell in cells))
 
 
 class Reading:
-    """How far a table was read: whether its titles come, and the empty lines that were seen last, which count if a row follows."""
+    """How far a table was read: whether its titles come, and the empty lines that were seen last, which count if a row
+    follows."""
 
     def __init__(self, awaits_titles: bool) -> None:
         self.awaits_titles = awaits_titles
@@ -393,7 +404,8 @@ def _read(source: LineBlocks, label: str, options: SourceOptions) -> Iterator[Pi
     yield from reading.end()
 
 
-def pieces_of_blocks(block: List[str], following: Iterator[List[str]], layout: Layout, before: int, reading: Reading) -> Iterator[Piece]:
+def pieces_of_blocks(block: List[str], following: Iterator[List[str]], layout: Layout, before: int,
+                     reading: Reading) -> Iterator[Piece]:
     """The pieces of a block, and of the blocks that follow it until a record ends where a block does."""
     whole = whole_records(block, before, layout)
     if whole is not None:
@@ -415,10 +427,12 @@ def blanks_behind(found: List[Record]) -> int:
 
 
 def pieces_of_records(found: List[Record], layout: Layout, reading: Reading) -> Iterator[Piece]:
-    """The pieces of records: the objects of rows that follow one another, titles, and empty lines once a row follows them."""
+    """The pieces of records: the objects of rows that follow one another, titles, and empty lines once a row follows
+    them."""
     label, kind, columns, heads, blanks = layout.label, layout.kind, layout.columns, layout.heads, reading.blanks
-    count, name_at, descriptor_at = columns.width, columns.name, columns.descriptor
+    count, name_at, descriptor_at, classes_at = columns.width, columns.name, columns.descriptor, columns.classes
     is_odd = bool(columns.reason or columns.rivals or descriptor_at >= count)
+    is_drawn = layout.is_drawn
     items: List[Item] = []
     begin = end = found[0][0] if found else 0  # of the rows in items
     for line, row, reason, text, length in found:
@@ -440,17 +454,20 @@ def pieces_of_records(found: List[Record], layout: Layout, reading: Reading) -> 
                                     "quote every field, and double quotation marks in it" + layout.look))
             continue
         if not is_head:
-            name = row[name_at] if name_at is not None and name_at < len(row) else f"{label}:{line}"
+            named = row[name_at] if name_at is not None and name_at < len(row) else None
+            name = f"{label}:{line}" if named is None else named
+            if is_drawn or not name:
+                name = _name_of(row, name, layout)
             if is_odd or len(row) != count:
                 lost = _odd_item(row, name, line, layout)
-                is_head = row in heads
+                is_head = layout.is_head(row)
                 if lost is not None and not is_head:
                     items.append(lost)
                     continue
         if not is_head:
-            spelled = row[descriptor_at]
+            spelled = row[descriptor_at].strip() if is_drawn else row[descriptor_at]
             form, text, advice = _spelling(spelled) if len(spelled) <= _LONGEST_SPELLED else _spelled(spelled)
-            is_head = not form and row in heads
+            is_head = not form and layout.is_head(row)
         if is_head:
             reading.awaits_titles = False
             if items:
@@ -461,13 +478,23 @@ def pieces_of_records(found: List[Record], layout: Layout, reading: Reading) -> 
             continue
         if not form:
             advice += f"; {_MAY_BE_TITLES}{layout.look}" if line == layout.first else layout.look
-        items.append(Item(name, label, line, form, text, kind or kind_of_name(name), advice))
+        place = place_of_classes(name, row[classes_at], kind or "") if classes_at is not None else ""
+        told = kind or (UNTOLD if named is None else kind_of_name(name))
+        items.append(Item(name, label, line, form, text, told, advice, None, place))
     if items:
         yield Piece(begin, end, items)
 
 
+def _name_of(row: List[str], name: str, layout: Layout) -> str:
+    """The name in a row, or that of another column where it is empty, without the blanks of a table that is drawn."""
+    others = (row[at] for at in layout.columns.others if at < len(row))
+    found = name if name.strip() else next(filter(str.strip, others), name)
+    return found.strip() if layout.is_drawn else found
+
+
 def _blank_item(line: int, layout: Layout) -> Item:
-    return unreadable(f"{layout.label}:{line}", layout.label, line, "the line is empty", "look at the source" + layout.look)
+    return unreadable(f"{layout.label}:{line}", layout.label, line, "the line is empty",
+                      "look at the source" + layout.look)
 
 
 def _spelled(text: str) -> Tuple[str, str, str]:
@@ -484,17 +511,23 @@ def _odd_item(row: List[str], name: str, line: int, layout: Layout) -> Optional[
     columns, label = layout.columns, layout.label
     at = columns.descriptor
     if columns.reason:
-        return unreadable(name if columns.name is not None else row[0], label, line, columns.reason, columns.help + layout.look)
+        return unreadable(name if columns.name is not None else row[0], label, line, columns.reason,
+                          columns.help + layout.look)
     if len(row) != columns.width:
+        if len(row) == 1 and named_in(row[0]) is not None:
+            return strange_item(row[0], label, line, "", "", "file")
         return unreadable(name, label, line, f"the row has {len(row)} fields, and the table has {columns.width}",
                           "quote the fields, or name the delimiter with --delimiter" + layout.look)
-    rival = next((one for one in columns.rivals if looks_like_descriptor(row[one]) and row[one].strip() != row[at].strip()), None)
+    rival = next((one for one in columns.rivals if looks_like_descriptor(row[one])
+                  and row[one].strip() != row[at].strip()), None)
     if rival is None:
         return None
     titles = layout.heads[-1] if layout.has_header else None
-    return unreadable(name, label, line, f"two columns may be the descriptor: {_title(titles, at)} and {_title(titles, rival)}",
+    return unreadable(name, label, line,
+                      f"two columns may be the descriptor: {_title(titles, at)} and {_title(titles, rival)}",
                       "name one with --descriptor-column" + layout.look)
 
 
-FORMAT = Format("csv", "Get-Acl | Export-Csv, any CSV or TSV", "a row, also with too few or too many fields; a blank line between rows",
-                (_BLANK, _TITLES, _HEAD), _looks_delimited, _read, takes="blocks", is_sure=False)
+FORMAT = Format("csv", "Get-Acl | Export-Csv, any CSV or TSV",
+                "a row, also with too few or too many fields; a blank line between rows", (_BLANK, _TITLES, _HEAD),
+                _looks_delimited, _read, takes="blocks", is_sure=False, guess=BY_NAMES)

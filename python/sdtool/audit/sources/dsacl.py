@@ -4,6 +4,7 @@ from typing import Iterator, Optional, Tuple
 
 from sdtool.audit.sources.frame import Format, Lines, Look, Piece
 from sdtool.audit.sources.items import item_of, looks_like_descriptor, unreadable
+from sdtool.audit.sources.messages import strange_item
 from sdtool.audit.sources.options import SourceOptions
 
 _NAME = re.compile(r"descriptor for (.*):\Z")
@@ -21,7 +22,8 @@ def _read(source: Lines, label: str, options: SourceOptions) -> Iterator[Piece]:
 
     def without_descriptor() -> Iterator[Piece]:
         if name is not None:
-            yield Piece(name[0], name[0] + 1, unreadable(name[1], label, name[0], "no descriptor follows the name", _AGAIN, kind))
+            yield Piece(name[0], name[0] + 1,
+                        unreadable(name[1], label, name[0], "no descriptor follows the name", _AGAIN, kind))
 
     for number, line in enumerate(source, 1):
         found = _NAME.match(line)
@@ -34,9 +36,11 @@ def _read(source: Lines, label: str, options: SourceOptions) -> Iterator[Piece]:
         if not found and not line.strip():
             yield Piece(number, number + 1, _BLANK)
         elif not found:
-            lost = unreadable(f"{label}:{number}", label, number, f"{line[:200]!r} is neither a name nor its descriptor", _AGAIN, kind)
+            lost = strange_item(line, label, number, f"{line[:200]!r} is neither a name nor its descriptor",
+                                _AGAIN, kind)
             yield Piece(number, number + 1, lost, True)
     yield from without_descriptor()
 
 
-FORMAT = Format("dsacl", "samba-tool dsacl get", "a name with its descriptor, also without, and any other line", (_BLANK,), _recognizes, _read)
+FORMAT = Format("dsacl", "samba-tool dsacl get", "a name with its descriptor, also without, and any other line",
+                (_BLANK,), _recognizes, _read)

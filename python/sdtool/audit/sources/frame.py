@@ -1,15 +1,18 @@
 """Each byte of a source belongs to an object, to what its format says is none, or to an object that can't be read.
 
-A reader gives pieces with their places. The frame adds them up: what no reader took is an object that can't be read, and so
-is the rest of a source that doesn't come to its end.
+A reader gives pieces with their places. The frame adds them up: what no reader took is an object that can't be read,
+and so is the rest of a source that doesn't come to its end.
 """
 import collections
 import itertools
 from typing import Any, Callable, Counter, Dict, Iterable, Iterator, List, Mapping, NamedTuple, Protocol, Tuple, Union
 
+from sdtool._windows import KINDS
 from sdtool.audit.sources.items import Item, unreadable
 from sdtool.audit.sources.opening import READ_FAULTS, blocks
 from sdtool.audit.sources.options import SourceOptions
+
+BY_NAMES = "by titles or names"  # what decides the kinds of objects in most formats
 
 # What a piece is: an object, the word of what is none, or the objects of a block that its reader has counted.
 Taken = Union[Item, str, List[Item]]
@@ -64,6 +67,7 @@ class Format(NamedTuple):
     ends: Mapping[str, str] = {}
     takes: str = "lines"  # or "text", "blocks" or "bytes"
     is_sure: bool = True  # whether its first lines alone tell it from a list
+    guess: str = ""  # what decides the kinds of its objects, if that is a guess
 
     @property
     def unit(self) -> str:
@@ -79,11 +83,13 @@ class Format(NamedTuple):
 class Account:
     """What was read of a stream, or of a part of one: its units, and to how many of them each kind of piece belongs.
 
-    look is what is said of the format beside each object that can't be read.
+    look is what is said of the format beside each object that can't be read, and guesses what is said of the others, by
+    their kinds.
     """
 
-    def __init__(self, label: str, format_name: str, unit: str, look: str = "") -> None:
-        self.label, self.format_name, self.unit, self.look = label, format_name, unit, look
+    def __init__(self, label: str, format_name: str, unit: str, look: str = "",
+                 guesses: Mapping[str, str] = {}) -> None:
+        self.label, self.format_name, self.unit, self.look, self.guesses = label, format_name, unit, look, guesses
         self.units = 0
         self.objects = 0  # those that can't be read among them
         self.of_objects = 0  # units
@@ -233,7 +239,8 @@ def _place(label: str, unit: str, begin: int, end: int) -> Tuple[str, int]:
 def lost_item(label: str, unit: str, begin: int, end: int, look: str = "") -> Item:
     """What stands for a part of a source that no reader took."""
     name, line = _place(label, unit, begin, end)
-    return unreadable(name, label, line, "no rule of the format says what this is", "look at what wrote the source" + look)
+    return unreadable(name, label, line, "no rule of the format says what this is",
+                      "look at what wrote the source" + look)
 
 
 def cut_item(label: str, count: int, error: Exception, look: str = "") -> Item:
@@ -248,14 +255,32 @@ def unended_item(label: str, count: int, end: str, look: str = "") -> Item:
                       "export it again" + look)
 
 
+def guesses_of(one: Format, options: SourceOptions) -> Dict[str, str]:
+    """What is said of objects whose kind is a guess, by their kinds. Words of the command line are none."""
+    if options.kind or not one.guess:
+        return {}
+    if one.guess == BY_NAMES:
+        # Whatever names tell of files is asked about: see kinds.py.
+        return {kind: f"read as {row['title']}, {one.guess}; --type says otherwise" for kind, row in KINDS.items()
+                if kind != "file"}
+    said = f"read as {one.name}, {one.guess}; --type or --format says otherwise"
+    return {} if options.format else dict.fromkeys(KINDS, said)
+
+
+def _with_guess(item: Item, guesses: Mapping[str, str]) -> Item:
+    said = guesses.get(item.kind) if item.form else None
+    return item if said is None else item._replace(help=f"{item.help}; {said}" if item.help else said)
+
+
 def objects_of(one: Format, source: Any, label: str, options: SourceOptions, account: Account) -> Iterator[Item]:
     """The objects of a stream, and one more for each part that no reader took or that can't be read."""
     return objects_of_pieces(one, one.read(source, label, options), source, account, 1 if one.unit == "line" else 0)
 
 
-def objects_of_pieces(one: Format, pieces: Iterable[Piece], source: Any, account: Account, first: int) -> Iterator[Item]:
+def objects_of_pieces(one: Format, pieces: Iterable[Piece], source: Any, account: Account,
+                      first: int) -> Iterator[Item]:
     """The objects of the pieces of a source, or of a part of one whose units begin with this."""
-    label, look, at = account.label, account.look, first
+    label, look, guesses, at = account.label, account.look, account.guesses, first
     before = (-1, -1)  # the piece before
     awaited = ""       # the end that has to come
     ends, nothing, known = one.ends, account.nothing, frozenset(one.nothing)
@@ -292,14 +317,17 @@ def objects_of_pieces(one: Format, pieces: Iterable[Piece], source: Any, account
                     raise RuntimeError(f"the reader of {one.name} took a piece for objects that has none")
                 found: List[Item] = taken  # type: ignore[assignment]
                 count += len(found)
+                if guesses:
+                    found = [_with_guess(item, guesses) for item in found]
                 for item in found:
                     if item.help:
                         account.count(item)
                 yield from found
             else:
                 count += 1
-                account.count(taken)  # type: ignore[arg-type]
-                yield taken  # type: ignore[misc]
+                item = _with_guess(taken, guesses)  # type: ignore[arg-type]
+                account.count(item)
+                yield item
         account.units = source.units()
         if account.units + first > at:
             count += 1

@@ -5,6 +5,7 @@ from typing import Iterator, List, Optional, Tuple
 
 from sdtool.audit.sources.frame import Format, Lines, Look, Piece
 from sdtool.audit.sources.items import Item, unreadable
+from sdtool.audit.sources.messages import strange_item
 from sdtool.audit.sources.opening import AS_THEY_CAME
 from sdtool.audit.sources.options import SourceOptions
 from sdtool.audit.sources.samba import NO_ATTRIBUTE, item_of_attribute
@@ -22,7 +23,8 @@ def _recognizes(look: Look) -> bool:
 
 def _unescaped(name: str) -> str:
     """A name as getfattr escapes it."""
-    spelled = re.sub(rb"\\([0-7]{3})", lambda found: bytes([int(found[1], 8) & 0xff]), name.encode("utf-8", AS_THEY_CAME))
+    spelled = re.sub(rb"\\([0-7]{3})", lambda found: bytes([int(found[1], 8) & 0xff]),
+                     name.encode("utf-8", AS_THEY_CAME))
     return spelled.decode("utf-8", "surrogateescape")
 
 
@@ -39,7 +41,8 @@ def _item(name: str, line: int, found: List[Tuple[str, str]], label: str, kind: 
     if not found:
         return unreadable(name, label, line, "no attribute with a descriptor", NO_ATTRIBUTE, kind)
     if len(found) > 1:
-        return unreadable(name, label, line, f"two attributes have a descriptor: {' and '.join(one for one, _ in found[:2])}",
+        return unreadable(name, label, line,
+                          f"two attributes have a descriptor: {' and '.join(one for one, _ in found[:2])}",
                           "name one with --attribute", kind)
     attribute, value = found[0]
     try:
@@ -55,8 +58,11 @@ def _read(source: Lines, label: str, options: SourceOptions) -> Iterator[Piece]:
     found: List[Tuple[str, str]] = []
     held: List[Piece] = []  # what stands behind the name
     is_lost = False  # whether a line that isn't known stands for the file of the attributes that follow
+    has_attribute = False
 
     def ended() -> Iterator[Piece]:
+        nonlocal has_attribute
+        has_attribute = False
         if name is not None:
             yield Piece(name[0], name[0] + 1, _item(name[1], name[0], found, label, kind))
         yield from held
@@ -68,7 +74,7 @@ def _read(source: Lines, label: str, options: SourceOptions) -> Iterator[Piece]:
             yield from ended()
             name, is_lost = (number, _unescaped(line[len(_START):])), False
             continue
-        if name is not None and line.strip() and held and held[-1].taken == _BLANK and any(one.taken in (_OTHER, _VALUE) for one in held):
+        if name is not None and has_attribute and line.strip() and held and held[-1].taken == _BLANK:
             yield from ended()
             name = None  # a blank line is behind the attributes of each file
         attribute, equals, value = line.partition("=")
@@ -82,12 +88,14 @@ def _read(source: Lines, label: str, options: SourceOptions) -> Iterator[Piece]:
         elif (name is not None or is_lost) and _ATTRIBUTE.match(line):
             piece = Piece(number, number + 1, _OTHER)
         else:
-            reason = "no name stands before this attribute" if _ATTRIBUTE.match(line) else f"{line[:80]!r} is neither a name nor an attribute"
-            lost = unreadable(f"{label}:{number}", label, number, reason, "run getfattr again", kind)
+            reason = ("no name stands before this attribute" if _ATTRIBUTE.match(line)
+                      else f"{line[:80]!r} is neither a name nor an attribute")
+            lost = strange_item(line, label, number, reason, "run getfattr again", kind)
             piece = Piece(number, number + 1, lost, True)
             yield from ended()
             name, is_lost = None, True  # what follows may be of another file
         held.append(piece)
+        has_attribute = has_attribute or piece.taken in (_OTHER, _VALUE)
         if name is None:
             yield from ended()
     yield from ended()

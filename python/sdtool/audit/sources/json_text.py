@@ -3,11 +3,12 @@ import collections
 import functools
 import json
 import re
-from typing import Any, Dict, Iterator, List, NamedTuple, Optional, Tuple, Union
+from typing import Any, Dict, Iterable, Iterator, List, NamedTuple, Optional, Tuple, Union
 
-from sdtool.audit.sources.delimited import DESCRIPTOR_NAMES, NAME_NAMES, kind_of_name, plain_name
-from sdtool.audit.sources.frame import Format, Lines, Look, Piece, Texts
-from sdtool.audit.sources.items import Item, item_of, looks_like_descriptor, unreadable
+from sdtool.audit.sources.frame import BY_NAMES, Format, Lines, Look, Piece, Texts
+from sdtool.audit.sources.items import UNTOLD, Item, item_of, looks_like_descriptor, unreadable
+from sdtool.audit.sources.naming import (CLASS_NAME, DESCRIPTOR_NAMES, NAME_NAMES, kind_of_name, kind_of_titles,
+                                         place_of_classes, plain_name, ranked)
 from sdtool.audit.sources.opening import READ_FAULTS
 from sdtool.audit.sources.options import SourceOptions
 
@@ -18,6 +19,7 @@ _BLANK, _COMMA, _OPEN, _CLOSE = "blanks", "commas", "[", "]"
 _AROUND, _MEMBER = "{ } around a list", "a member beside a list that has no descriptor"
 _AGAIN = "export the source again"
 _STARTS = ("{", '"', "[")
+_PART = 1 << 16  # characters that are looked at together
 _MOST_NAMED = 1 << 20  # characters of a damaged element in which its name is looked for
 _MOST_WAITING = 1_000  # members of an object until it is taken as a map
 _COUNTS = ("count", "@odata.count", "total", "totalcount")
@@ -37,12 +39,14 @@ class _Start(NamedTuple):
     first: str
 
     def pattern(self, end: str) -> "re.Pattern[str]":
-        """A line that begins so, or that ends the list. Line ends are in no string of JSON, and what is inside of an element
-        has more blanks before it."""
-        return re.compile("\n(?:%s(?=%s)|[ \t]{0,%d}(?=%s))" % (self.blanks, re.escape(self.first), len(self.blanks), re.escape(end)))
+        """A line that begins so, or that ends the list. Line ends are in no string of JSON, and what is inside of an
+        element has more blanks before it."""
+        return re.compile("\n(?:%s(?=%s)|[ \t]{0,%d}(?=%s))" % (self.blanks, re.escape(self.first), len(self.blanks),
+                                                                re.escape(end)))
 
     def above(self) -> "re.Pattern[str]":
-        """A line that begins an object with fewer blanks, or that ends the list: what is inside of an object has more."""
+        """A line that begins an object with fewer blanks, or that ends the list: what is inside of an object has
+        more."""
         return re.compile("\n[ \t]{0,%d}(?=[{\\]])" % max(0, len(self.blanks) - 1))
 
 
@@ -60,11 +64,11 @@ def _members_of(pairs: List[Tuple[str, Any]]) -> Dict[str, Any]:
     return members
 
 
-def _twice(value: Dict[str, Any]) -> List[str]:
-    """The names that an object has twice."""
+def _twice(value: Dict[str, Any]) -> Dict[str, int]:
+    """The names that an object has twice or more, in order."""
     if not isinstance(value, _Members):
-        return []
-    return [name for name, count in collections.Counter(name for name, _ in value.pairs).items() if count > 1]
+        return {}
+    return {name: count for name, count in collections.Counter(name for name, _ in value.pairs).items() if count > 1}
 
 
 _DECODER = json.JSONDecoder(object_pairs_hook=_members_of)
@@ -74,7 +78,8 @@ class _Text:
     """A text that is read as far as it is needed, with the number of the line at hand and the place in the source."""
 
     def __init__(self, texts: Texts) -> None:
-        self._texts = texts
+        # Python counts the lines before each fault, from the begin of the text at hand on.
+        self._texts = (text[at:at + _PART] for text in texts for at in range(0, len(text), _PART))
         self.text = ""
         self.at = 0
         self.line = 1
@@ -126,7 +131,8 @@ class _Text:
         return self._blanks is not None and len(line) > 3 and line[0] not in _STARTS
 
     def seek(self, pattern: "Optional[re.Pattern[str]]") -> Tuple[bool, str]:
-        """Goes to the next line that begins so, or to the end of the text. Gives whether there is one, and what stands before it."""
+        """Goes to the next line that begins so, or to the end of the text. Gives whether there is one, and what stands
+        before it."""
         passed: List[str] = []
         count = 0
         while True:
@@ -164,7 +170,8 @@ class _Text:
             except (ValueError, RecursionError) as error:
                 is_damaged = len(self.text) - self.at > _MOST_CHARACTERS or not _may_go_on(error, len(self.text))
                 if is_damaged or not self.more():
-                    raise _Broken(error.msg if isinstance(error, json.JSONDecodeError) else "it has too many levels") from error
+                    raise _Broken(error.msg if isinstance(error, json.JSONDecodeError)
+                                  else "it has too many levels") from error
                 continue
             # A number may go on in the next part of the text.
             if end == len(self.text) and self.text[end - 1] not in "\"]}" and self.more():
@@ -175,14 +182,14 @@ class _Text:
 
 def _may_go_on(error: Exception, length: int) -> bool:
     """Whether what is no JSON may be some, once more was read."""
-    return not isinstance(error, json.JSONDecodeError) or error.msg.startswith("Unterminated") or error.pos > length - 20
+    return (not isinstance(error, json.JSONDecodeError) or error.msg.startswith("Unterminated")
+            or error.pos > length - 20)
 
 
 @functools.lru_cache(maxsize=1_000)
 def _known(members: Tuple[str, ...], names: Tuple[str, ...]) -> List[str]:
     """The members that have one of some names, the best first."""
-    found = [(names.index(plain), at, key) for at, key in enumerate(members) for plain in (plain_name(key),) if plain in names]
-    return [key for _, _, key in sorted(found)]
+    return [members[at] for at in ranked(members, names)]
 
 
 def _named(value: Dict[str, Any], names: Tuple[str, ...], chosen: Optional[str]) -> List[str]:
@@ -209,12 +216,14 @@ def _pair_text(value: Any) -> Any:
 
 def _parts(value: Dict[str, Any], place: str, options: SourceOptions) -> _Parts:
     names = _named(value, NAME_NAMES, options.name_column)
-    named = value[names[0]] if names else None
-    name = named if isinstance(named, str) else str(named) if type(named) in (int, float) else place
+    texts = [str(value[key]) for key in names if type(value[key]) in (str, int, float)]
+    name = next(filter(str.strip, texts), texts[0] if texts else place)
     if len(names) > 1 and plain_name(names[0]) == plain_name(names[1]):
-        return _Parts(place, None, f"two members may be the name: {names[0]} and {names[1]}", "name one with --name-column")
+        return _Parts(place, None, f"two members may be the name: {names[0]} and {names[1]}",
+                      "name one with --name-column")
     keys = _named(value, DESCRIPTOR_NAMES, options.descriptor_column)
-    twice = [key for key in _twice(value) if key in (*names[:1], *keys)]
+    told = {*names[:1], *keys}
+    twice = [key for key in _twice(value) if key in told]
     if twice:
         return _Parts(name if twice[0] not in names else place, None, f"the member {twice[0]} is there twice", _AGAIN)
     if not keys:
@@ -222,9 +231,11 @@ def _parts(value: Dict[str, Any], place: str, options: SourceOptions) -> _Parts:
         said = f"two members may be the descriptor: {likely[0]} and {likely[1]}" if len(likely) > 1 else \
             f"no member has the descriptor; the members are {', '.join(list(value)[:10])}"
         return _Parts(name, None, said, "name the member with --descriptor-column")
-    rivals = [key for key in keys[1:] if plain_name(key) == plain_name(keys[0]) or _is_rival(value[keys[0]], value[key])]
+    rivals = [key for key in keys[1:] if plain_name(key) == plain_name(keys[0])
+              or _is_rival(value[keys[0]], value[key])]
     if rivals:
-        return _Parts(name, None, f"two members may be the descriptor: {keys[0]} and {rivals[0]}", "name one with --descriptor-column")
+        return _Parts(name, None, f"two members may be the descriptor: {keys[0]} and {rivals[0]}",
+                      "name one with --descriptor-column")
     text = _pair_text(value[keys[0]])
     if text is not None and not isinstance(text, str):
         return _Parts(name, None, f"member {keys[0]} is no text", "export the descriptor as SDDL")
@@ -249,41 +260,57 @@ def _is_described(key: str, value: Any, chosen: Optional[str]) -> bool:
     if name not in DESCRIPTOR_NAMES:
         return False
     text = _pair_text(value)
-    return isinstance(text, str) and looks_like_descriptor(text) or name in _SURE_NAMES and (text is None or isinstance(text, str))
+    return (isinstance(text, str) and looks_like_descriptor(text) or name in _SURE_NAMES
+            and (text is None or isinstance(text, str)))
 
 
 def _inside(value: Any, chosen: Optional[str] = None) -> Iterator[Tuple[str, Dict[str, Any]]]:
-    """The objects with a descriptor inside an element, each with the member that has them. chosen is the member that words name."""
-    waiting: List[Tuple[str, Any]] = [(key, inner) for key, inner in value.items() if isinstance(inner, (dict, list))] \
-        if isinstance(value, dict) else []
+    """The objects with a descriptor inside an element, each with the member that has them. chosen is the member that
+    words name."""
+    waiting = _inner(value.items()) if isinstance(value, dict) else []
     while waiting:
-        key, inner = waiting.pop(0)
+        key, inner = waiting.pop()
         if isinstance(inner, list):
-            waiting = [(key, one) for one in inner if isinstance(one, (dict, list))] + waiting
-        elif any(_is_described(name, text, chosen) for name, text in inner.items()):
+            waiting += _inner((key, one) for one in inner)
+            continue
+        if any(_is_described(name, text, chosen) for name, text in inner.items()):
             yield key, inner
-        if isinstance(inner, dict):
-            waiting = [(key, one) for one in inner.values() if isinstance(one, (dict, list))] + waiting
+        waiting += _inner((key, one) for one in inner.values())
 
 
-def _items(value: Any, label: str, line: int, options: SourceOptions, place: str = "") -> List[Item]:
-    """The object that an element is, and one for each that is inside it, which isn't read. place is its name if it has none."""
+def _inner(pairs: Iterable[Tuple[str, Any]]) -> List[Tuple[str, Any]]:
+    """The objects and lists among members, from the last to the first."""
+    return [(key, one) for key, one in pairs if isinstance(one, (dict, list))][::-1]
+
+
+def items_of_element(value: Any, label: str, line: int, options: SourceOptions, place: str = "") -> List[Item]:
+    """The object that an element is, and one for each that is inside it, which isn't read. place is its name if it has
+    none."""
     place = place or f"{label}:{line}"
     if isinstance(value, str):
-        return [item_of(place, label, line, value, options.kind or "file")]
+        return [item_of(place, label, line, value, options.kind or UNTOLD)]
     if isinstance(value, list) and value:
-        return [item for one in value for item in _items(one, label, line, options)]
+        return [item for one in value for item in items_of_element(one, label, line, options)]
     if not isinstance(value, dict):
         return [unreadable(place, label, line, "the element is no object", "look at the source")]
     parts = _parts(value, place, options)
-    kind = options.kind or kind_of_name(parts.name)
+    is_named = parts.name != f"{label}:{line}"
+    kind = options.kind or kind_of_titles(value) or (kind_of_name(parts.name) if is_named else UNTOLD)
     found = [unreadable(parts.name, label, line, parts.reason, parts.help, kind) if parts.reason else
-             item_of(parts.name, label, line, parts.text, kind)]
-    for key, inner in _inside(value, options.descriptor_column) if any(type(inner) in (dict, list) for inner in value.values()) else ():
+             item_of(parts.name, label, line, parts.text, kind)._replace(place=_place_of(value, parts.name, kind))]
+    for key, inner in _inside(value, options.descriptor_column) if any(type(inner) in (dict, list)
+                                                                       for inner in value.values()) else ():
         name = _parts(inner, place, options).name
-        found.append(unreadable(name, label, line, f"it is inside member {key} of {parts.name}", "export a list without lists inside",
-                                options.kind or kind_of_name(name)))
+        found.append(unreadable(name, label, line, f"it is inside member {key} of {parts.name}",
+                                "export a list without lists inside", options.kind or kind_of_name(name)))
     return found
+
+
+def _place_of(value: Dict[str, Any], name: str, kind: str) -> str:
+    """The place of a directory object, by the member with its classes."""
+    found = next((inner for key, inner in value.items() if plain_name(key) == CLASS_NAME), None)
+    listed = found if isinstance(found, list) else [found]
+    return place_of_classes(name, " ".join(one for one in listed if isinstance(one, str)), kind) if found else ""
 
 
 def _is_count(key: str, value: Any) -> bool:
@@ -299,7 +326,8 @@ def _is_map(pairs: List[Tuple[str, Any]]) -> bool:
     known = sum(plain_name(name) in DESCRIPTOR_NAMES for name, _ in pairs)
     if known and (known > 1 or len(pairs) < 3 or not all(map(looks_like_descriptor, texts))):
         return False  # one object, and not a map in which an object is called so
-    return not any(plain_name(name) in _STATES or plain_name(name) in NAME_NAMES and not looks_like_descriptor(text or "")
+    return not any(plain_name(name) in _STATES or plain_name(name) in NAME_NAMES
+                   and not looks_like_descriptor(text or "")
                    for name, text in pairs)
 
 
@@ -315,47 +343,51 @@ def _map_items(value: Dict[str, Any], label: str, line: int, options: SourceOpti
         if _is_count(name, text):
             continue
         kind = options.kind or kind_of_name(name)
-        found.append(unreadable(name, label, line, f"the name {name} is there twice", _AGAIN, kind) if name in twice else
+        found.append(unreadable(name, label, line, f"the name {name} is there twice", _AGAIN, kind)
+                     if name in twice else
                      item_of(name, label, line, text or "", kind))
-    counts = [item for name, text in _pairs(value) if _is_count(name, text) for item in _beside(name, text, len(found), label, line)]
+    counts = [item for name, text in _pairs(value) if _is_count(name, text)
+              for item in _beside(name, text, len(found), label, line)]
     return found + counts
 
 
 def _whole(value: Any, label: str, line: int, options: SourceOptions, place: str = "") -> List[Item]:
-    """The objects of an object that stands by itself: it is one, it has one in each member, or others with members around
-    them."""
+    """The objects of an object that stands by itself: it is one, it has one in each member, or others with members
+    around them."""
     if isinstance(value, dict) and options.descriptor_column not in value and _is_map(_pairs(value)):
         return _map_items(value, label, line, options)
     if isinstance(value, dict) and not _named(value, DESCRIPTOR_NAMES, options.descriptor_column):
         pairs = _pairs(value)
         if any(isinstance(inner, list) for _, inner in pairs):
             return _items_around(value, label, line, options)
-        if not _named(value, NAME_NAMES, options.name_column) and any(True for _ in _inside(value, options.descriptor_column)) and not any(
+        if not _named(value, NAME_NAMES,
+                      options.name_column) and any(True for _ in _inside(value, options.descriptor_column)) and not any(
                 isinstance(inner, str) and looks_like_descriptor(inner) for _, inner in pairs):
             return _items_of_members(value, label, line, options)
-    return _items(value, label, line, options, place)
+    return items_of_element(value, label, line, options, place)
 
 
 def _items_of_members(value: Dict[str, Any], label: str, line: int, options: SourceOptions) -> List[Item]:
-    """The objects of an object that has none but in members. Those without a name have that of their member. If some have a
-    descriptor of their own, the others lack it."""
+    """The objects of an object that has none but in members. Those without a name have that of their member. If some
+    have a descriptor of their own, the others lack it."""
     found: List[Item] = []
     chosen, kind = options.descriptor_column, options.kind
     own = sum(isinstance(inner, dict) and bool(_named(inner, DESCRIPTOR_NAMES, chosen)) for _, inner in _pairs(value))
-    # A few texts among objects say why an object has no descriptor, and so does one whose name is a path; others say something
-    # of the whole.
+    # A few texts among objects say why an object has no descriptor, and so does one whose name is a path; others say
+    # something of the whole.
     texts_count = sum(isinstance(inner, str) for _, inner in _pairs(value)) < own
     for key, inner in _pairs(value):
         if isinstance(inner, dict) and any(True for _ in _inside({key: inner}, chosen)):
             found += _whole(inner, label, line, options, key)
         elif own and (inner is None or isinstance(inner, dict)):
-            found += _items(inner or {}, label, line, options, key)
+            found += items_of_element(inner or {}, label, line, options, key)
         elif isinstance(inner, str) and (texts_count or own and _PATH.search(key)):
             found.append(item_of(key, label, line, inner, kind or kind_of_name(key)))
     for key, inner in _pairs(value):
         if not isinstance(inner, dict):
             found += _beside(key, inner, len(found), label, line)
-    found += [unreadable(f"{label}:{line}", label, line, f"the member {key} is there twice", _AGAIN) for key in _twice(value)]
+    found += [unreadable(f"{label}:{line}", label, line, f"the member {key} is there twice", _AGAIN)
+              for key in _twice(value)]
     return found
 
 
@@ -379,10 +411,11 @@ def _items_around(value: Dict[str, Any], label: str, line: int, options: SourceO
         if isinstance(inner, list):
             elements += len(inner)
             for one in inner:
-                found += _items(one, label, line, options)
+                found += items_of_element(one, label, line, options)
     for key, inner in _pairs(value):
         found += _beside(key, inner, elements, label, line)
-    found += [unreadable(f"{label}:{line}", label, line, f"the member {key} is there twice", _AGAIN) for key in _twice(value)]
+    found += [unreadable(f"{label}:{line}", label, line, f"the member {key} is there twice", _AGAIN)
+              for key in _twice(value)]
     return found
 
 
@@ -394,9 +427,11 @@ def _beside(key: str, value: Any, elements: int, label: str, line: int) -> List[
     if key.lower() in _MORE and value:
         return [unreadable(rest, label, line, f"the source isn't whole: it has a member {key}", _AGAIN)]
     if isinstance(value, str) and looks_like_descriptor(value):
-        return [unreadable(key, label, line, f"member {key} beside a list has a descriptor", "export a list without others beside it")]
+        return [unreadable(key, label, line, f"member {key} beside a list has a descriptor",
+                           "export a list without others beside it")]
     if isinstance(value, dict):
-        return [unreadable(_parts(inner, f"{label}:{line}", SourceOptions()).name, label, line, f"it is inside member {key} beside a list",
+        return [unreadable(_parts(inner, f"{label}:{line}", SourceOptions()).name, label, line,
+                           f"it is inside member {key} beside a list",
                            "export a list without others beside it") for _, inner in _inside({key: value})]
     return []
 
@@ -412,8 +447,8 @@ class _Member(NamedTuple):
 
 
 class _Around:
-    """An object that is read member by member, since it is too large to be read at once, or damaged: its lists are read element
-    by element. Members that aren't lists wait until it is known what they are.
+    """An object that is read member by member, since it is too large to be read at once, or damaged: its lists are read
+    element by element. Members that aren't lists wait until it is known what they are.
 
     taken is the place up to which all was given.
     """
@@ -472,7 +507,8 @@ class _Around:
                 yield from self._decided(held, True)
                 yield Piece(member.begin, text.place, _MEMBER)
                 for piece in _Elements(text, self._label, self._options).pieces():
-                    self._elements += len(piece.taken) if isinstance(piece.taken, list) else isinstance(piece.taken, Item)
+                    self._elements += (len(piece.taken) if isinstance(piece.taken, list)
+                                       else isinstance(piece.taken, Item))
                     yield piece
                 if text.is_lost:
                     return
@@ -491,7 +527,8 @@ class _Around:
             if self._has_list or self._is_map or len(self._waiting) > _MOST_WAITING:
                 yield from self._decided(held, self._has_list)
         yield from self._decided(held, self._has_list)
-        missing = [item for one in self._others for item in _beside(one.key, one.value, self._elements, self._label, one.line)]
+        missing = [item for one in self._others
+                   for item in _beside(one.key, one.value, self._elements, self._label, one.line)]
         if missing:
             text.step()
             yield Piece(text.place - 1, text.place, missing)
@@ -510,14 +547,18 @@ class _Around:
         return _Member(begin, begin, line, key, None)
 
     def _decided(self, held: List[Piece], has_list: bool) -> Iterator[Piece]:
-        """What has waited, once it is known whether members stand beside a list, or are a map from names to descriptors."""
+        """What has waited, once it is known whether members stand beside a list, or are a map from names to
+        descriptors."""
         self._has_list = has_list
         self._is_map = self._is_map or not has_list and _is_map([(one.key, one.value) for one in self._waiting])
-        found = {one.begin: item_of(one.key, self._label, one.line, one.value or "", self._options.kind or kind_of_name(one.key))
-                 for one in self._waiting if self._is_map and not has_list and (one.value is None or isinstance(one.value, str))}
+        found = {one.begin: item_of(one.key, self._label, one.line, one.value or "",
+                                    self._options.kind or kind_of_name(one.key))
+                 for one in self._waiting if self._is_map and not has_list
+                 and (one.value is None or isinstance(one.value, str))}
         self._elements += len(found)
         self._others += [one for one in self._waiting if one.begin not in found]
-        yield from [piece._replace(taken=found.get(piece.begin, piece.taken)) if piece.taken == _MEMBER else piece for piece in held]
+        yield from [piece._replace(taken=found.get(piece.begin, piece.taken)) if piece.taken == _MEMBER else piece
+                    for piece in held]
         held.clear()
         self._waiting.clear()
 
@@ -557,7 +598,8 @@ def _blanks(text: _Text) -> Iterator[Piece]:
 
 def _damaged_item(label: str, line: int, last: int, name: str, reason: object) -> Item:
     """What stands for lines that are no JSON; last is 0 if all that follow are."""
-    place = f"{label}: from line {line} on" if not last else f"{label}: lines {line} to {last}" if last > line else f"{label}:{line}"
+    place = (f"{label}: from line {line} on" if not last else f"{label}: lines {line} to {last}" if last > line
+             else f"{label}:{line}")
     return unreadable(name or place, label, line, f"the JSON is cut or damaged: {reason}", _AGAIN)
 
 
@@ -591,8 +633,8 @@ def _name_in(text: str) -> str:
 
 
 class _Elements:
-    """A list that is read element by element. taken is the place up to which all was given; start is how elements begin their
-    lines, as far as it is known."""
+    """A list that is read element by element. taken is the place up to which all was given; start is how elements begin
+    their lines, as far as it is known."""
 
     def __init__(self, text: _Text, label: str, options: SourceOptions) -> None:
         self._text, self._label, self._options = text, label, options
@@ -601,8 +643,8 @@ class _Elements:
         self._tried: Optional[_Start] = None  # of the element at hand
 
     def pieces(self) -> Iterator[Piece]:
-        """The elements, up to the end of their list. Where one is damaged, what follows is read from the next line on that begins
-        as elements do."""
+        """The elements, up to the end of their list. Where one is damaged, what follows is read from the next line on
+        that begins as elements do."""
         text = self._text
         text.step()
         self.taken = text.place
@@ -615,7 +657,8 @@ class _Elements:
                     yield piece
                 return
             except _Broken as error:
-                is_found, passed = text.seek(_ANY_OBJECT if self.start is None and text.is_message() else self._following(self._tried))
+                is_found, passed = text.seek(_ANY_OBJECT if self.start is None and text.is_message()
+                                             else self._following(self._tried))
                 if text.fault is not None and not is_found:
                     raise
                 name, last = (_name_in(passed), text.line - 1) if is_found else ("", 0)
@@ -627,7 +670,8 @@ class _Elements:
                     return
 
     def _following(self, damaged: Optional[_Start]) -> "Optional[re.Pattern[str]]":
-        """How the line of the next element begins, if it can be told: as those before, or as the first one, which is damaged."""
+        """How the line of the next element begins, if it can be told: as those before, or as the first one, which is
+        damaged."""
         if self.start is not None or damaged is None:
             return self.start and self.start.pattern("]")
         if damaged.first == '"':
@@ -647,7 +691,7 @@ class _Elements:
             if isinstance(value, dict) or isinstance(value, str) and looks_like_descriptor(value):
                 self.start = start or self.start
             self._tried = None
-            yield Piece(begin, end, _items(value, self._label, line, self._options))
+            yield Piece(begin, end, items_of_element(value, self._label, line, self._options))
             begin = end
             if follows == ",":
                 text.step()
@@ -664,8 +708,8 @@ class _Elements:
 
 
 def _read(source: Texts, label: str, options: SourceOptions) -> Iterator[Piece]:
-    """The objects of a JSON text, element by element; several texts may follow one another. Where one is damaged, what follows is
-    read from the next line on that begins as it does, or as the one before does."""
+    """The objects of a JSON text, element by element; several texts may follow one another. Where one is damaged, what
+    follows is read from the next line on that begins as it does, or as the one before does."""
     text = _Text(source)
     taken = 0
     before: Optional[_Start] = None  # of the last object that was read
@@ -718,7 +762,7 @@ def _of_text(text: _Text, label: str, options: SourceOptions, is_damaged: bool) 
             raise _Broken("a name stands outside of an object")
         if is_damaged and not (isinstance(value, str) and looks_like_descriptor(value)):
             raise _Broken("this is no element of a list")
-        yield Piece(begin, end, _items(value, label, line, options), True)
+        yield Piece(begin, end, items_of_element(value, label, line, options), True)
 
 
 def _read_lines(source: Lines, label: str, options: SourceOptions) -> Iterator[Piece]:
@@ -735,7 +779,8 @@ def _of_line(line: str, label: str, number: int, options: SourceOptions) -> Tupl
         value = _DECODER.decode(line)
     except (ValueError, RecursionError) as error:
         return unreadable(place, label, number, f"the line is no JSON: {error}", _AGAIN), True
-    return _whole(value, label, number, options) or unreadable(place, label, number, "the list is empty", "look at the source"), False
+    return (_whole(value, label, number, options)
+            or unreadable(place, label, number, "the list is empty", "look at the source"), False)
 
 
 _BEGIN = re.compile(r'\s*(?:\{|\[\s*(?:[{\["\]\d-]|true|false|null|\Z))')
@@ -745,10 +790,11 @@ _SECOND = re.compile(r'\s*(?:\[\s*)?\{\s*"|\s*\[\s*["\[]')
 
 
 def _recognizes(look: Look) -> bool:
-    """Whether a text begins as JSON does, or a line behind what another program printed, or most lines, of which the first may be
-    damaged."""
+    """Whether a text begins as JSON does, or a line behind what another program printed, or most lines, of which the
+    first may be damaged."""
     full = look.full()
-    return bool(_BEGIN.match(look.text)) or any(map(_SECOND.match, full[1:5])) or len(full) > 3 and 4 * sum(bool(_LINE.match(line)) for line in full) > 3 * len(full)
+    return (bool(_BEGIN.match(look.text)) or any(map(_SECOND.match, full[1:5])) or len(full) > 3
+            and 4 * sum(bool(_LINE.match(line)) for line in full) > 3 * len(full))
 
 
 def _is_text(line: str) -> bool:
@@ -761,10 +807,13 @@ def _recognizes_lines(look: Look) -> bool:
     texts = sum(map(_is_text, full))
     if texts:  # the first may be the title of a column
         return 2 * texts >= len(full) and (_is_text(full[0]) or not _TEXT.match(full[0]))
-    return len(full) > 1 and 2 * sum(line.lstrip()[:1] == "{" and line.rstrip()[-1:] == "}" for line in full) >= len(full)
+    return (len(full) > 1 and 2 * sum(line.lstrip()[:1] == "{" and line.rstrip()[-1:] == "}"
+                                      for line in full) >= len(full))
 
 
-FORMAT = Format("json", "Get-Acl | ConvertTo-Json, and others", "an element of a list, a member of a map, or one that is inside another",
+FORMAT = Format("json", "Get-Acl | ConvertTo-Json, and others",
+                "an element of a list, a member of a map, or one that is inside another",
                 (_BLANK, _COMMA, _OPEN, _CLOSE, _AROUND, _MEMBER), _recognizes, _read,
-                {_OPEN: _CLOSE}, "text")
-LINES_FORMAT = Format("jsonl", "any program that writes JSON in lines", "a line, also an empty one", (), _recognizes_lines, _read_lines)
+                {_OPEN: _CLOSE}, "text", guess=BY_NAMES)
+LINES_FORMAT = Format("jsonl", "any program that writes JSON in lines", "a line, also an empty one", (),
+                      _recognizes_lines, _read_lines, guess=BY_NAMES)

@@ -4,6 +4,7 @@ from typing import Dict, Iterator, List, Optional, Set, Tuple
 
 from sdtool.audit.sources.frame import Format, Lines, Look, Piece
 from sdtool.audit.sources.items import Item, item_of, unreadable
+from sdtool.audit.sources.messages import strange_item
 from sdtool.audit.sources.options import SourceOptions
 from sdtool.audit.sources.samba import CONTROL_NAMES, Unknown, flags_text
 
@@ -17,7 +18,8 @@ _SACL_NAMES = ((0x2000, "P"), (0x200, "AR"), (0x800, "AI"))
 _SELF_RELATIVE = 0x8000
 _HELP = "use samba-tool ntacl get --as-sddl"
 _BLANK = "a blank line"
-_FIELDS = {"revision", "type", "owner_sid", "group_sid", "sacl", "dacl", "size", "num_aces", "aces", "flags", "access_mask",
+_FIELDS = {"revision", "type", "owner_sid", "group_sid", "sacl", "dacl", "size", "num_aces", "aces", "flags",
+           "access_mask",
            "object", "trustee", "inherited_type", "security_descriptor", "coda", "ignored"}
 
 
@@ -93,7 +95,8 @@ class _Dump:
             ace["rest"] = value
 
     def sddl(self) -> str:
-        if self._awaited or self.control is None or not self.control & _SELF_RELATIVE or self._count != sum(len(aces) for aces in self.acls.values() if aces is not None):
+        if self._awaited or self.control is None or not self.control & _SELF_RELATIVE or self._count != sum(
+                len(aces) for aces in self.acls.values() if aces is not None):
             raise Unknown("the dump is cut")
         text = "".join(f"{part}:{sid}" for part, sid in self.sids.items())
         for part, present, names in (("dacl", 0x4, CONTROL_NAMES), ("sacl", 0x10, _SACL_NAMES)):
@@ -103,7 +106,8 @@ class _Dump:
             if part not in self.acls:
                 raise Unknown("the dump is cut")
             aces = self.acls[part]
-            text += f"{part[0].upper()}:{flags}" + ("NO_ACCESS_CONTROL" if aces is None else "".join(map(_ace_text, aces)))
+            text += f"{part[0].upper()}:{flags}" + ("NO_ACCESS_CONTROL" if aces is None
+                                                    else "".join(map(_ace_text, aces)))
         return text
 
 
@@ -113,10 +117,12 @@ def _ace_text(ace: Dict[str, str]) -> str:
     if ace["type"].startswith("O") and int(ace.get("types", "-1")) & 3 != ("object" in ace) + 2 * ("inherited" in ace):
         raise Unknown("the dump is cut: an object type is missing")
     # A SID that is cut may be another one. Behind the SID other bytes may stand.
-    length = 8 + 4 * ace["type"].startswith("O") + 16 * (("object" in ace) + ("inherited" in ace)) + 8 + 4 * (ace["sid"].count("-") - 2)
+    length = 8 + 4 * ace["type"].startswith("O") + 16 * (("object" in ace) +
+                                                         ("inherited" in ace)) + 8 + 4 * (ace["sid"].count("-") - 2)
     if length < int(ace.get("size", "0")) and "length=" not in ace.get("rest", ""):
         raise Unknown("the dump is cut: a SID is shorter than its ACE says")
-    return f"({ace['type']};{ace['flags']};{ace['mask']};{ace.get('object', '')};{ace.get('inherited', '')};{ace['sid']})"
+    return (f"({ace['type']};{ace['flags']};{ace['mask']};{ace.get('object', '')};{ace.get('inherited', '')};"
+            f"{ace['sid']})")
 
 
 def sddl_of(lines: List[str]) -> str:
@@ -166,9 +172,10 @@ def _read(source: Lines, label: str, options: SourceOptions) -> Iterator[Piece]:
             if not line.strip():
                 yield Piece(number, number + 1, _BLANK)
             else:
-                lost = unreadable(f"{label}:{number}", label, number, f"{line[:200]!r} is no line of a dump", _HELP, kind)
+                lost = strange_item(line, label, number, f"{line[:200]!r} is no line of a dump", _HELP, kind)
                 yield Piece(number, number + 1, lost, True)
     yield from ended()
 
 
-FORMAT = Format("ndr", "samba-tool ntacl get", "a dump, also without its first line, and any other line", (_BLANK,), _recognizes, _read)
+FORMAT = Format("ndr", "samba-tool ntacl get", "a dump, also without its first line, and any other line", (_BLANK,),
+                _recognizes, _read)

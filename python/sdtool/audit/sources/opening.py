@@ -1,5 +1,5 @@
-"""Files, pipes, archives and compressed files, as bytes or as lines of text. Each is opened once and read from its beginning
-to its end."""
+"""Files, pipes, archives and compressed files, as bytes or as lines of text. Each is opened once and read from its
+beginning to its end."""
 import codecs
 import contextlib
 import io
@@ -12,6 +12,8 @@ import zlib
 from typing import Any, Callable, Iterator, List, NamedTuple, Optional, Tuple, Union
 
 from sdtool._runs import piece_of
+from sdtool.audit.sources import archives
+from sdtool.audit.sources.archives import Trouble
 
 STANDARD_INPUT = "-"
 HEAD = 1 << 16    # bytes that show what a source is
@@ -96,22 +98,15 @@ class Stream(NamedTuple):
     head: bytes
 
 
-class Trouble(NamedTuple):
-    """A part of an archive that can't be read, and the reason."""
-
-    label: str
-    reason: str
-    help: str
-
-
 Content = Union[Stream, Trouble]
 
 
 class _Unpacked(io.RawIOBase):
-    """What compressed streams hold, one after the other. What is behind the last is a fault, and so is a stream without its
-    end."""
+    """What compressed streams hold, one after the other. What is behind the last is a fault, and so is a stream without
+    its end."""
 
-    def __init__(self, stream: io.BufferedReader, make: Callable[[], "_Unpacker"], starts: Tuple[bytes, ...], padding: bool) -> None:
+    def __init__(self, stream: io.BufferedReader, make: Callable[[], "_Unpacker"], starts: Tuple[bytes, ...],
+                 padding: bool) -> None:
         super().__init__()
         self._stream, self._make, self._starts, self._padding = stream, make, starts, padding
         self._unpacker: Optional[_Unpacker] = make()
@@ -221,7 +216,6 @@ def _begun(stream: io.BufferedReader) -> Tuple[bytes, io.BufferedReader]:
 
 
 def _contents(label: str, stream: io.BufferedReader, layers: int) -> Iterator[Content]:
-    from sdtool.audit.sources import archives
     head, begun = _begun(stream)
     if layers:
         members = archives.members_of(head, begun, label)
@@ -274,7 +268,8 @@ def encoding_of(head: bytes, named: Optional[str]) -> str:
         return "utf-8"
     sample = head[:len(head) & ~1]
     low, high = sample[1::2].count(0), sample[0::2].count(0)
-    # ASCII in UTF-16 has a NUL in every second byte, and other scripts have ASCII between them. A descriptor has more of them.
+    # ASCII in UTF-16 has a NUL in every second byte, and other scripts have ASCII between them. A descriptor has more
+    # of them.
     least = max(_FEW_NULS, len(sample) // 100)
     if low > 4 * high and low > least:
         return "utf-16-le"
@@ -297,8 +292,9 @@ def _errors(encoding: str) -> str:
 # UTF-16 or UTF-32 that is read as UTF-8: NULs by turns with other characters.
 _WIDE = re.compile(r"(?:[^\0]\0){3}|(?:\0[^\0]){3}|(?:[^\0]\0{3}){2}")
 # ASCII that is read as UTF-16: characters whose bytes are both ASCII, among them such as are in no name.
-_NARROW = re.compile("[" + "".join(f"{chr(high << 8 | 9)}-{chr(high << 8 | 13)}{chr(high << 8 | 32)}-{chr(high << 8 | 126)}"
-                                   for high in (9, 10, 13, *range(0x20, 0x7f))) + "]{6,}")
+_NARROW = re.compile("[" +
+                     "".join(f"{chr(high << 8 | 9)}-{chr(high << 8 | 13)}{chr(high << 8 | 32)}-{chr(high << 8 | 126)}"
+                             for high in (9, 10, 13, *range(0x20, 0x7f))) + "]{6,}")
 # UTF-16 that is read with its bytes in the other order.
 _SWAPPED = re.compile("[" + "".join(chr(low << 8) for low in (9, 10, 13, *range(0x20, 0x7f))) + "]{6,}")
 _RARE = re.compile("[\u0a0d\u0d0a\u2c00-\u2dff\u3200-\u4dff]")
@@ -312,13 +308,14 @@ def _changed_at(text: str, is_wide: bool) -> int:
     swapped = _SWAPPED.search(text)
     at = min((one for one in (text.find("\ufffe"), swapped.start() if swapped else -1) if one >= 0), default=-1)
     if at < 0:
-        at = next((found.start() for found in _NARROW.finditer(text) if 3 * len(_RARE.findall(found[0])) >= len(found[0])), -1)
+        at = next((found.start() for found in _NARROW.finditer(text)
+                   if 3 * len(_RARE.findall(found[0])) >= len(found[0])), -1)
     return at
 
 
 def chunks(stream: io.BufferedReader, encoding: str) -> Iterator[str]:
-    """The text of a stream, without byte order marks at the beginning and at those of lines. Lines that end with CR alone end
-    with LF."""
+    """The text of a stream, without byte order marks at the beginning and at those of lines. Lines that end with CR
+    alone end with LF."""
     texts = _decoded(stream, encoding)
     first = next(texts, "")
     if first:
@@ -378,8 +375,8 @@ def _decoded(stream: io.BufferedReader, encoding: str) -> Iterator[str]:
 
 
 def whole_lines(texts: Iterator[str]) -> Iterator[str]:
-    """A text in parts that end with an LF, but for the last, as many lines together as were read at once: a last line without an
-    LF comes with those before it. Of a line that is too long, the first part, and words that say so."""
+    """A text in parts that end with an LF, but for the last, as many lines together as were read at once: a last line
+    without an LF comes with those before it. Of a line that is too long, the first part, and words that say so."""
     ready = rest = ""
     is_dropping = False
     try:
@@ -426,25 +423,37 @@ def without_cr(texts: Iterator[str]) -> Iterator[str]:
         yield line[:-1] if line.endswith("\r") else line
 
 
-def with_head(texts: Iterator[str]) -> Tuple[str, Iterator[str]]:
-    """The first part of a text, and all of it. A fault that is met there comes behind what was read."""
-    first = ""
-    fault: Optional[Exception] = None
-    while len(first) < HEAD:
-        try:
-            text = next(texts, "")
-        except READ_FAULTS as error:
-            fault = error
-            break
-        if not text:
-            break
-        first += text
+class Ahead:
+    """A text that is looked at before it is read. text is what was read so far, and a fault that was met comes behind
+    it."""
 
-    def all_of() -> Iterator[str]:
-        if first:
-            yield first
-        if fault is not None:
-            raise fault
-        yield from texts
+    def __init__(self, texts: Iterator[str]) -> None:
+        self._texts = texts
+        self._parts: List[str] = []
+        self._fault: Optional[Exception] = None
+        self.count = self.lines = 0
+        self.is_ended = False
 
-    return first, all_of()
+    @property
+    def text(self) -> str:
+        self._parts = ["".join(self._parts)]
+        return self._parts[0]
+
+    def read(self, most: int) -> None:
+        """Reads on until there are so many characters, or no more come."""
+        while self.count < most and not self.is_ended:
+            try:
+                text = next(self._texts, "")
+            except READ_FAULTS as error:
+                text, self._fault = "", error
+            self.is_ended = not text
+            self.count += len(text)
+            self.lines += text.count("\n")
+            self._parts.append(text)
+
+    def all(self) -> Iterator[str]:
+        if self.text:
+            yield self.text
+        if self._fault is not None:
+            raise self._fault
+        yield from self._texts

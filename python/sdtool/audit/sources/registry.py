@@ -1,10 +1,11 @@
 """Registry exports, which reg export and regedit write."""
 import collections
 import re
-from typing import Iterator, List, NamedTuple, Optional, Tuple, Union
+from typing import Any, Dict, Iterator, List, NamedTuple, Optional, Tuple, Union
 
-from sdtool.audit.sources.frame import Format, Lines, Look, Piece
-from sdtool.audit.sources.items import Item, bytes_item, item_of, unreadable
+from sdtool._windows import HINTS
+from sdtool.audit.sources.frame import BY_NAMES, Format, Lines, Look, Piece
+from sdtool.audit.sources.items import UNTOLD, Item, bytes_item, item_of, unreadable
 from sdtool.audit.sources.options import SourceOptions
 
 _HEAD_LINE = re.compile(r"(Windows Registry Editor Version [0-9]+\.[0-9]+|REGEDIT4)\s*\Z", re.I)
@@ -13,6 +14,7 @@ _NAME = re.compile(r'(?:"((?:[^"\\]|\\.)*)"|(@))\s*=', re.S)
 _TEXT = re.compile(r'"((?:[^"\\]|\\.)*)"\s*\Z', re.S)
 _OPEN_TEXT = re.compile(r'"(?:[^"\\]|\\.)*\\?\Z', re.S)
 _BINARY = re.compile(r"hex(?:\([0-9a-f]+\))?:(.*)", re.I | re.S)
+_HEX_VALUE = re.compile(r'"(?:[^"\\]|\\.)*"=hex(?:\([0-9a-f]+\))?:[0-9a-f]{2},', re.I)
 _NUMBER = re.compile(r"(dword:[0-9a-f]{1,8}|-)\s*\Z", re.I)
 _SHORT = re.compile(r"dword:[0-9a-f]{1,7}\s*\Z", re.I)
 _GOES_ON = re.compile(r"\s*[0-9a-f]{2}(?:,|\s*\\?\s*\Z)", re.I)  # a further line of hex digits
@@ -23,27 +25,25 @@ _NAMES = re.compile(r"security|.*permission|.*sd|.*securitydescriptor|.*dacl", r
 _TEXT_NAMES = re.compile(r".*sd|.*securitydescriptor", re.I)
 _MOST_LINES = 100_000  # of a value
 _MOST_PIECES = 100_000  # of a key, until they are given
+
+
+def _pattern_of(hint: Dict[str, Any]) -> str:
+    key, names = "\\\\" + hint["key"] if "key" in hint else "", "|".join(hint.get("value", (r"[^\\]*",)))
+    return rf"{key}\\(?:{names})\Z"
+
+
 # What a value protects, by its key and its name. The first that fits counts.
-_KINDS = [(re.compile(pattern, re.I), kind) for pattern, kind in (
-    (r"\\Shares\\Security\\", "share"),
-    (r"\\ServiceGroupOrder\\Security\\", "service-manager"),
-    (r"\\Services\\.*\\Security\\[^\\]*\Z", "service"),
-    (r"\\EventLog\b", "log"),
-    (r"(?:Launch|Access)(?:Permission|Restriction)\Z", "com"),
-    (r"\\ServerSecurityDescriptor\Z", "print-server"),
-    (r"\\Print\\Printers\\[^\\]*\\Security\Z", "printer"),
-    (r"\\CertSvc\\Configuration\\[^\\]*\\Security\Z", "authority"),
-    (r"\\TaskCache\\Tree\\.*SD\Z", "task"))]
+_KINDS = [(re.compile(_pattern_of(hint), re.I), hint["kind"]) for hint in HINTS if "key" in hint or "value" in hint]
 _HEAD, _BLANK, _COMMENT, _KEY_LINE = "the head", "a blank line", "a comment", "the name of a key"
 _OTHER = "a value that is no descriptor"
 _AGAIN = "export the key again"
 
 
 def _recognizes(look: Look) -> bool:
-    return any(_HEAD_LINE.match(line) or _KEY.match(line) for line in look.lines)
+    return any(_HEAD_LINE.match(line) or _KEY.match(line) or _HEX_VALUE.match(line) for line in look.lines)
 
 
-class _Value(NamedTuple):
+class Value(NamedTuple):
     """A value, over one line or more. reason says why it can't be read."""
 
     begin: int
@@ -81,7 +81,7 @@ def _unescaped(text: str) -> str:
     return re.sub(r"\\(.)", r"\1", text, flags=re.S)
 
 
-def _value(first: str, found: "re.Match[str]", lines: _Numbered) -> _Value:
+def _value(first: str, found: "re.Match[str]", lines: _Numbered) -> Value:
     """A value that begins with a line. What goes on in other lines is read as far as it is part of the value."""
     begin = lines.number
     name = "" if found[2] else _unescaped(found[1])
@@ -89,15 +89,15 @@ def _value(first: str, found: "re.Match[str]", lines: _Numbered) -> _Value:
     if _TEXT.match(data) or _NUMBER.match(data):
         # reg export writes eight digits. Others may have written fewer, but a last line may be cut.
         reason = "the value is cut" if _SHORT.match(data) and lines.is_ended() else ""
-        return _Value(begin, begin + 1, name, data, reason)
+        return Value(begin, begin + 1, name, data, reason)
     if _OPEN_TEXT.match(data):
         return _text_value(begin, name, first[found.end():], lines)
     if _BINARY.match(data):
         return _binary_value(begin, name, data, lines)
-    return _Value(begin, begin + 1, name, data, "the value is cut or damaged")
+    return Value(begin, begin + 1, name, data, "the value is cut or damaged")
 
 
-def _text_value(begin: int, name: str, data: str, lines: _Numbered) -> _Value:
+def _text_value(begin: int, name: str, data: str, lines: _Numbered) -> Value:
     """A text with line ends in it."""
     taken: List[str] = []
     while len(taken) < _MOST_LINES:
@@ -109,13 +109,13 @@ def _text_value(begin: int, name: str, data: str, lines: _Numbered) -> _Value:
             continue
         whole = "\n".join([data, *taken])
         if _TEXT.match(whole):
-            return _Value(begin, begin + 1 + len(taken), name, whole.strip())
+            return Value(begin, begin + 1 + len(taken), name, whole.strip())
         break
     lines.give_back(taken)
-    return _Value(begin, begin + 1, name, data, "the text has no end")
+    return Value(begin, begin + 1, name, data, "the text has no end")
 
 
-def _binary_value(begin: int, name: str, data: str, lines: _Numbered) -> _Value:
+def _binary_value(begin: int, name: str, data: str, lines: _Numbered) -> Value:
     """Hex digits, which go on in the next line behind a backslash."""
     parts: List[str] = []
     line = data[data.index(":") + 1:]
@@ -124,15 +124,15 @@ def _binary_value(begin: int, name: str, data: str, lines: _Numbered) -> _Value:
         is_open = line.rstrip().endswith("\\")
         digits = line.rstrip()[:-1].rstrip(" \t").removesuffix(",") if is_open else line
         if not _DIGITS.match(digits):
-            return _Value(begin, begin + 1 + count, name, "", "the value has something other than hex digits")
+            return Value(begin, begin + 1 + count, name, "", "the value has something other than hex digits")
         parts.append(digits)
         if not is_open:
-            return _Value(begin, begin + 1 + count, name, "hex:" + re.sub(r"[\s,]", "", "".join(parts)).lower())
+            return Value(begin, begin + 1 + count, name, "hex:" + re.sub(r"[\s,]", "", "".join(parts)).lower())
         following = lines.next()
         if following is None or count >= _MOST_LINES or not _GOES_ON.match(following):
             if following is not None:
                 lines.give_back([following])
-            return _Value(begin, begin + 1 + count, name, "", "the value is cut: it goes on in a line that isn't there")
+            return Value(begin, begin + 1 + count, name, "", "the value is cut: it goes on in a line that isn't there")
         line = following
         count += 1
 
@@ -140,7 +140,7 @@ def _binary_value(begin: int, name: str, data: str, lines: _Numbered) -> _Value:
 def _kind_of(key: str, name: str) -> str:
     """The kind of the object that a value of a key protects."""
     path = f"{key}\\{name}"
-    return next((kind for pattern, kind in _KINDS if pattern.search(path)), "file")
+    return next((kind for pattern, kind in _KINDS if pattern.search(path)), UNTOLD)
 
 
 def _is_descriptor(key: str, name: str, digits: str) -> bool:
@@ -150,7 +150,7 @@ def _is_descriptor(key: str, name: str, digits: str) -> bool:
     return digits[:2] == "01" and len(digits) >= 40 and int(digits[6:8], 16) & 0x80 != 0
 
 
-def _taken(key: Optional[str], value: _Value, label: str, options: SourceOptions) -> Union[Item, str]:
+def item_of_value(key: Optional[str], value: Value, label: str, options: SourceOptions) -> Union[Item, str]:
     """The object that a value is, or what else it is."""
     shown = key if key is not None else "[?]"
     full = f"{shown}\\{value.name}" if value.name else shown
@@ -178,7 +178,8 @@ def _without_rivals(pieces: List[Piece]) -> Iterator[Piece]:
     for piece in pieces:
         one = piece.taken
         if isinstance(one, Item) and one.form and counts[one.name.lower()] > 1:
-            piece = piece._replace(taken=unreadable(one.name, one.source, one.line, "the key has two values with this name", _AGAIN, one.kind))
+            piece = piece._replace(taken=unreadable(one.name, one.source, one.line,
+                                                    "the key has two values with this name", _AGAIN, one.kind))
         yield piece
 
 
@@ -209,7 +210,7 @@ def _read(source: Lines, label: str, options: SourceOptions) -> Iterator[Piece]:
         found = _NAME.match(text)
         if found:
             value = _value(text, found, lines)
-            pieces.append(Piece(value.begin, value.end, _taken(key, value, label, options), bool(value.reason)))
+            pieces.append(Piece(value.begin, value.end, item_of_value(key, value, label, options), bool(value.reason)))
             continue
         word, named = _line(text)
         if word == _KEY_LINE or len(pieces) > _MOST_PIECES:
@@ -220,7 +221,8 @@ def _read(source: Lines, label: str, options: SourceOptions) -> Iterator[Piece]:
             pieces.append(Piece(number, number + 1, word))
             continue
         name = f"{key}: {text[:100]}" if key else f"{label}:{number}"
-        lost = unreadable(name, label, number, "the line is neither a key nor a value", _AGAIN, options.kind or _kind_of(key or "", ""))
+        lost = unreadable(name, label, number, "the line is neither a key nor a value", _AGAIN,
+                          options.kind or _kind_of(key or "", ""))
         if text.startswith("[") or text.rstrip().endswith("]") or "HKEY_" in text:
             key = None
         elif _GOES_ON.match(text):
@@ -238,5 +240,6 @@ def _skip_digits(lines: _Numbered) -> None:
         lines.give_back([following])
 
 
-FORMAT = Format("reg", "reg export KEY FILE", "a value that is a descriptor by its name, its key or its bytes, or that is damaged",
-                (_HEAD, _BLANK, _COMMENT, _KEY_LINE, _OTHER), _recognizes, _read)
+FORMAT = Format("reg", "reg export KEY FILE",
+                "a value that is a descriptor by its name, its key or its bytes, or that is damaged",
+                (_HEAD, _BLANK, _COMMENT, _KEY_LINE, _OTHER), _recognizes, _read, guess=BY_NAMES)

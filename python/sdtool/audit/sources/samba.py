@@ -7,7 +7,6 @@ from sdtool.audit.sources.items import Item, bytes_item, unreadable
 _HEADER = 20
 NO_ATTRIBUTE = "run as root on the server, or name the attribute with --attribute"
 
-
 FLAG_NAMES = ((0x1, "OI"), (0x2, "CI"), (0x4, "NP"), (0x8, "IO"), (0x10, "ID"), (0x40, "SA"), (0x80, "FA"))
 CONTROL_NAMES = ((0x1000, "P"), (0x100, "AR"), (0x400, "AI"))
 
@@ -54,7 +53,7 @@ def unwrapped(data: bytes) -> bytes:
 
 
 def item_of_attribute(path: str, label: str, line: int, name: str, data: bytes, kind: str,
-                       is_folder: Optional[bool] = None) -> Item:
+                      is_folder: Optional[bool] = None) -> Item:
     try:
         descriptor = unwrapped(data) if name.endswith("NTACL") else data
     except Unknown as error:

@@ -7,8 +7,8 @@ from sdtool.audit.sources.items import bytes_item, unreadable
 from sdtool.audit.sources.opening import HEAD
 from sdtool.audit.sources.options import SourceOptions
 
-# An entry is a hash, an id, an offset of 8 bytes, its size and then the descriptor, and begins at a multiple of 16. Each
-# block of 256 KiB stands twice, one after the other, so that an entry which is damaged is read from the other one.
+# An entry is a hash, an id, an offset of 8 bytes, its size and then the descriptor, and begins at a multiple of 16.
+# Each block of 256 KiB stands twice, one after the other, so that an entry which is damaged is read from the other one.
 _BLOCK = 0x40000
 _HEAD = struct.Struct("<IIQI")
 _LEAST = _HEAD.size + 20
@@ -45,13 +45,14 @@ def _whole(block: bytes, at: int, start: int) -> Optional[bytes]:
 
 
 def _better(first: bytes, second: bytes, at: int, start: int, before: int) -> Optional[bytes]:
-    """The entry at a place in one of two copies: the one whose hash is right and whose id follows that before, else the first
-    that is whole."""
+    """The entry at a place in one of two copies: the one whose hash is right and whose id follows that before, else the
+    first that is whole."""
     found = [entry for entry in (_whole(first, at, start), _whole(second, at, start)) if entry is not None]
     if len(found) == 2 and found[0] != found[1]:
         right = [entry for entry in found if _hash(entry[_HEAD.size:]) == _HEAD.unpack_from(entry)[0]] or found
         behind = _entry(first, at + len(right[0]) + 15 & ~15, start)
-        following = [entry for entry in right if _HEAD.unpack_from(entry)[1] in (before + 1, behind[0] - 1 if behind else 0)] or right
+        following = ([entry for entry in right
+                      if _HEAD.unpack_from(entry)[1] in (before + 1, behind[0] - 1 if behind else 0)] or right)
         return following[0]
     return found[0] if found else None
 
@@ -80,8 +81,8 @@ def _block_pieces(first: bytes, second: bytes, start: int, label: str, kind: str
         else:
             end = min(length, _next_entry(first, second, at, start))
             if any(first[at:end]) or any(second[at:end]) or end < length and end > at + 16:
-                lost = unreadable(f"{label}: bytes {start + at} to {start + end - 1}", label, 0, "an entry of the stream is damaged or cut",
-                                  _AGAIN, kind)
+                lost = unreadable(f"{label}: bytes {start + at} to {start + end - 1}", label, 0,
+                                  "an entry of the stream is damaged or cut", _AGAIN, kind)
                 pieces.append(Piece(start + at, start + end, lost))
             else:
                 pieces.append(Piece(start + at, start + end, _FREE if end == length else _ZEROS))
@@ -110,5 +111,6 @@ def _read(source: Data, label: str, options: SourceOptions) -> Iterator[Piece]:
         start += 2 * _BLOCK
 
 
-FORMAT = Format("sds", "ntfscat -a 0x80 -n '$SDS' IMAGE '$Secure'", "an entry, from the copy of its block if it is damaged",
-                (_ZEROS, _FREE, _COPY), lambda look: False, _read, takes="bytes")
+FORMAT = Format("sds", "ntfscat -a 0x80 -n '$SDS' IMAGE '$Secure'",
+                "an entry, from the copy of its block if it is damaged", (_ZEROS, _FREE, _COPY), lambda look: False,
+                _read, takes="bytes")

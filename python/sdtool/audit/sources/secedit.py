@@ -7,7 +7,8 @@ from sdtool.audit.sources.items import WITHOUT_OWNER, Item, item_of, looks_like_
 from sdtool.audit.sources.options import SourceOptions
 
 _KINDS = {"file security": "file", "registry keys": "key", "service general setting": "service"}
-_OTHERS = {"unicode", "version", "profile description", "system access", "event audit", "registry values", "privilege rights",
+_OTHERS = {"unicode", "version", "profile description", "system access", "event audit", "registry values",
+           "privilege rights",
            "kerberos policy", "application log", "security log", "system log", "group membership", "strings"}
 _TITLE = re.compile(r"\s*\[([^\[\]]*)\]\s*\Z")
 _SETTING = re.compile(r'\s*[^\s",=][^",=]*=')
@@ -18,7 +19,8 @@ _AGAIN = "run secedit /export again"
 
 def _recognizes(look: Look) -> bool:
     titles = (_TITLE.match(line) for line in look.lines)
-    return any(title and (title[1].strip().lower() in _OTHERS or title[1].strip().lower() in _KINDS) for title in titles)
+    return any(title and (title[1].strip().lower() in _OTHERS or title[1].strip().lower() in _KINDS)
+               for title in titles)
 
 
 def _fields_of(text: str) -> List[str]:
@@ -38,7 +40,8 @@ def _fields_of(text: str) -> List[str]:
 def _row_item(text: str, label: str, number: int, kind: str) -> Item:
     row = _fields_of(text)
     if len(row) != 3:
-        reason = f"the line has {len(row)} fields, not 3" if row else "malformed line: a quotation mark doesn't end its field"
+        reason = (f"the line has {len(row)} fields, not 3"
+                  if row else "malformed line: a quotation mark doesn't end its field")
         return unreadable(text[:1000], label, number, reason, _AGAIN, kind)
     return item_of(row[0], label, number, row[2], kind)._replace(place=WITHOUT_OWNER)
 
@@ -61,7 +64,8 @@ def _taken(line: str, section: Optional[str], label: str, number: int,
         return _OTHER, False
     where = "before the first section" if section is None else f"in section [{section}]"
     row = _row_item(text, label, number, options.kind or "file")
-    return unreadable(row.name if row.form else text[:1000], label, number, f"an object or a line that isn't known, {where}",
+    return unreadable(row.name if row.form else text[:1000], label, number,
+                      f"an object or a line that isn't known, {where}",
                       "objects stand in [File Security], [Registry Keys] and [Service General Setting]",
                       options.kind or "file"), text.count(",") < 2 or section is None
 
@@ -79,5 +83,6 @@ def _read(source: Lines, label: str, options: SourceOptions) -> Iterator[Piece]:
         yield Piece(number, number + 1, taken, is_strange)
 
 
-FORMAT = Format("secedit", "secedit /export /cfg FILE", "a row of [File Security], [Registry Keys] or [Service General Setting]",
+FORMAT = Format("secedit", "secedit /export /cfg FILE",
+                "a row of [File Security], [Registry Keys] or [Service General Setting]",
                 (_BLANK, _COMMENT, _SECTION, _OTHER), _recognizes, _read)

@@ -1,10 +1,11 @@
-"""What smbcacls --numeric prints, of one file or of several, one after the other. It prints no names; sharesec prints that of a
-share in brackets."""
+"""What smbcacls --numeric prints, of one file or of several, one after the other. It prints no names; sharesec prints
+that of a share in brackets."""
 import re
 from typing import Dict, Iterator, List, Tuple
 
 from sdtool.audit.sources.frame import Format, Lines, Look, Piece
 from sdtool.audit.sources.items import Item, item_of, unreadable
+from sdtool.audit.sources.messages import strange_item
 from sdtool.audit.sources.options import SourceOptions
 from sdtool.audit.sources.samba import CONTROL_NAMES, Unknown, flags_text
 
@@ -57,7 +58,8 @@ def _sddl(block: List[str]) -> str:
 def _item(number: int, block: List[str], label: str, kind: str) -> Item:
     share = _SHARE.match(block[0])
     if share and len(block) == 1:
-        return unreadable(f"{label}:{number}", label, number, f"{block[0][:200]!r} is no line of a descriptor", _HELP, kind)
+        return unreadable(f"{label}:{number}", label, number, f"{block[0][:200]!r} is no line of a descriptor",
+                          _HELP, kind)
     name, lines = (share[1], block[1:]) if share else (f"{label}:{number}", block)
     try:
         return item_of(name, label, number, _sddl(lines), kind)
@@ -67,6 +69,8 @@ def _item(number: int, block: List[str], label: str, kind: str) -> Item:
 
 def _begins(word: str, block: List[Tuple[int, str]]) -> bool:
     """Whether a line is of another descriptor than those before it, of which the first may be missing."""
+    if word not in ("REVISION", "CONTROL"):
+        return False
     words = {line.partition(":")[0].upper() for _, line in block if not _SHARE.match(line)}
     return word == "REVISION" and bool(words) or word == "CONTROL" and bool(words & {"CONTROL", "ACL"})
 
@@ -78,7 +82,8 @@ def _read(source: Lines, label: str, options: SourceOptions) -> Iterator[Piece]:
     def ended() -> Iterator[Piece]:
         if block:
             begin = block[0][0]
-            yield Piece(begin, block[-1][0] + 1, _item(begin, [line for _, line in block], label, kind), bool(_SHARE.match(block[-1][1])))
+            yield Piece(begin, block[-1][0] + 1, _item(begin, [line for _, line in block], label, kind),
+                        bool(_SHARE.match(block[-1][1])))
             block.clear()
 
     for number, line in enumerate(source, 1):
@@ -96,10 +101,10 @@ def _read(source: Lines, label: str, options: SourceOptions) -> Iterator[Piece]:
         if not line.strip():
             yield Piece(number, number + 1, _BLANK)
         else:
-            lost = unreadable(f"{label}:{number}", label, number, f"{line[:200]!r} is no line of a descriptor", _HELP, kind)
+            lost = strange_item(line, label, number, f"{line[:200]!r} is no line of a descriptor", _HELP, kind)
             yield Piece(number, number + 1, lost, True)
     yield from ended()
 
 
-FORMAT = Format("smbcacls", "smbcacls --numeric", "the lines of a descriptor, also without REVISION or behind the name of a share, and any other line",
+FORMAT = Format("smbcacls", "smbcacls --numeric", "a descriptor, also without its first line, and any other line",
                 (_BLANK,), _recognizes, _read)

@@ -9,8 +9,8 @@ from sdtool.audit.sources.opening import OpeningFault
 from sdtool.audit.sources.options import SourceOptions
 from sdtool.audit.sources.samba import NO_ATTRIBUTE, item_of_attribute
 
-HELP = ("tree: a share or a mounted NTFS volume, by security.NTACL, system.ntfs_acl or --attribute. Object: a file or folder, also "
-        "without an attribute; none: a symbolic link.")
+HELP = ("tree: a share or a mounted NTFS volume, by security.NTACL, system.ntfs_acl or --attribute. Object: a file or "
+        "folder, also without an attribute; none: a symbolic link.")
 getxattr: Any = getattr(os, "getxattr", None)  # Windows has none
 
 

@@ -3,10 +3,13 @@ from typing import Iterator, List, Optional, Tuple
 
 from sdtool.audit.sources.frame import Format, Lines, Look, Piece
 from sdtool.audit.sources.items import item_of, looks_like_descriptor, unreadable
+from sdtool.audit.sources.messages import strange_item
 from sdtool.audit.sources.options import SourceOptions
 
-_SETTINGS = {"enabled", "type", "owningpublisher", "isolation", "logging", "logfilename", "retention", "autobackup", "maxsize",
-             "publishing", "filemax", "level", "keywords", "controlguid", "buffersize", "minbuffers", "maxbuffers", "latency",
+_SETTINGS = {"enabled", "type", "owningpublisher", "isolation", "logging", "logfilename", "retention",
+             "autobackup", "maxsize",
+             "publishing", "filemax", "level", "keywords", "controlguid", "buffersize", "minbuffers",
+             "maxbuffers", "latency",
              "clocktype", "sidtype"}
 _BLANK, _SETTING, _NAME = "a blank line", "another setting of a log", "the name of a log"
 _AGAIN = "run wevtutil gl again, as an administrator"
@@ -19,7 +22,8 @@ def _word_of(line: str) -> Tuple[str, str]:
 
 def _recognizes(look: Look) -> bool:
     words = [_word_of(line)[0] for line in look.full()]
-    return "name" in words and 2 * sum(word in _SETTINGS or word in ("name", "channelaccess") for word in words) > len(words)
+    return ("name" in words and 2 * sum(word in _SETTINGS or word in ("name", "channelaccess")
+                                        for word in words) > len(words))
 
 
 def _read(source: Lines, label: str, options: SourceOptions) -> Iterator[Piece]:
@@ -41,7 +45,8 @@ def _read(source: Lines, label: str, options: SourceOptions) -> Iterator[Piece]:
             name = number, rest
         elif word == "channelaccess":
             if name is None:
-                lost = unreadable(f"{label}:{number}", label, number, "no name stands before this channelAccess", _AGAIN, kind)
+                lost = unreadable(f"{label}:{number}", label, number, "no name stands before this channelAccess",
+                                  _AGAIN, kind)
                 yield Piece(number, number + 1, lost, True)
                 continue
             yield Piece(name[0], name[0] + 1, _NAME)
@@ -67,8 +72,9 @@ def _other(line: str, word: str, label: str, number: int, kind: str) -> Piece:
         return Piece(number, number + 1, _SETTING)
     if looks_like_descriptor(line):
         return Piece(number, number + 1, item_of(place, label, number, line, kind))
-    lost = unreadable(place, label, number, f"{line.strip()[:80]!r} is no setting of a log", _AGAIN, kind)
+    lost = strange_item(line, label, number, f"{line.strip()[:80]!r} is no setting of a log", _AGAIN, kind)
     return Piece(number, number + 1, lost, True)
 
 
-FORMAT = Format("wevtutil", "wevtutil gl NAME", "a log, also without channelAccess", (_BLANK, _SETTING, _NAME), _recognizes, _read)
+FORMAT = Format("wevtutil", "wevtutil gl NAME", "a log, also without channelAccess", (_BLANK, _SETTING, _NAME),
+                _recognizes, _read)

@@ -1,0 +1,81 @@
+"""The question what a token gets of some rights."""
+import re
+from typing import Iterator, List, Optional, Sequence
+
+from sdtool.audit.checks import Checks, asked_of, kept_of, mark_of, of_allowed_types, refused, shares_of, without_owner
+from sdtool.audit.findings import Answer, Finding, Rule, answer_of, complete, unknown
+from sdtool.audit.library import Descriptor, Got, Token, answerable, explained
+from sdtool.audit.masks import WITHOUT_MAPPING
+from sdtool.audit.protocols import Context
+from sdtool.audit.windows import rights
+
+_MEDIUM = 8192
+
+
+def _labels(descriptor: Descriptor) -> List[str]:
+    """The SIDs of ACEs that are labels, of which the first counts."""
+    return [ace.sid for ace in descriptor.sacl_aces if ace.kind == "ML" and ace.counts
+            and re.fullmatch(r"S-1-16-[0-9]+", ace.sid)]
+
+
+def _level_of(descriptor: Descriptor) -> int:
+    """The integrity level of an object: that of its label, or medium."""
+    labels = _labels(descriptor)
+    return int(labels[0].rpartition("-")[2]) if labels else _MEDIUM
+
+
+class Can:
+    """What a token gets of some rights."""
+
+    asks_places = "owners"
+
+    rules = (Rule("can", "the token gets one of the rights"),
+             Rule("stopped", "the token gets none of them, and an ACE of the object denies it some"))
+
+    def __init__(self, context: Context, token: Token, wanted: rights.Wanted) -> None:
+        self._context, self._token, self._wanted = context, token, wanted
+
+    def answer(self, form: str, kind: str, texts: Sequence[str], place: str = "") -> List[Answer]:
+        mask = self._wanted.all_of(kind)
+        descriptors = explained(form, texts, self._context.domain)
+        answers: List[Optional[Answer]] = [refused(one, kind, mask) for one in descriptors]
+        checks = Checks(*answerable(form, texts, descriptors, kind), kind, asked_of(mask, kind), self._context.domain)
+        asked = [(at, one) for at, one in enumerate(descriptors) if answers[at] is None and isinstance(one, Descriptor)]
+        for at, descriptor in asked:
+            checks.know(at, of_allowed_types(descriptor, mask, kind))
+            checks.ask(at, self._token)
+        checks.run()
+        for at, descriptor in asked:
+            got = kept_of(checks.got(at, self._token, mask), self._wanted, kind)
+            answers[at] = self._why_unknown(got, descriptor, mask, kind, place) or answer_of(
+                self._findings(got, checks, at, kind, mask, descriptor))
+        return complete(answers)
+
+    def _why_unknown(self, got: Got, descriptor: Descriptor, mask: int, kind: str, place: str) -> Optional[Answer]:
+        """Why nothing that is found isn't nothing."""
+        level = self._token.level
+        if level is not None and kind in WITHOUT_MAPPING and level < _level_of(descriptor):
+            return unknown(f"the token's level is below the object's, and what that forbids isn't known for a {kind}",
+                           "ask without a level, and look at the object on its own system")
+        if got.all:
+            return None
+        if self._token.missing and descriptor.dacl == "list":
+            reason, _, advice = self._token.missing.partition(": ")
+            return unknown(reason, advice)
+        return without_owner(descriptor, mask, place)
+
+    def _findings(self, got: Got, checks: Checks, at: int, kind: str, mask: int,
+                  descriptor: Descriptor) -> Iterator[Finding]:
+        missing = mask & ~got.mask
+        text = f"not: {rights.short_text(missing, kind)}" if missing else "all that was asked for"
+        if descriptor.dacl != "list" and got.mask:
+            text += f"; the DACL is {descriptor.dacl}, so everybody gets everything"
+        denied = checks.because(at, self._token, missing, descriptor.aces, "", False)
+        for share in shares_of(got, kind, text, checks.mask(at, self._token), mask):
+            because = checks.because(at, self._token, share.mask, descriptor.aces, share.object_type) + denied
+            yield Finding("can", "", share.words, share.text, mask=share.mask,
+                          mark=mark_of(because, descriptor.aces, kind), because=because)
+        # The label that every object has without one of its own stops no object in particular.
+        if not got.all and (any(one.number for one in denied) or denied and _labels(descriptor)):
+            yield Finding("stopped", "", ", ".join(dict.fromkeys(one.rights for one in denied)), "", False,
+                          mark=mark_of(denied, descriptor.aces, kind), because=denied)

@@ -1,0 +1,67 @@
+"""Titles of columns and members: which have descriptors, which have names, and what they and names tell of objects: the
+kind, and the classes of those of a directory."""
+import re
+from typing import AbstractSet, Iterable, List, Sequence
+
+from sdtool._windows import HINTS
+from sdtool.audit.sources.items import BY_PATH, UNTOLD
+from sdtool.audit.sources.ldif import place_of_object
+
+# In lower case and without blanks, '_' and '-'; the first that is there counts.
+DESCRIPTOR_NAMES = ("sddl", "securitydescriptor", "ntsecuritydescriptor", "descriptor", "sd", "acl",
+                    "securitydescriptorsddl", "sddlstring", "permissionsddl", "channelaccess", "permissions")
+NAME_NAMES = ("path", "fullname", "distinguishedname", "dn", "name", "objectname", "pspath", "object",
+              "file", "filename", "folder", "share", "pschildname", "key", "service", "id", "logname", "taskname",
+              "sharename", "printername", "servicename", "uri")
+# Get-SmbShare has beside a share's name the local path, which several shares may have, or none.
+_OF_SHARES = frozenset({"sharestate", "sharetype", "scopename", "smbinstance", "cachingmode", "folderenumerationmode",
+                        "encryptdata",
+                        "concurrentuserlimit", "continuouslyavailable", "currentusers", "shadowcopy",
+                        "securitydescriptor"})
+CLASS_NAME = "objectclass"
+_CLASS = re.compile(r"[\w-]+")
+# How names of objects tell their kind; the first that fits counts.
+_NAMES = [hint for hint in HINTS if "name" in hint]
+_KIND_OF_NAME = re.compile("|".join(f"({hint['name']})" for hint in _NAMES), re.I)
+_NO_LETTERS = str.maketrans("", "", " _-")
+
+
+def plain_name(title: str) -> str:
+    """A title in the form of the tables above."""
+    return title.translate(_NO_LETTERS).lower()
+
+
+# Titles that tell the kind of objects; the first that is there counts.
+_KINDS = {plain_name(name): hint["kind"] for hint in HINTS for name in hint.get("property", ())}
+
+
+def _is_of_share(titles: AbstractSet[str]) -> bool:
+    return {"name", "path"} <= titles and bool(titles & _OF_SHARES) and not titles & {"sddl", "pspath"}
+
+
+def ranked(titles: Sequence[str], names: Sequence[str]) -> List[int]:
+    """The places of the titles that are among these names, the best first."""
+    plain = [plain_name(title) for title in titles]
+    found = [(names.index(one), at) for at, one in enumerate(plain) if one in names]
+    if names is NAME_NAMES and _is_of_share(set(plain)):
+        found = [(-1 if plain[at] == "name" else rank, at) for rank, at in found]
+    return [at for _, at in sorted(found)]
+
+
+def kind_of_titles(titles: Iterable[str]) -> str:
+    """The kind of the objects that have these titles alone, or nothing."""
+    plain = {plain_name(title) for title in titles}
+    told = next((kind for title, kind in _KINDS.items() if title in plain), "")
+    return told or ("share" if _is_of_share(plain) else "")
+
+
+def kind_of_name(name: str) -> str:
+    """The kind of an object that its name tells."""
+    found = _KIND_OF_NAME.match(name)
+    kind: str = _NAMES[found.lastindex - 1]["kind"] if found and found.lastindex else UNTOLD
+    return BY_PATH if kind == "folder" else kind
+
+
+def place_of_classes(name: str, text: str, kind: str) -> str:
+    """The place of a directory object, of a text with its classes, of which the last one is its own."""
+    return place_of_object(name, tuple(_CLASS.findall(text))) if kind in ("ds", "template") else ""

@@ -1,0 +1,1 @@
+"""Databases of objects: those that --into makes, and those of one question."""

@@ -1,0 +1,284 @@
+"""Objects that are kept in a file of SQLite, each descriptor once, so that the next question is fast.
+
+docs/AUDIT.md describes the tables.
+"""
+import contextlib
+import hashlib
+import os
+import sqlite3
+from typing import Any, Callable, Dict, Iterable, Iterator, List, NamedTuple, Optional, Tuple
+
+from sdtool.audit import files, stopping
+from sdtool.audit.engine import Answered, Engine
+from sdtool.audit.findings import Answer, unknown
+from sdtool.audit.sources.items import UNREADABLE, Item, unreadable
+from sdtool.audit.sources.opening import OpeningFault
+from sdtool.audit.store.scratch import restored, stored
+
+VERSION = 3
+_SCHEMA = """
+CREATE TABLE about(version INTEGER NOT NULL, objects INTEGER NOT NULL, descriptors INTEGER NOT NULL);
+CREATE TABLE sources(id INTEGER PRIMARY KEY, name NOT NULL);
+CREATE TABLE descriptors(id INTEGER PRIMARY KEY, form TEXT NOT NULL, kind TEXT NOT NULL, place TEXT NOT NULL,
+                         text NOT NULL, digest BLOB NOT NULL UNIQUE);
+CREATE TABLE objects(id INTEGER PRIMARY KEY, name NOT NULL, source INTEGER NOT NULL REFERENCES sources,
+                     line INTEGER NOT NULL, descriptor INTEGER REFERENCES descriptors, is_folder INTEGER, reason TEXT,
+                     help TEXT, kind TEXT);
+"""
+_BATCH = 10_000
+_MOST_KNOWN = 500_000  # descriptors whose numbers are kept in memory
+_MOST_ANSWERS = 100_000  # to descriptors
+_COLUMNS = ("objects.name, sources.name, objects.line, descriptors.form, descriptors.text, "
+            "coalesce(descriptors.kind, objects.kind), objects.is_folder, objects.reason, objects.help, "
+            "descriptors.place")
+_FROM = ("objects LEFT JOIN sources ON sources.id = objects.source LEFT JOIN descriptors ON descriptors.id = "
+         "objects.descriptor")
+_IS_NOTED = "objects.help IS NOT NULL AND objects.descriptor IS NOT NULL"
+_ADVICE = "make it again with --into, and copy it whole"
+
+
+def _digest(item: Item) -> bytes:
+    spelled = f"{item.form}\0{item.kind}\0{item.place}\0{item.text}".encode("utf-8", "surrogatepass")
+    return hashlib.blake2b(spelled, digest_size=16).digest()
+
+
+class _Writer:
+    """Fills a new file."""
+
+    def __init__(self, path: str) -> None:
+        self._database = sqlite3.connect(path, isolation_level=None, check_same_thread=False)
+        stopping.close_early(self.close)
+        self._database.executescript("PRAGMA journal_mode = OFF; PRAGMA synchronous = OFF;" + _SCHEMA)
+        self._database.execute("BEGIN")
+        self._objects = 0
+        self._known: Dict[bytes, int] = {}
+        self._sources: Dict[str, int] = {}
+        self._rows: List[Tuple[Any, ...]] = []
+        self._descriptors = 0
+
+    def _descriptor(self, item: Item) -> Optional[int]:
+        if item.form == UNREADABLE:
+            return None
+        digest = _digest(item)
+        number = self._known.get(digest)
+        if number is None:
+            found = self._database.execute("SELECT id FROM descriptors WHERE digest = ?", (digest,)).fetchone()
+            if found:
+                number = found[0]
+            else:
+                self._descriptors += 1
+                number = self._descriptors
+                self._database.execute("INSERT INTO descriptors VALUES (?, ?, ?, ?, ?, ?)",
+                                       (number, item.form, item.kind, item.place, stored(item.text), digest))
+            if len(self._known) >= _MOST_KNOWN:
+                self._known.clear()
+            self._known[digest] = number
+        return number
+
+    def _source(self, name: str) -> int:
+        if name not in self._sources:
+            self._sources[name] = len(self._sources) + 1
+            self._database.execute("INSERT INTO sources VALUES (?, ?)", (self._sources[name], stored(name)))
+        return self._sources[name]
+
+    def add(self, item: Item) -> None:
+        self._objects += 1
+        folder = None if item.is_folder is None else int(item.is_folder)
+        reason = stored(item.text) if item.form == UNREADABLE else None
+        self._rows.append((stored(item.name), self._source(item.source), item.line, self._descriptor(item),
+                           folder, reason, item.help or None, item.kind))
+        if len(self._rows) >= _BATCH:
+            self._flush()
+
+    def _flush(self) -> None:
+        self._database.executemany("INSERT INTO objects VALUES (NULL, ?, ?, ?, ?, ?, ?, ?, ?)", self._rows)
+        self._rows.clear()
+
+    def end(self) -> None:
+        """What says that the file is whole comes last."""
+        self._flush()
+        self._database.execute("CREATE INDEX objects_descriptor ON objects(descriptor)")
+        self._database.execute(f"CREATE INDEX objects_help ON objects(help, source) WHERE {_IS_NOTED}")
+        self._database.execute("INSERT INTO about VALUES (?, ?, ?)", (VERSION, self._objects, self._descriptors))
+        self._database.execute("COMMIT")
+        self.close()
+
+    def close(self) -> None:
+        self._database.close()
+
+
+@contextlib.contextmanager
+def kept(path: Optional[str]) -> Iterator[Callable[[Iterable[Item]], Iterable[Item]]]:
+    """Gives what keeps each object that passes. The file gets its name only when it is whole."""
+    if path is None:
+        yield lambda items: items
+        return
+    with contextlib.ExitStack() as stack:
+        try:
+            part = stack.enter_context(files.unfinished(path))
+            writer = _Writer(part)
+        except (OSError, sqlite3.Error) as error:
+            raise OpeningFault(f"--into {path}: {error}") from error
+        stack.callback(writer.close)
+
+        def keep(items: Iterable[Item]) -> Iterator[Item]:
+            for item in items:
+                writer.add(item)
+                yield item
+
+        yield keep
+        writer.end()
+        _give_name(part, path)
+
+
+def _give_name(part: str, path: str) -> None:
+    """Names a file, unless another run has made one of this name in the meantime."""
+    try:
+        os.link(part, path)
+    except FileExistsError:
+        raise OSError(f"--into {path}: another run has made it, and this one keeps nothing") from None
+    except (OSError, AttributeError, NotImplementedError):
+        os.rename(part, path)  # a file system without links
+
+
+class About(NamedTuple):
+    """What a file says about itself."""
+
+    version: int
+    objects: int
+    descriptors: int
+
+
+class DamagedFault(Exception):
+    """A file isn't what --into made."""
+
+
+def _about(database: sqlite3.Connection, path: str) -> About:
+    try:
+        found = database.execute("SELECT * FROM about").fetchone()
+    except sqlite3.Error as error:
+        raise DamagedFault(f"a database that is damaged, or that --into didn't make: {error}") from error
+    if not found or found[0] != VERSION or len(found) != len(About._fields):
+        is_older = bool(found) and found[0] != VERSION
+        raise DamagedFault("made by another version of sdtool-audit" if is_older else "the database isn't whole")
+    return About(*found)
+
+
+def _opened(path: str) -> sqlite3.Connection:
+    return sqlite3.connect(f"file:{_quoted(path)}?mode=ro", uri=True, isolation_level=None)
+
+
+def _quoted(path: str) -> str:
+    from urllib.parse import quote
+    return quote(os.path.abspath(path).encode("utf-8", "surrogateescape"))
+
+
+def _item(row: Tuple[Any, ...]) -> Item:
+    name, source, line, form, text, kind, folder, reason, advice, place = row
+    if form is None:
+        # An object has a descriptor or a reason.
+        form, text, advice = (UNREADABLE, reason, advice) if reason is not None else \
+            (UNREADABLE, "its descriptor isn't in the database", _ADVICE)
+    return Item(restored(name), "" if source is None else restored(source), line, form, restored(text), kind or "file",
+                advice or "", None if folder is None else bool(folder), place or "")
+
+
+def _lost(path: str, count: int, reason: str) -> Item:
+    """What stands for the objects that a file should have."""
+    return unreadable(f"{path}: the rest, after {count:,} objects", path, 0, reason, _ADVICE)
+
+
+def require_whole(path: str) -> None:
+    """Refuses a file that isn't whole, for a question that can't tell what it lacks."""
+    last = None
+    for last in items(path):
+        pass
+    if last is None or last.form == UNREADABLE and last.name.startswith(f"{path}: the rest"):
+        raise OpeningFault(f"{path}: {last.text if last else 'no objects'}")
+
+
+def items(path: str) -> Iterator[Item]:
+    """The objects of a file, in their order. What is missing of it is an object that can't be read."""
+    count = 0
+    database = _opened(path)
+    try:
+        about = _about(database, path)
+        for row in database.execute(f"SELECT {_COLUMNS} FROM {_FROM} ORDER BY objects.id"):
+            count += 1
+            yield _item(row)
+    except (DamagedFault, sqlite3.Error) as error:
+        yield _lost(path, count, str(error))
+        return
+    finally:
+        database.close()
+    if count != about.objects:
+        yield _lost(path, count, f"the database has {count:,} of its {about.objects:,} objects")
+    elif not count:
+        yield unreadable(path, path, 0, "the database has no objects", _ADVICE)
+
+
+class AnsweredDatabase:
+    """A question that is asked of a file: once for each descriptor, whose objects then have its answer."""
+
+    def __init__(self, path: str, engine: Engine) -> None:
+        self._path = path
+        self._database = _opened(path)
+        self._engine = engine
+        self._counts: Dict[Optional[int], int] = {}
+        self._total = 0
+
+    def is_fit(self) -> bool:
+        """Whether the file is whole, and the answers to all descriptors fit into memory."""
+        try:
+            about = _about(self._database, self._path)
+            if not about.objects or about.descriptors > _MOST_ANSWERS:
+                return False
+            self._counts = dict(self._database.execute("SELECT descriptor, count(*) FROM objects GROUP BY descriptor"))
+            self._total = about.objects
+            known = {number for number, in self._database.execute("SELECT id FROM descriptors")}
+        except (DamagedFault, sqlite3.Error):
+            return False
+        return (sum(self._counts.values()) == about.objects and len(known) == about.descriptors
+                and self._counts.keys() <= known | {None})
+
+    @property
+    def objects(self) -> int:
+        return self._total
+
+    def answered(self, is_listed: Callable[[Answer], bool], count: Callable[[Answer, int], None]) -> Iterator[Answered]:
+        """The objects that are listed, with their answers. The others are counted."""
+        answers = {item.line: answer for item, answer in self._engine.answer(self._descriptors())}
+        counts = self._counts
+        listed = [number for number, answer in answers.items() if is_listed(answer)]
+        is_most = 20 * sum(counts.get(number, 0) for number in (None, *listed)) > sum(counts.values())
+        for number, item in self._objects_of(listed, is_most):
+            counts[number] -= 1
+            yield Answered(item, answers[number] if number is not None else unknown(item.text, item.help))
+        for number, left in counts.items():
+            if left:
+                count(answers[number] if number is not None else unknown("", ""), left)
+
+    def notes(self) -> Iterator[Tuple[str, str, int]]:
+        """What is said of objects that can be read: the text, a source, and of how many."""
+        query = ("SELECT objects.help, sources.name, count(*) FROM objects LEFT JOIN sources ON sources.id = "
+                 f"objects.source WHERE {_IS_NOTED} GROUP BY objects.help, objects.source ORDER BY min(objects.id)")
+        for text, source, count in self._database.execute(query):
+            yield text, "" if source is None else restored(source), count
+
+    def _descriptors(self) -> Iterator[Item]:
+        query = "SELECT id, form, text, kind, place FROM descriptors ORDER BY id"
+        for number, form, text, kind, place in self._database.execute(query):
+            yield Item("", "", number, form, restored(text), kind, place=place)
+
+    def _objects_of(self, descriptors: Iterable[int], is_most: bool) -> Iterator[Tuple[Optional[int], Item]]:
+        """The objects of descriptors and those that can't be read, in their order, each with the number of its
+        descriptor."""
+        self._database.execute("ATTACH '' AS found")
+        self._database.execute("CREATE TABLE found.numbers(id INTEGER PRIMARY KEY)")
+        self._database.executemany("INSERT INTO found.numbers VALUES (?)", ((number,) for number in descriptors))
+        # Few objects are found by the index and sorted. Of many the first come sooner without it, which is what + does.
+        column = "+objects.descriptor" if is_most else "objects.descriptor"
+        query = (f"SELECT {_COLUMNS}, objects.descriptor FROM {_FROM} WHERE {column} IN (SELECT id FROM found.numbers) "
+                 f"OR {column} IS NULL ORDER BY objects.id")
+        for *row, number in self._database.execute(query):
+            yield number, _item(tuple(row))

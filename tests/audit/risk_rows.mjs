@@ -1,0 +1,53 @@
+// Asks the page's desk what stands out in rows of windows/examples.toml, which come as JSON, by each door that a user
+// has. For each row it prints what the page warns of: {paste, link, report}, lists of {rule, who, mask, kind, onlyOf,
+// exceptOf}. A row with an entry of LDIF is pasted as that, and opened by a link that has its class. Another row is
+// pasted as SDDL, with its kind chosen. Each is opened in the report of sdtool-audit that is given, if it has the
+// object. Its argument is the library, sdtool.mjs beside its sdtool.wasm.
+import fs from "node:fs";
+import {pathToFileURL} from "node:url";
+
+const TOP = new URL("../..", import.meta.url);
+const [place] = process.argv.slice(2);
+
+const module = await import(pathToFileURL(place));
+const library = module.library ?? await module.load();
+const {questionOf} = await import(new URL("web/desk.mjs", TOP));
+const {freshState} = await import(new URL("web/state.mjs", TOP));
+const {addressOf, takeAddress} = await import(new URL("web/sharing.mjs", TOP));
+const {Report} = await import(new URL("web/report.mjs", TOP));
+const {rows, report} = JSON.parse(fs.readFileSync(0, "utf8"));
+
+function told(state) {
+    const {warnings, asksKind, fault} = questionOf(library, "look", {...freshState(), ...state});
+    return warnings === undefined ?
+        [{rule: `unknown: ${asksKind ?? fault?.number}`}] :
+        warnings.split("\n").filter(Boolean).map((line) => JSON.parse(line)).filter(({rule}) => rule);
+}
+
+function linked(state) {
+    const taken = freshState();
+    const unread = takeAddress(taken, addressOf({...freshState(), ...state}, freshState()));
+    return unread.length ? [{rule: `unread: ${unread}`}] : told(taken);
+}
+
+const chosen = ({kind, sddl, domain}) => ({text: sddl, kind, isKindChosen: true, domain});
+
+const ofReport = ({descriptor, form, kind, isFolder, classes, name}) => told({
+    text: descriptor,
+    form,
+    kind: kind === "file" && isFolder ? "folder" : kind,
+    isKindChosen: true,
+    classes: classes.join(","),
+    name
+});
+
+const read = new Report(report);
+await read.read(() => {});
+const objects = new Map(read.objects.map((one) => read.object(one)).map((object) => [object.name, object]));
+
+process.stdout.write(JSON.stringify(rows.map((row) => ({
+    paste: told(row.entry ? {text: row.entry, domain: row.domain} : chosen(row)),
+    link: linked({...chosen(row), classes: row.place}),
+    ...(objects.has(row.name) ? {report: ofReport(objects.get(row.name))} : {})
+}))));
+module.end?.();

@@ -1,0 +1,1069 @@
+"""What may go wrong around a run of `python3 -m sdtool.distributed`, each by itself, on clusters of real processes:
+folders that cannot be listed, files that are no inputs, files of others at the places of answers, workers that fail,
+hang, die or are others, outputs that vanish, words that are wrong. After each run the test compares what was listed
+with what was answered: an input has the answers of the program, or standard error names it and the status is 3.
+tests/machines/distributed.py says what it needs.
+"""
+import bz2
+import concurrent.futures
+import gzip
+import json
+import lzma
+import os
+import pathlib
+import shutil
+import signal
+import subprocess
+import tempfile
+import time
+
+import dask_cluster
+import distributed as runs
+import preload
+from dask_cluster import end, wait_for
+from distributed import has_parts, said_by, wait_until
+
+TOP = pathlib.Path(__file__).resolve().parents[2]
+LINE = runs.LINE
+SLEEPS, KILLS, FAILS, LARGE = b"SLEEP\n", b"KILL\n", b"FAIL\n", b"0" * 300_000 + b"\n"
+SOON = ["--slowest", "500000"]  # a task that hangs is given up after 30 seconds
+NOBODY = ["setpriv", "--reuid=65534", "--regid=65534", "--clear-groups"]
+# A worker whose library hangs, kills its process, or fails at a line; one that waits for `go` behind its first answer;
+# and one that waits until another has failed.
+HANGS = "if b'SLEEP' in data: open({folder!r} + '/hung', 'w').close(); time.sleep(1000)"
+DIES = "if b'KILL' in data: os.kill(os.getpid(), signal.SIGKILL)"
+DIES_ONCE = "if b'KILL' in data: open({folder!r} + '/failed', 'w').close(); os.kill(os.getpid(), signal.SIGKILL)"
+REFUSES = "if b'FAIL' in data: open({folder!r} + '/failed', 'w').close(); raise ValueError('this worker fails')"
+WAITS = """number = next(numbers)
+        while number and not os.path.exists({go!r}): time.sleep(0.02)"""
+WAITS_FOR_FAILURE = "while not os.path.exists({folder!r} + '/failed'): time.sleep(0.02)"
+# Workers that tell of their answers: at once, before they hold them until `go`, and but for a first read that fails.
+TELLS = "open({log!r}, 'a').write(f'{{os.getpid()}}\\n'); time.sleep(0.1)"
+HOLDS = f"""{TELLS}
+        while not os.path.exists({{go!r}}): time.sleep(0.02)"""
+FAILS_ONCE = f"""if not next(numbers): raise OSError('a read that failed')
+        {TELLS}"""
+# A worker that pauses behind its first answer.
+PAUSES = """if not next(numbers):
+            from distributed import get_worker
+            from distributed.core import Status
+            get_worker().loop.add_callback(setattr, get_worker(), 'status', Status.paused)
+            time.sleep(0.3)"""
+# Behind the stub of a worker: it is stopped while it looks at the parts of an input, where the file `stop` says so.
+STOPS = """
+from fsspec.implementations.local import LocalFileSystem
+right_info = LocalFileSystem.info
+def info(self, path, **named):
+    found = right_info(self, path, **named)
+    if isinstance(path, os.DirEntry) and path.name == 'part-000010' and os.path.exists({folder!r} + '/stop'):
+        os.rename({folder!r} + '/stop', {folder!r} + '/stopped')
+        os.kill(os.getpid(), signal.SIGSTOP)
+    return found
+LocalFileSystem.info = info
+"""
+# Behind the stub of a driver: two of them own the output at once, the one that has LATER half a second later. Both then
+# wait.
+TOGETHER = """
+right_replace = os.replace
+def replace(old, new):
+    if not str(new).endswith('/_sdtool/run.json'):
+        return right_replace(old, new)
+    open({folder!r} + '/driver' + os.environ['LATER'], 'w').close()
+    while not all(os.path.exists({folder!r} + '/driver' + which) for which in '01'): time.sleep(0.02)
+    time.sleep(int(os.environ['LATER']) / 2)
+    right_replace(old, new)
+    time.sleep(1)
+os.replace = replace
+"""
+# Makes and removes files in the folder d.
+COMES_AND_GOES = """
+import os
+while True:
+    for number in range(100): open(f'd/comes and goes {os.getpid()} {number}', 'w').close()
+    for number in range(100): os.remove(f'd/comes and goes {os.getpid()} {number}')
+"""
+# A server of the files in a folder that says nothing of their versions.
+WITHOUT_VERSIONS = """
+import sys
+from aiohttp import web
+async def answer(request):
+    with open(sys.argv[1] + request.path, 'rb') as file: data = file.read()
+    span = request.http_range
+    if span.start is None: return web.Response(body=data)
+    end = min(span.stop, len(data))
+    told = {'Content-Range': f'bytes {span.start}-{end - 1}/{len(data)}'}
+    return web.Response(status=206, body=data[span.start:end], headers=told)
+served = web.Application()
+served.router.add_get('/{name}', answer)
+web.run_app(served, host='127.0.0.1', port=int(sys.argv[2]))
+"""
+# Behind the stub of a worker: it is fit only when another one has failed, and a while has passed.
+LATE = """
+right_digest = _library.digest
+def digest():
+    while not os.path.exists({failed!r}): time.sleep(0.02)
+    time.sleep(2)
+    return right_digest()
+_library.digest = digest
+"""
+
+
+class Place(runs.Place):
+    def tree(self, files):
+        for name, data in files.items():
+            self.write(name, data)
+
+    def patched(self, name, body):
+        runs.STUBS[name] = body
+        return self.stub(name)
+
+    def behind(self, name, text):
+        environment = self.patched(name, "pass")
+        with open(f"{environment['PYTHONPATH']}/sdtool/__init__.py", "a") as file:
+            file.write(text.format(folder=str(self.folder), failed=str(self.folder / "failed")))
+        return environment
+
+    def cluster(self, *environments):
+        _, address = self.start_scheduler()
+        workers = [self.start_worker(address, environment) for environment in environments]
+        self.wait_for_workers(address, len(workers))
+        return address, workers
+
+
+def judge(count, place, what, got, out, answered, named=(), status=None, answers=None, words=("convert",)):
+    """Whether each input that is answered has the program's answers, each other one is named, and the status says so.
+    answered has the names of answers and the files that they are of."""
+    answers = runs.answers_in(out) if answers is None else answers
+    wanted = {name: place.wanted(list(words), file) for name, file in answered.items()}
+    if status is None:
+        status = 3 if named else max([0, *(each[1] for each in wanted.values())])
+    is_right = (answers == {name: each[0] for name, each in wanted.items()}
+                and "Traceback" not in got.stderr + got.stdout)
+    is_named = all(any(name in line and "has no answers" in line for line in got.stderr.splitlines()) for name in named)
+    is_told = all(f"{place.folder}/{file}" in got.stdout for file in answered.values())
+    count.add(is_right and is_named and is_told and got.status == status,
+              f"{what}: answers {sorted(answers)}, {sorted(answered)} are wanted, named {list(named)}, status "
+              f"{status}: {got}")
+
+
+# Inputs.
+
+def test_no_inputs(count, place):
+    """A folder or a pattern with things that are no inputs: each is named, and the others are answered."""
+    place.tree({"d/a": LINE * 3, "d/sub/b": LINE * 2, "d/log": LINE, "other/x": LINE, "other/deep/y": LINE})
+    (place.folder / "d/log.gz").write_bytes(gzip.compress(LINE))
+    os.mkfifo(place.folder / "d/fifo")
+    os.symlink("nowhere", place.folder / "d/dangling")
+    os.symlink("../other", place.folder / "d/linked")
+    os.symlink("../other/x", place.folder / "d/linked file")
+    right = {"a": "d/a", "sub/b": "d/sub/b", "log": "d/log", "linked file": "d/linked file"}
+    out = place.out()
+    got = place.run(out, ["convert"], ["d"])
+    judge(count, place, "a folder", got, out, right, ["d/log.gz", "d/fifo", "d/dangling", "d/linked "])
+    out = place.out()
+    got = place.run(out, ["convert"], ["d/*"])
+    named = ["d/sub has", "d/log.gz", "d/fifo", "d/dangling", "d/linked has"]
+    judge(count, place, "a pattern", got, out, {name: file for name, file in right.items() if "/" not in name}, named)
+    out = place.out()
+    got = place.run(out, ["convert"], ["d/**/b", "other/[x]"])
+    judge(count, place, "a pattern with folders", got, out, {"b": "d/sub/b", "x": "other/x"})
+    out = place.out()
+    got = place.run(out, ["convert"], ["other/**/**/y"])
+    judge(count, place, "a pattern that leads to a file in two ways", got, out, {"y": "other/deep/y"})
+    got = place.run(place.out(), ["convert"], ["d/dangling"])
+    count.add(got.status == 2 and "d/dangling is a link that leads nowhere" in got.stderr, f"a dangling link: {got}")
+
+
+def test_files_that_go(count, place):
+    """A folder in which files come and go while it is listed: what stays has answers."""
+    right = {name: f"d/{name}" for name in "abc"}
+    place.tree({file: LINE * 3 for file in right.values()})
+    others = [place.start([place.python, "-c", COMES_AND_GOES]) for _ in range(2)]
+    for given in ["d"], ["d"], ["d/*"]:
+        out = place.out()
+        got = place.run(out, ["convert"], given)
+        answers = {name: data for name, data in runs.answers_in(out).items() if "comes and goes" not in name}
+        named = [line for line in got.stderr.splitlines() if "has no answers" in line and "comes and goes" not in line]
+        judge(count, place, f"files that go, {given}", got, out, right, status=got.status, answers=answers)
+        count.add(got.status in (0, 3) and not named, f"files that go, {given}: {named}: {got}")
+    for other in others:
+        end(other)
+
+
+def test_without_versions(count, place):
+    """An input of which its server tells no version is answered, but not if it is replaced by one of the same size."""
+    place.tree({"served/x": LINE * 300, "served/y": LINE * 300, "served/small": LINE, "z": LINE * 300})
+    server = runs.Server("http://127.0.0.1:%d", [place.python, "-c", WITHOUT_VERSIONS, place.folder / "served"],
+                         *runs.HTTP_NEEDS)
+    url = runs.started_server(place, server)
+    if url is None:
+        print(f"skipped: no HTTP server (Debian: {server.package})")
+        return
+    waits = place.patched("waits for http", WAITS)
+    for options in [], ["--parts"]:
+        for is_replaced in False, True:
+            address, _ = place.cluster(waits)
+            place.hold()
+            out = place.out()
+            given = [f"{url}/{name}" for name in ("x", "y", "small")]
+            child = place.start_run(out, ["convert"], given, ["--scheduler", address, "--block", "3000", *options])
+            wait_until(child, lambda: has_parts(out / ("x" if options else "_sdtool/inputs/x")), "a part")
+            if is_replaced:
+                place.write("served/x", LINE.replace(b"12", b"13", 1) * 300)
+            place.go()
+            got = runs.ended(child)
+            answers = {}
+            for name, data in sorted(runs.answers_in(out).items()):
+                whole = name.split("/")[0]
+                answers[whole] = answers.get(whole, b"") + data
+            wanted = {name: place.wanted(["convert"], f"served/{name}")[0] for name in ("x", "y", "small")}
+            what = f"without a version, {options}, {'replaced' if is_replaced else 'the same'}"
+            if is_replaced:
+                is_named = f"{url}/x has no answers: OSError" in got.stderr and "has changed" in got.stderr
+                count.add(got.status == 3 and is_named and f" {url}/x" not in got.stdout, f"{what}: {got}")
+                wanted.pop("x")
+                answers.pop("x", None)
+            else:
+                count.add(got.status == 0, f"{what}: {got}")
+            count.add(answers == wanted, f"{what}: {sorted(answers)}: {got}")
+            place.write("served/x", LINE * 300)
+
+
+def test_closed_folders(count, place):
+    place.tree({"d/a": LINE, "d/closed/b": LINE, "d/open/b": LINE, "d/run/b": LINE, "d/run/_sdtool/own": LINE,
+                "d/_sdtool/own": LINE})
+    closed = [place.folder / name for name in ("d/closed", "d/run/_sdtool", "d/_sdtool")]
+    for folder in closed:
+        os.chmod(folder, 0)
+    for folder in place.folder, *place.folder.parents:
+        if os.stat(folder).st_uid == os.getuid() and str(folder).startswith(tempfile.gettempdir() + "/"):
+            os.chmod(folder, 0o777)
+    for given, right, named in ((["d"], {"a": "d/a", "open/b": "d/open/b"}, ["d/closed", "d/run", "d/_sdtool"]),
+                                (["d/[co]*/b"], {"b": "d/open/b"}, ["d/closed"])):
+        out = place.out()
+        out.mkdir()
+        os.chmod(out, 0o777)
+        got = place.run(out, ["convert"], given, through=NOBODY if os.getuid() == 0 else ())
+        judge(count, place, f"closed folders, {given}", got, out, right, named)
+    for folder in closed:
+        os.chmod(folder, 0o777)
+
+
+def test_names_of_runs(count, place):
+    """A user's own files with names as runs have them, and the outputs of earlier runs."""
+    place.tree({"d/_sdtool.json": LINE, "d/_sdtool-part-000001.json": LINE * 2, "d/_sdtool/own": LINE, "d/a": LINE * 3})
+    for options in [], ["--parts"]:
+        out = place.out()
+        got = place.run(out, ["convert"], ["d"], options)
+        named = "d/_sdtool/own has no answers" in got.stderr and got.stdout.count("lines") == 3
+        count.add(got.status == 3 and named, f"a user's files, {options}: {got}")
+    out = place.out()
+    place.run(out, ["convert"], ["d/a"])
+    first, second = place.folder / "tree/earlier", place.out()
+    place.tree({"tree/b": LINE})
+    got = place.run(first, ["convert"], ["d/a"])
+    got = place.run(second, ["convert"], ["tree"])
+    judge(count, place, "an earlier output below", got, second, {"b": "tree/b"}, ["tree/earlier"])
+    place.tree({"tree/deep/a": LINE * 2})
+    for pattern, right in ("tree/**", {"b": "tree/b", "a": "tree/deep/a"}), ("tree/*/a", {"a": "tree/deep/a"}):
+        out = place.out()
+        got = place.run(out, ["convert"], [pattern])
+        judge(count, place, f"an earlier output that {pattern} leads to", got, out, right, ["tree/earlier"])
+    shutil.rmtree(place.folder / "tree/deep")
+    got = place.run(place.out(), ["convert", "--to", "hex"], [first])
+    count.add(got.status == 1 and got.stdout.count("lines") == 1, f"an earlier output as input: {got}")
+    for pattern in "*", "**":
+        got = place.run(place.out(), ["convert", "--to", "hex"], [f"{first}/{pattern}"])
+        count.add(got.status == 1 and got.stdout.count("lines") == 1,
+                  f"what is in an earlier output, by the pattern {pattern}: {got}")
+    os.symlink("tree/sub", place.folder / "outer")
+    (place.folder / "tree/sub").mkdir()
+    got = place.run(place.folder / "outer", ["convert"], ["tree"])
+    count.add(got.status == 2 and "is in the input tree" in got.stderr and not os.listdir(place.folder / "tree/sub"),
+              f"--out behind a link inside the input: {got}")
+    (place.folder / "only/_sdtool").mkdir(parents=True)
+    shutil.copy(first / "_sdtool/run.json", place.folder / "only/_sdtool/run.json")
+    got = place.run(place.out(), ["convert"], ["only"])
+    count.add(got.status == 2 and "no regular file but those of runs" in got.stderr, f"records alone: {got}")
+    got = place.run(place.out(), ["convert"], ["/proc/version"])
+    count.add(got.status == 2 and "does not tell its size" in got.stderr, f"a file without a size: {got}")
+
+
+def test_packed(count, place):
+    """Compressed files: what they are, and all that is in them."""
+    plain = LINE * 500 + b"zz\n"
+    place.write("plain", plain)
+    two = {"gz": gzip.compress(plain[:99]) + gzip.compress(plain[99:]) + b"\0" * 512,
+           "bz2": bz2.compress(plain[:99]) + bz2.compress(plain[99:]),
+           "xz": lzma.compress(plain[:99]) + b"\0" * 8 + lzma.compress(plain[99:])}
+    place.tree({f"good/{kind}.{kind}": data for kind, data in two.items()})
+    place.tree({"good/no suffix": two["gz"], "good/upper.GZ": two["gz"]})
+    out = place.out()
+    got = place.run(out, ["convert"], ["good"])
+    right = place.wanted(["convert"], "plain")[0]
+    is_right = (got.status == 1 and runs.answers_in(out) == dict.fromkeys(["gz", "bz2", "xz", "no suffix",
+                                                                           "upper"], right))
+    count.add(is_right, f"streams one behind the other: {sorted(runs.answers_in(out))} {got}")
+    bad = {f"{kind} {what}.{kind}": data for kind, whole in two.items() for what, data in {
+        "with rubbish behind": whole + b"rubbish", "with a later stream that is cut": whole + whole[:20],
+        "with a later stream that is damaged": whole.rstrip(b"\0") + whole[:20] + b"\xff\0\xff" + whole[23:],
+        "empty": b"", "no such file": plain}.items()}
+    place.tree({f"bad/{name}": data for name, data in bad.items()})
+    place.tree({"bad/other.tgz": gzip.compress(plain), "bad/a.tar": b"x" * 300, "bad/zip": b"PK\3\4" + plain,
+                "bad/seven": b"7z\xbc\xaf\x27\x1c" + plain,
+                "bad/tar": b"\0" * 257 + b"ustar" + plain, "bad/good": LINE})
+    out = place.out()
+    got = place.run(out, ["convert"], ["bad"], ["--retries", "0"])
+    named = [f"bad/{name}" for name in [*bad, "other.tgz", "a.tar", "zip", "seven", "tar"]]
+    judge(count, place, "damaged files", got, out, {"good": "bad/good"}, named)
+    place.write("frame.zst", b"\x28\xb5\x2f\xfd" + plain)
+    place.write("skipped", b"\x50\x2aM\x18\4\0\0\0data\x28\xb5\x2f\xfd" + plain)  # RFC 8878, 3.1.2
+    place.write("hidden/zstandard/__init__.py", b"raise ImportError('not here')")
+    out = place.out()
+    python = {"PYTHONPATH": f"{place.folder}/hidden:{place.modules}"}
+    got = place.run(out, ["convert"], ["frame.zst", "skipped", "plain"], ["--retries", "0"], python)
+    judge(count, place, "zstd without its package", got, out, {"plain": "plain"}, ["frame.zst", "skipped"])
+    count.add("python3-zstandard" in got.stderr, f"the package is named: {got}")
+
+
+# Files of others.
+
+def test_parts(count, place):
+    """Files that a user put beside parts, and parts that change."""
+    place.write("x", LINE * 100)
+    out = place.out()
+    place.run(out, ["convert"], ["x"], ["--parts"])
+    own = ["counterpart-9.txt", "part-000077.sorted", "my part-000001", "part-1"]
+    for name in own:
+        (out / "x" / name).write_text("mine")
+    part = out / "x/part-000002"
+    whole = part.read_bytes()
+    part.write_bytes(whole[:-7])
+    place.write("y", LINE)
+    got = place.run(out, ["convert"], ["x"], ["--parts"])
+    there = sorted(path.name for path in (out / "x").iterdir())
+    count.add(got.status == 0 and part.read_bytes() == whole and set(own) <= set(there), f"parts again: {there} {got}")
+    for options in ["--parts"], []:
+        place.hold()
+        out = place.out()
+        child = place.start_run(out, ["convert"], ["x"], options, place.patched("waits", WAITS))
+        parts = out / "x" if options else out / "_sdtool/inputs/x"
+        wait_until(child, lambda: list(parts.glob("_sdtool-part-*.json")), "a part")
+        for evidence in parts.glob("_sdtool-part-*.json"):
+            (parts / evidence.stem.partition("-")[2]).write_bytes(whole[:5])
+        place.go()
+        got = runs.ended(child)
+        answers = runs.answers_in(out)
+        joined = b"".join(answers[name] for name in sorted(answers))
+        count.add(got.status == 0 and joined == place.wanted(["convert"], "x")[0],
+                  f"a part that is cut, {options}: {got}")
+
+
+def test_files_of_others(count, place):
+    place.tree({"one/x": LINE, "two/x": LINE * 2, "many/x": LINE * 3, "many/y": LINE * 4})
+    out = place.out()
+    place.run(out, ["convert"], ["one/x"])
+    before = runs.answers_in(out)
+    got = place.run(out, ["convert"], ["two/x"])
+    count.add(got.status == 2 and "one/x" in got.stderr and runs.answers_in(out) == before,
+              f"answers of another input: {got}")
+    got = place.run(out, ["convert"], ["many"])
+    is_kept = runs.answers_in(out)["x"] == before["x"] and "y" in runs.answers_in(out)
+    count.add(got.status == 3 and is_kept and "many/x has no answers" in got.stderr,
+              f"a folder with one such input: {got}")
+    outside = place.folder / "outside"
+    outside.mkdir()
+    (outside / "part-000000").write_text("mine")
+    out = place.out()
+    (out / "_sdtool/inputs").mkdir(parents=True)
+    os.symlink(outside, out / "_sdtool/inputs/x")
+    got = place.run(out, ["convert"], ["one/x"])
+    count.add(got.status == 2 and "behind a link" in got.stderr and os.listdir(outside) == ["part-000000"],
+              f"a link below --out: {got}")
+    out = place.out()
+    out.mkdir()
+    os.symlink("nowhere", out / "x")
+    got = place.run(out, ["convert"], ["one/x"])
+    count.add(got.status == 2 and os.path.islink(out / "x"), f"a dangling link at the place of answers: {got}")
+    for first, second in ([], ["--parts"]), (["--parts"], []):
+        out = place.out()
+        place.run(out, ["convert"], ["one/x"], first)
+        got = place.run(out, ["convert"], ["one/x"], second)
+        count.add(got.status == 2 and "a run wrote with" in got.stderr, f"{first} and then {second}: {got}")
+    out = place.out()
+    (out / "x").parent.mkdir()
+    (out / "x").write_text("mine")
+    got = place.run(out, ["convert"], ["one/x"], ["--parts"])
+    count.add(got.status == 2 and (out / "x").read_text() == "mine", f"--parts over a file: {got}")
+    place.tree({"d/sub/x": LINE, "d/y": LINE})
+    for options in [], ["--parts"]:
+        out = place.out()
+        out.mkdir()
+        (out / "sub").write_text("mine")
+        got = place.run(out, ["convert"], ["d"], options)
+        (out / "sub").unlink()
+        answers = {name.split("/")[0]: data for name, data in runs.answers_in(out).items()}
+        judge(count, place, f"a file where a folder of answers has to be, {options}", got, out, {"y": "d/y"},
+              ["d/sub/x"], answers=answers)
+
+
+def test_stopped_in_tidy(count, place):
+    """A worker that is stopped while it removes parts, and goes on behind a later run, removes none of that run."""
+    place.write("x", LINE * 190)
+    address, workers = place.cluster(place.behind("stops in tidy", STOPS))
+    out, whole = place.out(), place.wanted(["convert"], "x")[0]
+    place.run(out, ["convert"], ["x"], ["--parts"])
+    (place.folder / "stop").touch()
+    child = place.start_run(out, ["convert"], ["x"], ["--parts", "--block", "4000", "--scheduler", address])
+    wait_until(child, (place.folder / "stopped").exists, "a worker that is stopped")
+    count.add(child.poll() is None, "the run ended before its worker was stopped")
+    end(child)
+    got = place.run(out, ["convert"], ["x"], ["--parts"])
+    os.kill(workers[0].pid, signal.SIGCONT)
+    time.sleep(3)
+    answers = runs.answers_in(out)
+    joined = b"".join(answers[name] for name in sorted(answers))
+    count.add(got.status == 0 and joined == whole and len(answers) == 13,
+              f"a worker that was stopped: {sorted(answers)} {got}")
+
+
+def test_two_at_once(count, place):
+    """Of two drivers that begin at once, one ends with 3 and the other one answers all."""
+    place.write("x", LINE * 100)
+    together = place.behind("two at once", TOGETHER)
+    for options in [], ["--parts"]:
+        for which in "01":
+            (place.folder / f"driver{which}").unlink(missing_ok=True)
+        out = place.out()
+        both = [place.start_run(out, ["convert"], ["x"], ["--wait", "60", *options], {**together, "LATER": later})
+                for later in "01"]
+        ends = [runs.ended(child) for child in both]
+        answers = runs.answers_in(out)
+        joined = b"".join(answers[name] for name in sorted(answers))
+        count.add([got.status for got in ends] == [3, 0] and joined == place.wanted(["convert"], "x")[0],
+                  f"two at once, {options}: {sorted(answers)}: {ends[0]} and {ends[1]}")
+        count.add("another run has taken it over" in ends[0].stderr, f"the first of two at once, {options}: {ends[0]}")
+
+
+def test_file_that_comes(count, place):
+    """A file that somebody puts at the place of answers while they are made stays there."""
+    place.write("x", LINE * 300)
+    address, _ = place.cluster(place.patched("waits", WAITS))
+    place.hold()
+    out = place.out()
+    child = place.start_run(out, ["convert"], ["x"], ["--scheduler", address, "--block", "1500", "--retries", "0"])
+    wait_until(child, lambda: has_parts(out / "_sdtool/inputs/x"), "a part")
+    (out / "x").write_text("mine")
+    place.go()
+    judge(count, place, "a file that comes", runs.ended(child), out, {}, ["x"], answers={})
+    count.add((out / "x").read_text() == "mine", "the file that came is kept")
+
+
+def test_records(count, place):
+    """Records that somebody has changed, and ones of another type."""
+    place.write("x", LINE * 40 + b"zz\n")
+    right = place.wanted(["convert"], "x")[0]
+    out = place.out()
+    place.run(out, ["convert"], ["x"])
+    manifest = out / "_sdtool/inputs/x/_sdtool.json"
+    record = json.loads(manifest.read_bytes())
+    record["errors"] = 0
+    record["blocks"] = [{**block, "errors": 0} for block in record["blocks"]]
+    manifest.write_text(json.dumps(record))
+    got = place.run(out, ["convert"], ["x"])
+    count.add(got.status == 1 and " 1 errors" in got.stdout, f"counts that were changed: {got}")
+    for what in b"null", b"5", b"[1]", b'"x"', b"{}", b'{"blocks": 5}', b'{"blocks": [5]}', b"[" * 100_000, b"\xff":
+        manifest.write_bytes(what)
+        if b"blocks" not in what:
+            (out / "x").unlink()
+        got = place.run(out, ["convert"], ["x"])
+        count.add(got.status == 1 and runs.answers_in(out) == {"x": right} and "Traceback" not in got.stderr,
+                  f"a manifest {what[:20]}: {got}")
+        (out / "_sdtool/run.json").write_bytes(what)
+        got = place.run(out, ["convert"], ["x"])
+        count.add(got.status == 1 and runs.answers_in(out) == {"x": right} and "Traceback" not in got.stderr,
+                  f"a run.json {what[:20]}: {got}")
+    (out / "_sdtool/run.json").unlink()
+    os.mkfifo(out / "_sdtool/run.json")
+    got = place.run(out, ["convert"], ["x"])
+    count.add(got.status == 1 and runs.answers_in(out) == {"x": right}, f"a FIFO as run.json: {got}")
+    out = place.out()
+    got = place.run(out, ["convert"], ["x"], ["--parts"])
+    evidence = out / "x/_sdtool-part-000001.json"
+    for what in b"null", b"5", b"[1]", b'{"digest": 5}':
+        evidence.write_bytes(what)
+        got = place.run(out, ["convert"], ["x"], ["--parts"])
+        answers = runs.answers_in(out)
+        count.add(got.status == 1 and b"".join(answers[name] for name in sorted(answers)) == right,
+                  f"evidence {what}: {got}")
+
+
+# Workers.
+
+def test_other_modules(count, place):
+    """A worker with the same library and other files of the module, or of this tool."""
+    place.write("x", LINE * 2000)
+    for changed in "_runs.py", "distributed/packed.py":
+        package = place.folder / f"changed {os.path.basename(changed)}"
+        shutil.copytree(place.modules / "sdtool", package / "sdtool", ignore=shutil.ignore_patterns("__pycache__"))
+        with open(package / "sdtool" / changed, "a") as file:
+            file.write("\n# changed\n")
+        address, _ = place.cluster({"PYTHONPATH": str(package)}, place.stub("slow"))
+        place.hold()
+        out = place.out()
+        child = place.start_run(out, ["convert"], ["x"], ["--scheduler", address])
+        wait_until(child, lambda: "module is not the driver's" in said_by(child), "the worker with another module")
+        place.go()
+        got = runs.ended(child)
+        judge(count, place, f"another {changed}", got, out, {"x": "x"})
+        count.add(got.stderr.count("module is not the driver's") == 1, f"another {changed}: {got}")
+    shutil.rmtree(package / "sdtool/distributed")
+    place.write("x", LINE * 200)
+    address, _ = place.cluster({"PYTHONPATH": str(package)}, {})
+    out = place.out()
+    judge(count, place, "a module without this tool", place.run(out, ["convert"], ["x"], ["--scheduler", address]),
+          out, {"x": "x"})
+
+
+def test_failing_worker(count, place):
+    """One worker fails at everything, at once. It costs no input, whatever the retries, and also where the other one is
+    fit only later."""
+    place.tree({"d/x": FAILS + LINE * 40, "d/y": LINE * 20, "d/z": FAILS + LINE})
+    for what, other in ("fit", place.patched("waits for failure", WAITS_FOR_FAILURE)), ("late",
+                                                                                        place.behind("late", LATE)):
+        address, _ = place.cluster(place.patched("refuses", REFUSES), other)
+        for retries in "0", "3":
+            (place.folder / "failed").unlink(missing_ok=True)
+            out = place.out()
+            got = place.run(out, ["convert"], ["d"], ["--scheduler", address, "--retries", retries])
+            judge(count, place, f"a worker that fails, {what}, --retries {retries}", got, out,
+                  {name: f"d/{name}" for name in "xyz"})
+            count.add(got.stderr.count("is left out: ValueError: this worker fails") == 1,
+                      f"the worker is named, {what}: {got}")
+
+
+def test_failed_read(count, place):
+    """A worker at which one read fails does other blocks of the same input."""
+    place.write("x", LINE * 1000)
+    address, _ = place.cluster(place.patched("fails once", FAILS_ONCE), place.patched("sleeps", "time.sleep(0.1)"))
+    out = place.out()
+    got = place.run(out, ["convert"], ["x"], ["--scheduler", address])
+    judge(count, place, "a read that fails", got, out, {"x": "x"})
+    log = place.folder / "fails once.log"
+    count.add(log.exists() and len(log.read_text().split()) > 3, f"the worker is not out for good: {got}")
+
+
+def test_retired(count, place):
+    """Workers that are retired while they do a task did not die of it."""
+    place.write("x", LINE * 10)
+    holds, log = place.patched("holds", HOLDS), place.folder / "holds.log"
+    address, workers = place.cluster(holds)
+    place.hold()
+    out = place.out()
+    child = place.start_run(out, ["convert"], ["x"], ["--scheduler", address, "--retries", "0"])
+
+    def has_begun(worker):
+        return log.exists() and str(worker.pid) in log.read_text().split()
+
+    for _ in range(3):
+        wait_until(child, lambda: has_begun(workers[-1]), "a task of the worker")
+        workers.append(place.start_worker(address, holds))
+        place.wait_for_workers(address, 2)
+        place.asked(address,
+                    "import os\nclient.retire_workers([address for address, pid in client.run(os.getpid).items() if "
+                    f"pid == {workers[-2].pid}])")
+    wait_until(child, lambda: has_begun(workers[-1]), "a task of the last worker")
+    place.go()
+    got = runs.ended(child)
+    judge(count, place, "workers that are retired", got, out, {"x": "x"})
+
+
+def test_scheduler_of_dask(count, place):
+    """Without --scheduler, a scheduler that Dask is told of by its variable."""
+    place.write("x", LINE * 100)
+    address, _ = place.cluster(place.patched("tells", TELLS))
+    out = place.out()
+    got = place.run(out, ["convert"], ["x"], environment={"DASK_SCHEDULER_ADDRESS": address})
+    judge(count, place, "DASK_SCHEDULER_ADDRESS", got, out, {"x": "x"})
+    count.add((place.folder / "tells.log").exists(), f"its workers do the tasks: {got}")
+
+
+# What a driver does for an input of many parts, without a cluster: blocks that are answered, compared and put together.
+PARTS = """
+import argparse, time
+from sdtool.distributed.crew import Crew
+from sdtool.distributed.work import Given
+
+def seconds(blocks):
+    given = Given(None, "/x", None, "/out/x", "/out/x", {"size": blocks, "ino": 1})
+    wanted = argparse.Namespace(block=1, retries=0, wait=60, slowest=1)
+    made, methods = Crew(argparse.Namespace(is_parts=True), [given], wanted, print), []
+    made.begin(made.jobs[0])
+    began = time.process_time()
+    while made.fresh:
+        task = made.fresh.popleft()
+        methods.append(task.method)
+        made.finished(task, {"bytes": 1})
+    assert methods == ["answer"] * blocks + ["compare"] * blocks + ["finish"], methods[-5:]
+    return time.process_time() - began
+
+print(*(min(seconds(blocks) for _ in range(5)) for blocks in (8000, 16000)))
+"""
+
+
+def test_many_parts(count, place):
+    """Twice as many parts take twice as long."""
+    got = runs.ended(place.start([place.python, "-c", PARTS], stdout=subprocess.PIPE, stderr=subprocess.PIPE))
+    one, two = map(float, got.stdout.split() or (0, 1))
+    count.add(0 < two <= 2.6 * one, f"many parts, {one:.3f} s and {two:.3f} s for twice as many: {got}")
+
+
+def test_killed_worker(count, place):
+    """A worker that is killed at its first input costs none, whatever the retries."""
+    place.tree({"d/x": KILLS + LINE * 40, "d/y": LINE * 20, "d/z": KILLS + LINE})
+    address, _ = place.cluster(place.patched("dies once", DIES_ONCE),
+                               place.patched("waits for failure", WAITS_FOR_FAILURE))
+    out = place.out()
+    got = place.run(out, ["convert"], ["d"], ["--scheduler", address, "--retries", "0"])
+    judge(count, place, "a worker that is killed", got, out, {name: f"d/{name}" for name in "xyz"})
+
+
+# Who may still do a task of which one worker has said that it failed, without a cluster: so it is the same each time.
+HOPES = """
+import argparse, time
+from sdtool.distributed.crew import Crew, Sent, Task, Worker, see
+from sdtool.distributed.work import Given
+
+class Future:
+    def release(self): pass
+
+def crew(retries, **others):
+    # A crew of the worker `one` and others, and a task of an input.
+    given = Given(None, "/x", None, "/out/x", "/out/_sdtool/inputs/x", {"size": 1})
+    given.__class__.url = "x"
+    made = Crew(None, [given], argparse.Namespace(block=9, retries=retries, wait=60, slowest=1), lambda line: None)
+    made.workers = {"one": Worker("one", is_fit=True), **{name: Worker(name, **has) for name, has in others.items()}}
+    return made, Task(made.jobs[0], "answer_whole", (), 1)
+
+def is_open(made):
+    return made.jobs[0].came is None
+
+def failed(made, task, name="one"):
+    made.fail(task, made.workers[name], "it failed")
+    return is_open(made)
+
+def has(made, task, name, *more):
+    worker = made.workers[name]
+    worker.tasks["key"] = Sent(Future(), [task, *more], 0, 1)
+    return worker
+
+FIT, LEFT_OUT = {"is_fit": True}, {"unfit_at": time.monotonic()}
+time.sleep(0.01)
+told = {
+    "nobody else": failed(*crew(0)),
+    "nobody else, a retry": failed(*crew(1)),
+    "a fit one": failed(*crew(0, two=FIT)),
+    "one that is looked at": failed(*crew(0, two={})),
+    "one that was left out before": failed(*crew(0, two=LEFT_OUT)),
+    "one that is paused and was never fit": failed(*crew(0, two={"is_able": False})),
+}
+made, task = crew(0, two=LEFT_OUT)
+failed(made, task)
+made.leave_out(made.workers["two"], "it is no good")
+told["one that is found unfit since"] = failed(made, task)
+made, task = crew(0, two=FIT)
+failed(made, task)
+task.failed_at -= 61
+told["a fit one that does not come to it"] = failed(made, task)
+made, task = crew(0, two=FIT, three=FIT)
+failed(made, task)
+told["a third one"] = failed(made, task, "two")
+made, task = crew(0, two=FIT)
+made.bury(has(made, task, "one"))
+told["a fit one, after a death"] = is_open(made)
+made.bury(has(made, task, "two"))
+told["nobody after two deaths"] = is_open(made)
+made, task = crew(3, two={})
+for _ in range(2):
+    made.end_hung(has(made, task, "one"), ["key"])
+told["one that is looked at, after two hangs"] = is_open(made)
+made.end_hung(has(made, task, "two"), ["key"])
+told["nobody, after hangs of two"] = is_open(made)
+made, task = crew(0)
+other = Task(made.jobs[0], "answer_whole", (), 1)
+made.end_hung(has(made, task, "one", other), ["key"])
+told["nobody else, one of two has failed"] = is_open(made)
+made.end_hung(has(made, task, "one"), [])
+told["a task that is not executed any more"] = is_open(made)
+made.end_hung(has(made, task, "one"), ["key"])
+told["nobody else, it alone"] = is_open(made)
+made, task = crew(0)
+made.jobs[0].turn = 1
+failed(made, task)
+told["a task of an earlier turn that fails"] = is_open(made)
+made.bury(has(made, task, "one"))
+told["a task of an earlier turn whose worker dies"] = is_open(made)
+made, task = crew(1, two=dict(is_fit=True, hung={"key"}))
+failed(made, task)
+task.not_before = 0
+told["nobody else has a thread that does not hang"] = made.next_for(made.workers["one"]) == [task]
+made, task = crew(0)
+made.later = [Task(made.jobs[0], "answer", (), 1, turn=-1) for _ in range(5000)] + [task]
+told["a task behind many that ended"] = made.next_for(made.workers["one"]) == [task]
+
+class Some:
+    # What the scheduler has of a task, and of a worker.
+    metrics, last_seen, nthreads = {}, 0, 1
+    def __init__(self, **has): vars(self).update(has)
+
+own, other = Some(key="run-1"), Some(key=("x", 0))
+worker = Some(executing={own: 0, other: 0}, processing=[own, other], status=Some(name="running"))
+told["tasks of others whose keys are no texts"] = see(
+    "run", (), Some(workers={"one": worker}))["one"][3:5] == (["run-1"], 1)
+for what, is_so in told.items():
+    print(int(is_so), what)
+"""
+HOPED = {"nobody else": 0, "nobody else, a retry": 1, "a fit one": 1, "one that is looked at": 1,
+         "one that was left out before": 1,
+         "one that is paused and was never fit": 0, "one that is found unfit since": 0,
+         "a fit one that does not come to it": 0,
+         "a third one": 0, "a fit one, after a death": 1, "nobody after two deaths": 0,
+         "one that is looked at, after two hangs": 1,
+         "nobody, after hangs of two": 0, "nobody else, one of two has failed": 1,
+         "a task that is not executed any more": 1,
+         "nobody else, it alone": 0, "a task of an earlier turn that fails": 1,
+         "a task of an earlier turn whose worker dies": 1,
+         "nobody else has a thread that does not hang": 1, "a task behind many that ended": 1,
+         "tasks of others whose keys are no texts": 1}
+
+
+def test_hopes(count, place):
+    """An input is given up only when no other worker may still do it."""
+    got = runs.ended(place.start([place.python, "-c", HOPES], stdout=subprocess.PIPE, stderr=subprocess.PIPE))
+    told = {what: int(number) for number, _, what in (line.partition(" ") for line in got.stdout.splitlines())}
+    for what, is_open in HOPED.items():
+        count.add(told.get(what) == is_open, f"{what}: {told.get(what)}, not {is_open}: {got.stderr[-1000:]}")
+
+
+def test_file_limit(count, place):
+    place.write("x", LARGE * 3)
+    _, address = place.start_scheduler()
+    place.start_worker(address, before=["sh", "-c", "ulimit -f 100; exec \"$@\"", "sh"])
+    place.start_worker(address, place.stub("slow"))
+    place.wait_for_workers(address, 2)
+    out = place.out()
+    got = place.run(out, ["convert", "--to", "hex"], ["x"],
+                    ["--scheduler", address, "--block", "1000000", "--retries", "0"])
+    judge(count, place, "a worker with a limit on files", got, out, {"x": "x"}, words=["convert", "--to", "hex"])
+
+
+def test_hanging(count, place):
+    """A task that hangs goes to another worker."""
+    place.tree({"x": SLEEPS + LINE * 20, "y": LINE * 20})
+    address, _ = place.cluster(place.patched("hangs", HANGS), {})
+    out = place.out()
+    got = place.run(out, ["convert"], ["x", "y"], ["--scheduler", address, "--block", "100000", *SOON])
+    judge(count, place, "a task that hangs", got, out, {"x": "x", "y": "y"})
+    is_told = not (place.folder / "hung").exists() or "another one gets it" in got.stderr and "x" in got.stderr
+    count.add(is_told, f"a task that hangs is told of: {got}")
+    code = ("from sdtool.distributed import crew\nprint(sorted(told[5] for told in client.run_on_scheduler(crew.see, "
+            "'sdtool-').values()))")
+    busy = place.asked(address, code).strip()
+    count.add(busy == f"[False, {(place.folder / 'hung').exists()}]", f"which workers do what was taken back: {busy}")
+    out = place.out()
+    both = place.start_run(out, ["convert"], ["x", "y"], ["--block", "100000", *SOON], place.patched("hangs", HANGS))
+    got = runs.ended(both)
+    judge(count, place, "a task that hangs everywhere", got, out, {"y": "y"}, ["x"])
+
+
+def test_long_packed(count, place):
+    """A line tells of a compressed input that takes long, though it may have hours before it counts as hung."""
+    (place.folder / "x.gz").write_bytes(gzip.compress(SLEEPS + LINE * 20))
+    address, _ = place.cluster(place.patched("hangs at packed", HANGS))
+    child = place.start_run(place.out(), ["convert"], ["x.gz"], ["--scheduler", address])
+    wait_for(lambda: child.poll() is not None or "has had all of" in said_by(child), 240, "a line of a packed input")
+    count.add(child.poll() is None and "x.gz" in said_by(child), f"a packed input that hangs: {said_by(child)}")
+    end(child)
+
+
+def test_deadly_input(count, place):
+    """An input that kills its workers costs no other one, and is named."""
+    dies = place.patched("dies of it", DIES)
+    place.tree({"d/deadly": LINE * 5 + KILLS, **{f"d/{number}": LINE * (number + 1) for number in range(30)}})
+    address, _ = place.cluster(*[dies] * 3)
+    out = place.out()
+    got = place.run(out, ["convert"], ["d"], ["--scheduler", address, "--retries", "1", "--block", "500"])
+    judge(count, place, "a deadly input", got, out, {str(number): f"d/{number}" for number in range(30)}, ["d/deadly"])
+
+
+def test_touched(count, place):
+    """A file whose mode changes while it is read is answered, and one that vanishes costs no other."""
+    place.tree({"x": LINE * 400, "y": LINE * 30, "z": LINE * 300})
+    for what in "chmod", "an input that vanishes":
+        waits = place.patched(f"waits in {what}", WAITS)
+        address, _ = place.cluster(waits, waits)
+        place.hold()
+        out = place.out()
+        names = ["x"] if what == "chmod" else ["x", "z", "y"]
+        child = place.start_run(out, ["convert"], names, ["--scheduler", address, "--block", "3000"])
+        wait_until(child, lambda: has_parts(out / "_sdtool/inputs/x"), "a part")
+        if what == "chmod":
+            os.chmod(place.folder / "x", 0o600)
+            place.go()
+            judge(count, place, what, runs.ended(child), out, {"x": "x"})
+    os.remove(place.folder / "z")
+    place.go()
+    got = runs.ended(child)
+    place.write("z", LINE)
+    judge(count, place, "an input that vanishes", got, out, {"x": "x", "y": "y"}, ["z"])
+
+
+def test_gone_output(count, place):
+    """An output that is gone for two seconds costs nothing; one that is gone for good is told of."""
+    place.write("x", LINE * 300)
+    for is_back in True, False:
+        waits = place.patched(f"waits, {is_back}", WAITS)
+        address, _ = place.cluster(waits, waits)
+        place.hold()
+        out = place.out()
+        ends = [] if is_back else ["--wait", "60"]
+        child = place.start_run(out, ["convert"], ["x"], ["--scheduler", address, "--block", "1500", *ends])
+        wait_until(child, lambda: has_parts(out / "_sdtool/inputs/x"), "a part")
+        os.rename(out, place.folder / "away")
+        place.go()
+        if is_back:
+            time.sleep(2)
+            os.rename(place.folder / "away", out)
+            got = runs.ended(child)
+            judge(count, place, "an output that is gone for two seconds", got, out, {"x": "x"})
+            count.add(len(got.stderr.splitlines()) < 20, f"it takes few lines: {got}")
+        else:
+            judge(count, place, "an output that is gone", runs.ended(child), out, {}, ["x"], status=3, answers={})
+
+
+def test_waiting(count, place):
+    """A line says what is waited for, and --wait ends it: threads that others hold, a stopped scheduler, no worker."""
+    place.write("x", LINE * 20)
+    scheduler, address = place.start_scheduler()
+    place.start_worker(address)
+    place.wait_for_workers(address, 1)
+    code = (f"import time\nfrom distributed import Client\nc = Client({address!r})\nprint(c.submit(time.sleep, "
+            "1000).result())")
+    other = place.start([place.python, "-c", code], stdout=subprocess.DEVNULL, stderr=subprocess.DEVNULL)
+    wait_for(lambda: "sleep" in place.asked(address, "print(client.processing())"), runs.SECONDS,
+             "a task of another client")
+    out = place.out()
+    got = place.run(out, ["convert"], ["x"], ["--scheduler", address, "--wait", "60"])
+    judge(count, place, "threads that others hold", got, out, {}, ["x"], status=3)
+    count.add("tasks of others" in got.stderr, f"it is said what holds them: {got}")
+    end(other)
+    child = place.start_run(place.out(), ["convert"], ["x"], ["--scheduler", address, "--block", "100", "--wait", "60"])
+    # its thread is still held
+    wait_until(child, lambda: "no worker is fit of 1" in said_by(child), "a run that has connected")
+    os.kill(scheduler.pid, signal.SIGSTOP)
+    got = runs.ended(child)
+    count.add(got.status == 3 and "the scheduler does not answer" in got.stderr and "x has no answers" in got.stderr,
+              f"a stopped scheduler: {got}")
+    out = place.out()
+    got = place.run(out, ["convert"], ["x"], ["--scheduler", address, "--wait", "30"])
+    judge(count, place, "a scheduler that is stopped before", got, out, {}, ["x"], status=3)
+    count.add("the scheduler does not answer" in got.stderr, f"it is said what is waited for: {got}")
+    os.kill(scheduler.pid, signal.SIGCONT)
+
+
+def test_paused(count, place):
+    """A worker that its memory limit pauses is named; another worker answers everything."""
+    place.write("x", LINE * 20)
+    _, address = place.start_scheduler()
+    place.start_worker(address, memory="1MB")
+    wait_for(lambda: "paused" in place.asked(
+        address,
+        "print(client.run_on_scheduler(lambda dask_scheduler: [w.status for w in dask_scheduler.workers.values()]))"))
+    out = place.out()
+    got = place.run(out, ["convert"], ["x"], ["--scheduler", address, "--wait", "60"])
+    judge(count, place, "a paused worker", got, out, {}, ["x"], status=3)
+    count.add("is paused" in got.stderr, f"it is said that the worker is paused: {got}")
+    place.start_worker(address)
+    place.wait_for_workers(address, 1)  # paused ones do not count
+    out = place.out()
+    got = place.run(out, ["convert"], ["x"], ["--scheduler", address])
+    judge(count, place, "a paused worker beside another", got, out, {"x": "x"})
+
+
+def test_paused_with_task(count, place):
+    """What a paused worker has and does not do goes to an idle one."""
+    place.write("x", LINE * 600)
+    address, _ = place.cluster(place.patched("pauses", PAUSES), place.patched("sleeps", "time.sleep(0.1)"))
+    out = place.out()
+    got = place.run(out, ["convert"], ["x"], ["--scheduler", address, "--wait", "60"])
+    judge(count, place, "a worker that pauses", got, out, {"x": "x"})
+
+
+def test_restart(count, place):
+    """Another client restarts the cluster, and a driver is killed: nothing of its run stays with the scheduler."""
+    place.write("x", LINE * 6000)
+    _, address = place.start_scheduler()
+    nanny = [place.python, "-m", "distributed.cli.dask_worker", address, "--nthreads", "1", "--no-dashboard", "--host",
+             "127.0.0.1"]
+    for _ in range(2):
+        place.start(nanny, place.stub("slow"), stdout=subprocess.DEVNULL, stderr=subprocess.DEVNULL)
+    place.wait_for_workers(address, 2)
+    place.hold()
+    out = place.out()
+    child = place.start_run(out, ["convert"], ["x"], ["--scheduler", address])
+    wait_until(child, lambda: has_parts(out / "_sdtool/inputs/x"), "a part")
+    place.asked(address, "client.restart()")
+    count.add(child.poll() is None, "the run ended before the restart")
+    place.go()
+    judge(count, place, "another client's restart", runs.ended(child), out, {"x": "x"})
+    place.hold()
+    out = place.out()
+    child = place.start_run(out, ["convert"], ["x"], ["--scheduler", address])
+    wait_until(child, lambda: has_parts(out / "_sdtool/inputs/x"), "a part")
+    end(child)
+    code = ("print(client.run_on_scheduler(lambda dask_scheduler: (len(dask_scheduler.tasks), "
+            "dict(dask_scheduler.resources), dict(dask_scheduler.worker_plugins))))")
+    until = time.monotonic() + runs.SECONDS
+    while (told := place.asked(address, code).strip()) != "(0, {}, {})" and time.monotonic() < until:
+        time.sleep(0.5)
+    count.add(told == "(0, {}, {})", f"what a killed run leaves with the scheduler: {told}")
+
+
+# Words.
+
+def test_words(count, place):
+    place.write("x", LINE)
+    wrong = {("--wait", "inf"): 2, ("--wait", "nan"): 2, ("--wait", "-1"): 2, ("--retries", "-1"): 2,
+             ("--block", "x"): 2, ("--slowest", "0"): 2}
+    for words, status in wrong.items():
+        out = place.out()
+        got = place.run(out, ["convert"], ["x"], words)
+        is_right = (got.status == status and words[0] in got.stderr and "Traceback" not in got.stderr
+                    and not out.exists())
+        count.add(is_right, f"{words}: {got}")
+    for url in "n21::x", "nosuch://x", "http://[::1/x":
+        got = place.run(place.out(), ["convert"], [url])
+        count.add(got.status in (2, 3) and "Traceback" not in got.stderr and got.stderr, f"{url}: {got}")
+        got = place.run(url, ["convert"], ["x"])
+        count.add(got.status in (2, 3) and "Traceback" not in got.stderr and got.stderr, f"--out {url}: {got}")
+    start = [place.python, "-m", "sdtool.distributed", "convert"]
+    for ends, status in ((">/dev/full", 3), (">&-", 3), ("2>&-", 0), (">&- 2>&-", 3), ("2>/dev/full", 0), ("<&-", 0)):
+        out = place.out()
+        command = f"{' '.join(start[:3])} --out {out} convert -- x {ends}"
+        got = runs.ended(place.start(["sh", "-c", command], stdout=subprocess.PIPE, stderr=subprocess.PIPE))
+        is_right = got.status == status and runs.answers_in(out) == {"x": place.wanted(["convert"], "x")[0]}
+        count.add(is_right and "Traceback" not in got.stderr, f"{ends}: {got}")
+    # What has no answers is said, and the status is right, whatever stream is full and whatever characters it has.
+    place.tree({"d/x": LINE, "d/\u65e5": LINE})
+    os.mkfifo(place.folder / "d/fifo")
+    full = "exec \"$@\" {}"
+    for through, files, status, said in (("2>/dev/full", ["d"], 3, ""), ("2>/dev/full", ["nosuch"], 2, ""),
+                                         (">/dev/full", ["d"], 3, "d/fifo has no answers")):
+        out = place.out()
+        got = place.run(out, ["convert"], files, through=["sh", "-c", full.format(through), "sh"])
+        is_right = got.status == status and said in got.stderr and "Traceback" not in got.stderr
+        count.add(is_right and len(runs.answers_in(out)) == 2 * (files == ["d"]), f"{files} {through}: {got}")
+    out = place.out()
+    got = place.run(out, ["convert"], ["d"], environment={"PYTHONIOENCODING": "latin-1"})
+    count.add(got.status == 3 and "d/\\u65e5\n" in got.stdout and "d/x\n" in got.stdout
+              and "Traceback" not in got.stderr, f"a name that standard output has no characters for: {got}")
+    loud, out = "e/\x1b[2Jloud\n", place.out()
+    place.tree({loud: LINE, "e/x": LINE})
+    out.mkdir()
+    (out / os.path.basename(loud)).write_text("mine")
+    got = place.run(out, ["convert"], ["e"])
+    is_named = "%1B[2Jloud%0A has no answers" in got.stderr and "\x1b" not in got.stderr and "e/x" in got.stdout
+    are_lines = all(line.startswith("sdtool.distributed: ") for line in got.stderr.splitlines())
+    count.add(got.status == 3 and is_named and are_lines, f"a name with an escape: {got}")
+    (place.folder / "file").write_text("no folder")
+    got = place.run("file/below", ["convert"], ["x"])
+    count.add(got.status == 3 and "x has no answers" in got.stderr and "Traceback" not in got.stderr,
+              f"--out below a file: {got}")
+    out = place.folder / "out[1]"
+    got = place.run(out, ["convert"], ["x"])
+    judge(count, place, "--out with a bracket", got, out, {"x": "x"})
+    code = """
+import fsspec
+from sdtool import distributed
+fsspec.filesystem("memory").pipe("/in/x", open("x", "rb").read())
+for turn in range(2):
+    status = distributed.main(["--out", "memory://o[1]*", "convert", "--", "memory://in/x"])
+print(status, fsspec.filesystem("memory").cat_file("/o[1]*/x"))
+"""
+    got = runs.ended(place.start([place.python, "-c", code], stdout=subprocess.PIPE, stderr=subprocess.PIPE))
+    wanted = f"0 {place.wanted(['convert'], 'x')[0]}"
+    count.add(wanted in got.stdout, f"--out with a bracket in memory: {got}")
+
+
+# The scheduler looks ten times a second how long it has worked since, by processor time, which other programs do not
+# take.
+WATCH = """
+def watch(dask_scheduler):
+    import asyncio, time
+    dask_scheduler.worst = 0.0
+    async def look():
+        while True:
+            began = time.process_time()
+            await asyncio.sleep(0.1)
+            dask_scheduler.worst = max(dask_scheduler.worst, time.process_time() - began)
+    dask_scheduler.looking = asyncio.ensure_future(look())
+client.run_on_scheduler(watch)
+"""
+
+
+def test_many(count, place):
+    """Thousands of tasks and of small files: the scheduler stays awake."""
+    place.write("tasks", LINE * 1500)
+    place.tree({f"files/{number}": LINE * 16 for number in range(1500)})
+    address, _ = place.cluster({}, {})
+    place.asked(address, WATCH)
+    for given, block in ("tasks", str(len(LINE))), ("files", "64000000"):
+        out = place.out()
+        got = place.run(out, ["convert"], [given], ["--scheduler", address, "--block", block])
+        files = ({"tasks": "tasks"} if given == "tasks"
+                 else {str(number): f"files/{number}" for number in range(0, 1500, 100)})
+        answers = runs.answers_in(out)
+        is_right = got.status == 0 and len(answers) == (1 if given == "tasks" else 1500)
+        count.add(is_right and all(answers[name] == place.wanted(["convert"], file)[0] for name, file in files.items()),
+                  f"many {given}: {got}")
+    worst = float(place.asked(address, "print(client.run_on_scheduler(lambda dask_scheduler: dask_scheduler.worst))"))
+    count.add(0 < worst < 2, f"the scheduler worked for {worst} seconds without a look at anything else")
+
+
+GROUPS = {
+    "inputs": (test_no_inputs, test_files_that_go, test_without_versions, test_closed_folders, test_names_of_runs,
+               test_packed, test_words),
+    "others": (test_parts, test_files_of_others, test_stopped_in_tidy, test_two_at_once, test_file_that_comes,
+               test_records, test_touched),
+    "workers": (test_other_modules, test_failing_worker, test_failed_read, test_retired, test_scheduler_of_dask,
+                test_killed_worker, test_hopes, test_many_parts, test_file_limit, test_deadly_input, test_restart),
+    "lost": (test_hanging, test_long_packed, test_gone_output, test_many),
+    "waiting": (test_waiting, test_paused, test_paused_with_task),
+}
+
+
+def main(count, wanted):
+    with tempfile.TemporaryDirectory(ignore_cleanup_errors=True) as folder:
+        os.chmod(folder, 0o755)
+        python = dask_cluster.python_with_dask(folder)
+        if python is None:
+            print("skipped: no Python here has dask, distributed and fsspec "
+                  "(Debian: python3-dask, python3-distributed, python3-fsspec)")
+            return
+
+        def run_group(name):
+            counted, place = preload.Count(), Place(pathlib.Path(folder, name), python, wanted.program, preload.LIBRARY)
+            try:
+                for test in GROUPS[name]:
+                    if preload.is_chosen(test):
+                        place.folder = pathlib.Path(folder, name, test.__name__)
+                        place.folder.mkdir()
+                        runs.timed(test.__name__, test, counted, place)
+            finally:
+                place.end_all()
+            return counted
+
+        with concurrent.futures.ThreadPoolExecutor() as threads:
+            for counted in threads.map(run_group, GROUPS):
+                count.passed += counted.passed
+                count.failed += counted.failed

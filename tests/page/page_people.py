@@ -1,0 +1,317 @@
+"""Tests of the page: keys alone, screen readers, contrast, narrow windows, buttons and links."""
+import collections
+import os
+import subprocess
+import tempfile
+
+from page_driver import SECONDS, each_view
+
+
+def test_keyboard(count, page, given):
+    """Everything by keys alone, from typing to the answer of each view."""
+    page.open()
+    text = "O:BAD:(A;;FR;;;BU)(A;;FA;;;BA)"
+    page.browser.press(*text)
+    page.do("await until(() => byId('text').value === given[0] && isIdle() && document.querySelector('.summary'));",
+            text)
+    reached = []
+    for _ in range(60):
+        page.browser.press("Tab")
+        one = page.do(
+            "const one = document.activeElement; return [one.id, one.className, one.tagName, "
+            "getComputedStyle(one).outlineStyle];"
+        )
+        if one[2] == "BODY":
+            break  # behind the last element come the browser's own
+        reached.append(one)
+    ids = [one[0] for one in reached]
+    wanted = page.do(
+        "return Array.from(document.querySelectorAll('#input button, #input select, #share button, #theme'), "
+        "(one) => one).filter("
+        "(one) => one.offsetParent !== null && !one.disabled).map((one) => one.id);"
+    )
+    missed = [name for name in wanted if name and name not in ids and name != "theme"]
+    count.add(not missed, f"the Tab key never reaches {missed}")
+    count.add("tab-look" in ids, f"the tabs are not reached: {ids}")
+    count.add(any("cell" in one[1] for one in reached), "the grid is not reached")
+    unseen = [one for one in reached if one[3] == "none" and one[2] in ("BUTTON", "SELECT", "TEXTAREA", "INPUT")]
+    count.add(not unseen, f"no outline on {unseen}")
+    page.do("window.focus(); document.querySelector('button.cell[tabindex=\"0\"]').focus();")
+    page.browser.press("ArrowDown", "ArrowRight", "ArrowRight", "Enter")
+    page.do("await until(() => byId('why').textContent !== '');")
+    chosen = page.do("const one = document.activeElement; return [one.dataset.sid, byId('why').textContent];")
+    count.add(chosen[0] == "S-1-5-32-545" and "Users may" in chosen[1], f"a cell by keys: {chosen}")
+    page.do("byId('tab-look').focus();")
+    views = []
+    for _ in range(5):
+        page.browser.press("ArrowRight")
+        views.append(
+            page.do(
+                "return [document.activeElement.id, "
+                "Array.from(document.querySelectorAll('[role=tabpanel]')).filter((one) => "
+                "!one.hidden).map((one) => one.id).join()];"
+            )
+        )
+    expected = [[f"tab-{name}", f"view-{name}"] for name in ("ask", "inherit", "compare", "lines", "look")]
+    count.add(views == expected, f"the tabs by keys: {views}")
+
+
+def test_buttons(count, page, given):
+    """Every button does what it says."""
+    page.open()
+    page.do("window.wasPrinted = 0; window.print = () => { window.wasPrinted += 1; };")
+    for name, text in (
+        ("folder", "Administrators"),
+        ("share", "Everyone"),
+        ("key", "System"),
+        ("ds", "User-Change-Password"),
+        ("error", "error 25"),
+    ):
+        page.do("byId('example-' + given[0]).click(); await until(isIdle);", name)
+        shown = page.do("return byId('view-look').textContent;")
+        count.add(text in shown, f"example {name}: {shown[:200]}")
+    page.do(
+        "Array.from(document.querySelectorAll('.fault button')).find((one) => "
+        "/Select/.test(one.textContent)).click();"
+    )
+    selected = page.do(
+        "const field = byId('text'); return field.value.slice(field.selectionStart, field.selectionEnd);"
+    )
+    count.add(selected == "Everyone", f"selected: {selected!r}")
+    page.do("byId('clear').click(); await until(isIdle);")
+    count.add(page.do("return byId('text').value + byId('view-look').textContent;") == "", "clear")
+    page.do("byId('share-print').click();")
+    count.add(page.do("return window.wasPrinted;") == 1, "print")
+    before = page.do("return getComputedStyle(document.body).backgroundColor;")
+    page.do("byId('theme').click();")
+    count.add(page.do("return getComputedStyle(document.body).backgroundColor;") != before, "the theme")
+    page.see("O:BAD:(A;;FA;;;WD)(A;IO;FR;;;BU)")
+    page.do("document.querySelector('.warnings .jump').click();")
+    count.add(page.do("return document.activeElement.id;").startswith("dacl-"), "a warning leads to its ACE")
+    sids = page.do(
+        "put('names', 'S-1-5-32-545 Our people'); await until(() => byId('view-look').textContent.includes('Our "
+        "people')); return byId('view-look').textContent;"
+    )
+    count.add("Our people" in sids, "a name of the user")
+
+
+def test_many_trustees(count, page, _):
+    """A list for more trustees than are asked about at once: none is lost, and no broad group is left for later."""
+    page.open()
+    sids = [f"S-1-5-21-1-2-3-{number}" for number in range(1000, 1130)]
+    page.see("D:" + "".join(f"(A;;FR;;;{sid})" for sid in sids) + "(A;;FA;;;WD)")
+    shown = page.do("return byId('view-look').textContent;")
+    count.add("30 more trustees are not asked about" in shown, "what is left is said")
+    count.add(any("Everyone can" in one for one in page.texts(".warning")), "Everyone behind 130 others")
+    rows = page.do(
+        "byId('grid-all').click(); await until(isIdle); const more = () => Array.from(document.querySelectorAll("
+        "'table.grid')).map((table) => table.closest('section').querySelector('.more button')).find(Boolean); "
+        "while (more()) more().click(); "
+        "return Array.from(document.querySelectorAll('table.grid tbody tr'), (row) => row.dataset.token.split(' ')[0]);"
+    )
+    count.add(rows == [*sids, "S-1-1-0"], f"all trustees: {len(rows)} {rows[:3]}")
+    count.add(page.do("return byId('grid-all') === null;"), "nothing is left to ask about")
+
+
+def test_share(count, page, given):
+    """A link gives the same page, and the command line the same answer."""
+    page.open()
+    page.do(
+        "put('kind', 'key'); await see('O:BAD:(A;;KR;;;BU)(A;;KA;;;BA)'); byId('tab-ask').click(); "
+        "put('ask-token', 'BU, WD'); put('ask-maximum', true); "
+        "await until(() => document.querySelector('#ask-result .verdict') && isIdle());"
+    )
+    verdict = page.do("return document.querySelector('#ask-result .verdict code').textContent;")
+    page.do("byId('share-command').click(); await until(() => byId('copied-text'));")
+    command = page.do("return byId('copied-text').value;")
+    with tempfile.TemporaryDirectory() as folder:
+        os.symlink(given.program, os.path.join(folder, "sdtool"))
+        surroundings = {**os.environ, "PATH": folder + os.pathsep + os.environ["PATH"]}
+        told = (
+            subprocess.run(["sh", "-c", command], env=surroundings, capture_output=True, timeout=SECONDS)
+            .stdout.decode()
+            .strip()
+        )
+    count.add(told == verdict and verdict.startswith("granted"), f"{command}: {told}, not {verdict}")
+    page.do(
+        "byId('share-link').click(); "
+        "await until(() => byId('copied-text')?.value.startsWith(location.href.split('#')[0]));"
+    )
+    link = page.do("return byId('copied-text').value;")
+    address = page.do("await until(() => location.href === given[0]).catch(() => null); return location.href;", link)
+    count.add(link == address and "#" in link, f"the link {link} is not the address {address}")
+    page.open_link(link)
+    page.do("await until(() => document.querySelector('#ask-result .verdict'));")
+    again = page.do(
+        "return [document.querySelector('#ask-result .verdict code').textContent, byId('kind').value, "
+        "byId('ask-token').value];"
+    )
+    count.add(again == [verdict, "key", "BU, WD"], f"the link leads to {again}")
+    page.do("put('names', 'S-1-5-32-545 Secret'); await pause(700);")
+    count.add("Secret" not in page.do("return location.href;"), "a name of the user in the address")
+
+
+def test_address(count, page, _):
+    """The address and the history stay as they are, whatever is pasted, asked or chosen, until a link is copied."""
+    page.open()
+    here = "return [location.href, history.length, history.state];"
+    before, text = page.do(here), "O:BAD:(A;;FA;;;BU)(A;;FR;;;WD)"
+    acts = [
+        "await see(given[0]);",
+        "byId('example-ds').click();",
+        "put('text', ''); pasteInto('text', given[0].padEnd(30_000)); await until(isIdle); byId('text-clear').click();",
+        "put('kind', 'key'); put('domain', 'S-1-5-21-1-2-3'); put('names', 'S-1-1-0 All');",
+        *(f"byId('tab-{view}').click();" for view in ("ask", "inherit", "compare", "lines", "look")),
+        "byId('tab-ask').click(); put('ask-token', 'BU'); put('ask-maximum', true);",
+        "byId('tab-compare').click(); put('other-text', given[0]);",
+        "byId('share-command').click();",
+        "await see(given[0]); document.querySelector('.skip').click();",
+    ]
+    for act in acts:
+        after = page.do(f"{act} await until(isIdle); await pause(600); {here}", text)
+        count.add(after == before, f"after {act} the address is {after}, not {before}")
+    got = page.do("return [byId('text').value, document.activeElement.id, byId('unread')];")
+    count.add(got == [text, "text", None], f"the link to the field leads to {got}")
+    page.do("put('domain', ''); put('names', ''); byId('tab-ask').click(); await until(isIdle);")
+    link = page.do("byId('share-link').click(); await until(() => byId('copied-text')); return "
+                   "byId('copied-text').value;")
+    count.add(page.do(here) == [link, before[1], None] and "#" in link,
+              f"a link that is copied: {link}, {page.do(here)}")
+    told = ("return [byId('text').value, byId('kind').value, byId('ask-token').value, "
+            "byId('view-ask').checkVisibility(), byId('ask-result').textContent];")
+    asked = page.do(told)
+    count.add(asked[:4] == [text, "key", "BU", True] and "Granted" in asked[4], f"what is asked: {asked}")
+    # What is typed behind a link is in no address, so whoever goes back or loads again sees what the link says.
+    after = page.do(f"await see('D:P'); await pause(600); {here}")
+    count.add(after == [link, before[1], None], f"a text behind a link: {after}")
+    page.open_link(link)
+    count.add(page.do(told) == asked, f"the link leads to {page.do(told)}, not {asked}")
+    page.call("followed", link.partition("#")[2])
+    page.do("location.hash = 'd=D:P'; await until(() => byId('text').value === 'D:P' && isIdle()); "
+            "history.back(); await until(() => byId('text').value === given[0] && isIdle());", text)
+    count.add(page.do(told) == asked, f"going back leads to {page.do(told)}, not {asked}")
+
+
+def test_accessible(count, page, _):
+    for theme in ("light", "dark"):
+        for view in each_view(page):
+            page.do("document.documentElement.dataset.theme = given[0]; await pause(50);", theme)
+            faint = page.call("contrast")
+            count.add(not faint, f"{view}, {theme}: too little contrast: {faint[:5]}")
+            names = page.call("namesAndLabels")
+            count.add(not any(names.values()), f"{view}: {names}")
+
+
+# What a screen reader says of an answer, once the keys are still.
+SPOKEN = {
+    "look": "Read as SDDL. Can take it over: Account 1001, Everyone, Users, Authenticated Users, Administrators. "
+    "Can change it: Nobody. Warnings: 4.",
+    "ask": "Granted. Granted: full control",
+    "inherit": "The new folder: 2 ACEs",
+    "compare": "The two differ. Trustees whose rights differ: 4.",
+    "error": "error 25",
+}
+CONTROLS = {
+    "button",
+    "textbox",
+    "combobox",
+    "checkbox",
+    "tab",
+    "link",
+    "searchbox",
+    "radio",
+    "slider",
+    "spinbutton",
+    "listbox",
+}
+
+
+def value_of(node, name):
+    return node.get(name, {}).get("value", "")
+
+
+def judge_tree(count, view, tree):
+    """What a screen reader is told: names of controls, headers of tables, landmarks."""
+    by_id = {node["nodeId"]: node for node in tree}
+    role = collections.defaultdict(list)
+    for node in tree:
+        if not node["ignored"]:
+            role[value_of(node, "role")].append(node)
+    nameless = [node for kind in CONTROLS for node in role[kind] if not value_of(node, "name").strip()]
+    count.add(not nameless, f"{view}: controls without a name: {[value_of(node, 'role') for node in nameless]}")
+    for kind in ("main", "banner", "contentinfo", "tablist", "tabpanel"):
+        count.add(len(role[kind]) == 1, f"{view}: {len(role[kind])} of {kind}")
+    count.add(value_of(role["tabpanel"][0], "name") != "", f"{view}: a panel without a name")
+    levels = [
+        prop["value"]["value"]
+        for node in role["heading"]
+        for prop in node.get("properties", [])
+        if prop["name"] == "level"
+    ]
+    count.add(
+        levels.count(1) == 1 and all(later <= one + 1 for one, later in zip(levels, levels[1:])),
+        f"{view}: headings {levels}",
+    )
+    for table in role["table"] + role["grid"]:
+        below, all_below = [table["nodeId"]], []
+        while below:
+            node = by_id.get(below.pop())
+            if node:
+                all_below.append(value_of(node, "role"))
+                below += node.get("childIds", [])
+        count.add(
+            "columnheader" in all_below and "rowheader" in all_below,
+            f"{view}: a table without headers: {set(all_below)}",
+        )
+    regions = [node for node in role["region"] if not value_of(node, "name")]
+    count.add(not regions, f"{view}: a region without a name")
+
+
+def test_screen_reader(count, page, _):
+    for view in each_view(page):
+        if view in SPOKEN:
+            page.do(
+                "await until(() => byId('spoken').textContent.includes(given[0])).catch(() => null);", SPOKEN[view]
+            )
+            spoken = page.do("return byId('spoken').textContent;")
+            count.add(SPOKEN[view] in spoken, f"{view}: a screen reader says {spoken!r}")
+        tree = page.browser.tree()
+        if tree is not None:
+            judge_tree(count, view, tree)
+            said = [value_of(node, "name") for node in tree if value_of(node, "role") == "StaticText"]
+            count.add(
+                view not in SPOKEN or any(SPOKEN[view] in one for one in said),
+                f"{view}: not in the tree: {SPOKEN.get(view)}",
+            )
+    live = page.do("return Array.from(document.querySelectorAll('[role=status]'), (one) => one.id);")
+    count.add({"spoken", "lines-status"} <= set(live), f"live regions: {live}")
+
+
+def test_order_of_keys(count, page, _):
+    """In each view the Tab key reaches every control, in the order in which they stand, and shows where it is."""
+    for view in each_view(page):
+        wanted = page.call("reachable")
+        page.browser.press("Tab")  # browsers show where the focus is once a key was used
+        page.do("window.focus(); document.querySelector('.skip').focus();")
+        reached = [page.call("focused")]
+        for _ in wanted[1:]:
+            page.browser.press("Tab")
+            reached.append(page.call("focused"))
+        count.add(
+            [one["at"] for one in reached] == [one["at"] for one in wanted],
+            f"{view}: the order of keys: {reached} {wanted}",
+        )
+        unseen = [one["text"] for one in reached if not one["isSeen"]]
+        count.add(not unseen, f"{view}: no sign of the focus on {unseen}")
+
+
+def test_narrow(count, page, _):
+    """A phone, and a window of 1,280 pixels at 200 and 400 %: nothing is cut off, and nothing moves sideways."""
+    try:
+        for width in (360, 640, 320):
+            page.browser.size(width, 800)
+            for view in each_view(page):
+                got = page.do("return [document.scrollingElement.scrollWidth, innerWidth];")
+                count.add(got[0] <= got[1], f"{view} at {width} pixels is {got[0]} wide in {got[1]}")
+    finally:
+        page.browser.size(1280, 900)
