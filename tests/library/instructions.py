@@ -267,7 +267,7 @@ def main(count, given):
     jobs = all_jobs()
     chosen = [job for job in jobs if preload.is_chosen(job.name)]
     with tempfile.TemporaryDirectory() as name, concurrent.futures.ThreadPoolExecutor(JOBS) as pool:
-        programs = programs_for(given.program.resolve(), pathlib.Path(name))
+        programs = programs_for(pathlib.Path(given.program), pathlib.Path(name))
         if CHECKER not in programs:
             print("instructions: calls of the library are skipped, it is not built")
             chosen = [job for job in chosen if job.program != CHECKER]

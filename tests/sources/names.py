@@ -2,8 +2,8 @@
 file and occurs in no file of crates/, tests/, tools/, packaging/ or the Makefile beside comments, and a file that is
 not there. So a document cannot keep the name of what was moved or renamed. It also refuses a file of definitions that
 docs/DEFINITIONS.md does not name, a document that README does not list, a link of any document to a file or a heading
-that is not there, words by which a document says that it tells of older code, and a toolchain of docs/PROVED.md that is
-not the one of `rt version`, where there is rt.
+that is not there, words by which a document says that it tells of older code, and a logic of docs/PROVED.md that is
+not the one of `rt version`, where there is rt. Several kits have one logic, so the kit's own name may differ.
 """
 import pathlib
 import re
@@ -24,8 +24,8 @@ EDITS = ["crates/*/must-fail/*.edit", "tests/edits/*/*.edit"]
 # Names and files of the toolchain's libraries.
 OTHERS = {"Stdin", "Rfc4648.antt", "GeneralPurpose.antt", "Engines.antt", "std/specs/Io/KnownBytes.antt",
           "core/specs"}
-IDENTITY = "rattle-kit-"  # how the toolchain's line of identity begins
-TOOLCHAIN = (IDENTITY, "rt ")  # its line of identity, its commands
+LOGIC = "logic "  # how the toolchain's line names the logic that it proves in
+TOOLCHAIN = (LOGIC, "rt ")  # its logic, its commands
 FILE = re.compile(r"[\w./*-]*\.(?:rt|antt|py|sh|md|json|txt|c|h|1)")
 WORD = re.compile(r"[A-Za-z_]\w*")
 COMMENT = {".rt": re.compile(r"//.*"), ".antt": re.compile(r"--.*")}
@@ -99,15 +99,15 @@ def judge_list(count):
 
 
 def judge_toolchain(count):
-    """The toolchain that PROVED names is the one that proves here."""
+    """The logic that PROVED names is the one that proves here."""
     text = (TOP / OF_TOOLCHAIN).read_text(encoding="utf-8")
-    named = [span for _, span in spans_in(text) if span.startswith(IDENTITY)]
-    count.add(len(named) == 1, f"{OF_TOOLCHAIN}: it names {len(named)} toolchains")
+    named = [span for _, span in spans_in(text) if span.startswith(LOGIC)]
+    count.add(len(named) == 1, f"{OF_TOOLCHAIN}: it names {len(named)} logics")
     if not shutil.which("rt"):
-        print(f"the toolchain of {OF_TOOLCHAIN}: skipped, there is no command rt")
+        print(f"the logic of {OF_TOOLCHAIN}: skipped, there is no command rt")
         return
     told = subprocess.run(["rt", "version"], stdout=subprocess.PIPE, check=True).stdout.decode().strip()
-    count.add(named == [told], f"{OF_TOOLCHAIN}: it names {', '.join(named)}, and rt version prints {told}")
+    count.add(named == [told[told.find(LOGIC):]], f"{OF_TOOLCHAIN}: it names {named}, and rt version prints {told}")
 
 
 def is_known(word, words):
