@@ -129,9 +129,9 @@ struct sdtool_verdict sdtool_check(const uint8_t *descriptor, size_t descriptor_
                                    size_t object_size, const uint8_t *principal_self, size_t principal_self_size,
                                    const struct sdtool_request *request);
 struct sdtool_outcome sdtool_derive(const uint8_t *parent, size_t parent_size, const uint8_t *creator,
-                                    size_t creator_size, const uint8_t *owner, size_t owner_size, const uint8_t *group,
-                                    size_t group_size, uint32_t kind, uint32_t mapping, uint8_t *output,
-                                    size_t output_size);
+                                    size_t creator_size, const uint8_t *owner, size_t owner_size,
+                                    const uint8_t *group, size_t group_size, uint32_t kind, uint32_t mapping,
+                                    uint8_t *output, size_t output_size);
 enum sdtool_status {
     SDTOOL_STATUS_ANSWERED = 0,
     SDTOOL_STATUS_ERRORS = 1,
