@@ -1,5 +1,5 @@
 #!/usr/bin/env python3
-"""literals.py [--rules | --members] [--list] [--only WORD] [--rows CRATE,..] [CRATE ..]
+"""literals.py [--rules | --members] [--list] [--only WORD] [--rows CRATE,..] [--write] [CRATE ..]
 
 Changes each literal of the definitions to its neighbour, one at a time, and says whether a worked row refuses it: a
 number by one, a text by one character, a case to the next of its enum, a constant or a definition without arguments to
@@ -25,6 +25,9 @@ once and kept in out/literals, which takes a minute or two a crate, and longer f
 
 A line tells of each change that no row refuses, and of each that does not read, as a case that stands twice. The last
 line counts them: 'N refused, M left, K unread'. The status is 1 where one is left.
+
+--write puts the changes that are left, of rules too, into tests/literals.txt, below the reason that stands there for
+their crate. Reasons, and what is left of other crates, stay.
 """
 import argparse
 import collections
@@ -44,6 +47,8 @@ import layers  # noqa: E402
 
 TOP = pathlib.Path(__file__).resolve().parent.parent
 KEPT = TOP / "out/literals"
+LEFT = TOP / "tests/literals.txt"
+NO_REASON = "no reason yet"
 AT_ONCE = 40  # changes
 SLOW_ROWS = 4  # of one change, tried at once
 PROBE = "literals"  # the module of the function that is checked
@@ -94,9 +99,47 @@ class Change(NamedTuple):
     def crate(self):
         return self.module.split(".")[1]
 
+    @property
+    def name(self):
+        return self.module.replace("Rattle.", "").replace(".specs", "")
+
+    @property
+    def what(self):
+        return f"{self.old!r} -> {self.new!r} in {self.declared}"
+
     def __str__(self):
-        name = self.module.replace("Rattle.", "").replace(".specs", "")
-        return f"{name}:{self.line + 1}:{self.column + 1} {self.old!r} -> {self.new!r} in {self.declared}"
+        return f"{self.name}:{self.line + 1}:{self.column + 1} {self.what}"
+
+
+class Left:
+    """What tests/literals.txt says: a front of comments, and below crates with a reason the changes that are left."""
+
+    def __init__(self, text):
+        self.front, _, rest = text.partition("\n\n")
+        self.sections = []  # each with the names of its crates, their reason, and rows
+        for line in rest.splitlines():
+            if line.startswith("  ") and self.sections:
+                self.sections[-1][2].append(line.strip())
+            elif ": " in line:
+                names, _, reason = line.partition(": ")
+                self.sections.append((names.split(", "), reason, []))
+            else:
+                sys.exit(f"{LEFT.name} has a line that is neither crates with a reason nor a change: {line!r}")
+
+    def take(self, crate, changes):
+        """What is left of a crate, in place of what was."""
+        rows = [f"{change.name} {change.what}" for change in changes]
+        for names, _, kept in self.sections:
+            if crate in names:
+                kept[:] = [row for row in kept if row.partition(".")[0] != crate] + rows
+                return
+        if rows:
+            self.sections.append(([crate], NO_REASON, rows))
+
+    def __str__(self):
+        parts = [[f"{', '.join(names)}: {reason}", *(f"  {row}" for row in rows)]
+                 for names, reason, rows in self.sections]
+        return "\n".join([self.front, "", *(line for part in parts for line in part)]) + "\n"
 
 
 def uncommented(text):
@@ -649,12 +692,16 @@ def main():
     parser.add_argument("--list", action="store_true", help="only prints the changes")
     parser.add_argument("--only", metavar="WORD", default="", help="only changes with this word in their lines")
     parser.add_argument("--rows", metavar="CRATE,..", default="", help="the crates whose rows are tried")
+    parser.add_argument("--write", action="store_true", help="writes what is left, of rules too, to tests/literals.txt")
     given = parser.parse_args()
+    if given.write and (given.members or given.list or given.only):
+        parser.error("--write takes all changes of a crate, and no members")
     definitions = Definitions(given.crates)
     unknown = {*given.crates, *filter(None, given.rows.split(","))} - set(definitions.crates)
     if unknown:
         parser.error(f"there is no crate {min(unknown)} with definitions")
-    found = definitions.changes(given.crates or definitions.crates, given.rules, given.members)
+    measured = given.crates or definitions.crates
+    found = definitions.changes(measured, given.rules or given.write, given.members)
     changes = [change._replace(number=i) for i, change in enumerate(found) if given.only in str(change)]
     if given.list:
         print("\n".join(map(str, changes)))
@@ -678,6 +725,11 @@ def main():
         fate, _, why = fates[change.number].partition(": ")
         if fate != "refused":
             print(f"{fate} {change}{': ' + why[:100] if why else ''}", flush=True)
+    if given.write:
+        kept = Left(LEFT.read_text(encoding="utf-8"))
+        for crate in measured:
+            kept.take(crate, [change for change in changes if change.crate == crate and fates[change.number] == "left"])
+        LEFT.write_text(str(kept), encoding="utf-8")
     count = collections.Counter(fate.partition(":")[0] for fate in fates.values())
     print(f"{count['refused']} refused, {count['left']} left, {count['unread']} unread")
     return 1 if count["left"] else 0
