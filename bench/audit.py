@@ -1,5 +1,5 @@
 #!/usr/bin/env python3
-"""audit.py [--objects N] [--distinct PERCENT,..] [--jobs N] [--rounds N] [--no-database]
+"""audit.py [--objects N] [--distinct PERCENT,..] [--jobs N] [--rounds N] [--no-database] [--write]
 
 Makes exports of a file share and measures sdtool-audit on them: 'risks' from CSV for each share of distinct
 descriptors, and for the first of them also 'risks --into', and 'who permissions' of the database that it made. Reports
@@ -30,6 +30,9 @@ import sys
 import tempfile
 import threading
 import time
+
+sys.dont_write_bytecode = True
+import results  # noqa: E402
 
 TOP = pathlib.Path(__file__).resolve().parent.parent
 LIBRARY = os.environ.get("SDTOOL_LIBRARY", str(TOP / "out/lib/libsdtool.so"))
@@ -141,6 +144,7 @@ def main():
     parser.add_argument("--jobs", type=int, default=4, help="processes that answer (%(default)s)")
     parser.add_argument("--rounds", type=int, default=3, help="(%(default)s)")
     parser.add_argument("--no-database", action="store_true", help="no database is made")
+    results.add_option(parser)
     wanted = parser.parse_args()
     python = python_with_packages()
     folder = pathlib.Path(tempfile.gettempdir()) / "sdtool-bench"
@@ -165,4 +169,4 @@ def main():
 
 
 if __name__ == "__main__":
-    main()
+    sys.exit(results.kept(main))

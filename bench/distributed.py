@@ -1,5 +1,5 @@
 #!/usr/bin/env python3
-"""distributed.py [PROGRAM] [--library FILE] [--megabytes N] [--rounds N] [--job WORD]
+"""distributed.py [PROGRAM] [--library FILE] [--megabytes N] [--rounds N] [--job WORD] [--write]
 
 Measures ways to answer one large file on one machine: one program (crates/sdtool/out/sdtool where none is given), GNU
 parallel with --pipepart, and sdtool.distributed over a scheduler with one, two and four workers. These are processes on
@@ -32,6 +32,7 @@ import time
 sys.dont_write_bytecode = True
 import run  # noqa: E402  (which finds the folder of the tests)
 import dask_cluster  # noqa: E402
+import results  # noqa: E402
 
 COMMANDS = [["convert"], ["check", "--token", "WD,AU,BU", "--want", "FW"], ["explain"],
             ["derive", "--kind", "file", "--owner", "BA", "--group", "BU"]]
@@ -134,6 +135,7 @@ def main():
     parser.add_argument("--megabytes", type=int, default=1000, help="of the input (%(default)s)")
     parser.add_argument("--rounds", type=int, default=3, help="(%(default)s)")
     parser.add_argument("--job", default="", help="takes only the commands that have this word")
+    results.add_option(parser)
     wanted = parser.parse_args()
     for path in wanted.program, wanted.library:
         if not os.path.exists(path):
@@ -163,4 +165,4 @@ def main():
 
 
 if __name__ == "__main__":
-    sys.exit(main())
+    sys.exit(results.kept(main))

@@ -1,5 +1,5 @@
 #!/usr/bin/env python3
-"""library.py [--descriptors N] [--rounds N] [--sids N]
+"""library.py [--descriptors N] [--rounds N] [--sids N] [--write]
 
 Measures one call at a time of libsdtool beside Samba's libraries, from C (library.c) and from Python, all in one run:
 SDDL to a descriptor, a descriptor to SDDL, an access check for a token of 20 SIDs (or of as many as --sids says) and,
@@ -31,6 +31,7 @@ import time
 sys.dont_write_bytecode = True
 import generate  # noqa: E402  (which finds the folder of the tests)
 import reference  # noqa: E402
+import results  # noqa: E402
 
 TOP = pathlib.Path(__file__).resolve().parent.parent
 LIBRARY = TOP / "out/lib"
@@ -199,6 +200,7 @@ def main():
     parser.add_argument("--rounds", type=int, default=9, help="(%(default)s)")
     parser.add_argument("--sids", type=int, default=20, help="of the token (%(default)s)")
     parser.add_argument("--ctypes", action="store_true", help="Python's calls without the module's extension")
+    results.add_option(parser)
     wanted = parser.parse_args()
     try:
         import samba  # noqa: F401
@@ -236,4 +238,4 @@ def main():
 
 
 if __name__ == "__main__":
-    sys.exit(main())
+    sys.exit(results.kept(main))

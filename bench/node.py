@@ -1,5 +1,5 @@
 #!/usr/bin/env python3
-"""node.py PROGRAM PROGRAM .. [--rounds N] [--megabytes N] [--only WORD]
+"""node.py PROGRAM PROGRAM .. [--rounds N] [--megabytes N] [--only WORD] [--write]
 
 Compares builds of the program for WASI (out/systems/wasm/sdtool-wasi.wasm) in Node: they answer lines of generate.py by
 turns in one process. Answers have to be the same. It prints the medians of the rounds, in milliseconds of processor
@@ -16,6 +16,7 @@ import tempfile
 sys.dont_write_bytecode = True
 import make_inputs  # noqa: E402
 import run  # noqa: E402
+import results  # noqa: E402
 
 TURNS = pathlib.Path(__file__).with_name("wasi_turns.mjs")
 ONE_DOMAIN = make_inputs.ONE_DOMAIN.split()
@@ -64,6 +65,7 @@ def main():
     parser.add_argument("--rounds", type=int, default=11, help="(%(default)s)")
     parser.add_argument("--megabytes", type=int, default=5, help="of each input (%(default)s)")
     parser.add_argument("--only", default="", help="jobs with this word in their names")
+    results.add_option(parser)
     given = parser.parse_args()
     jobs = {job: asked for job, asked in JOBS.items() if given.only in job}
     with tempfile.TemporaryDirectory() as name:
@@ -79,4 +81,4 @@ def main():
 
 
 if __name__ == "__main__":
-    main()
+    sys.exit(results.kept(main))

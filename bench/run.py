@@ -1,5 +1,5 @@
 #!/usr/bin/env python3
-"""run.py [PROGRAM] [--megabytes N] [--rounds N]
+"""run.py [PROGRAM] [--megabytes N] [--rounds N] [--write]
 
 Measures the program (crates/sdtool/out/sdtool where none is given) against baseline.rs and cat: on the mixture that
 generate.py makes in hex, base64 and SDDL, to hex, base64 and SDDL and explained under one of its domains, checked, and
@@ -28,6 +28,7 @@ sys.dont_write_bytecode = True
 import generate  # noqa: E402  (which finds the folder of the tests)
 import memory  # noqa: E402
 import preload  # noqa: E402
+import results  # noqa: E402
 
 HERE = pathlib.Path(__file__).resolve().parent
 PROGRAM = HERE.parent / "crates/sdtool/out/sdtool"
@@ -160,6 +161,7 @@ def main():
     parser.add_argument("program", nargs="?", default=PROGRAM, type=os.path.abspath)
     parser.add_argument("--megabytes", type=int, default=150, help="of each input (%(default)s)")
     parser.add_argument("--rounds", type=int, default=9, help="(%(default)s)")
+    results.add_option(parser)
     wanted = parser.parse_args()
     if not os.access(wanted.program, os.X_OK):
         sys.exit(f"bench: there is no program at {wanted.program}; 'make program' builds it")
@@ -197,4 +199,4 @@ def main():
 
 
 if __name__ == "__main__":
-    sys.exit(main())
+    sys.exit(results.kept(main))

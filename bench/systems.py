@@ -1,5 +1,5 @@
 #!/usr/bin/env python3
-"""systems.py [PROGRAM] [--megabytes N] [--rounds N]
+"""systems.py [PROGRAM] [--megabytes N] [--rounds N] [--write]
 
 Measures what 'make systems' built beside PROGRAM (crates/sdtool/out/sdtool where none is given), on the mixture that
 generate.py makes: converted from hex to SDDL and from SDDL to hex, explained, checked, and derived from. Each has to
@@ -22,6 +22,7 @@ import tempfile
 sys.dont_write_bytecode = True
 import run  # noqa: E402
 import preload  # noqa: E402
+import results  # noqa: E402
 
 TOP = pathlib.Path(__file__).resolve().parent.parent
 BUILT = TOP / "out" / "systems"
@@ -87,6 +88,7 @@ def main():
     parser.add_argument("program", nargs="?", default=run.PROGRAM, type=pathlib.Path)
     parser.add_argument("--megabytes", type=int, default=50, help="of each input (%(default)s)")
     parser.add_argument("--rounds", type=int, default=5, help="(%(default)s)")
+    results.add_option(parser)
     given = parser.parse_args()
     kept = pathlib.Path(tempfile.gettempdir()) / "sdtool-bench"
     kept.mkdir(exist_ok=True)
@@ -119,4 +121,4 @@ def main():
 
 
 if __name__ == "__main__":
-    main()
+    sys.exit(results.kept(main))

@@ -89,7 +89,8 @@ show_notes() {
     sort -rn "$logs/times" | head -n 10 | sed 's/^/    /'
     if [[ -n ${RESULTS-} ]]; then
         {
-            echo "# Written by tests/all.sh at $(git rev-parse --short HEAD) on $(nproc) processors, after $((SECONDS / 60)) minutes."
+            echo "# tests/all.sh at $(git rev-parse --short=12 HEAD), on $(nproc) processors" \
+                "($(sed -n 's/^model name[^:]*: //p' /proc/cpuinfo | head -n 1)), after $((SECONDS / 60)) minutes"
             sort -rn "$logs/times"
         } >"$RESULTS"
     fi

@@ -1,6 +1,6 @@
 """Tries bench/run, which compares two built checkouts, on a small part of a workload: with the same checkout as OLD and
-as NEW it prints a row of its table, and it stops where an output differs, where a workload has no such name, and where
-a program fails. It needs sd_bench as `rt ci` builds it.
+as NEW it prints a row of its table and writes its ratio. It stops where an output differs, where a workload has no such
+name, and where a program fails. It needs sd_bench as `rt ci` builds it.
 """
 import pathlib
 import re
@@ -12,6 +12,7 @@ RUN = TOP / "bench/run"
 WORKLOAD = "calls"
 HEADS = "| NAME | seconds in OLD | seconds in NEW | OLD over NEW |\n|---|--:|--:|--:|\n"
 ROW = re.compile(rf"\| {WORKLOAD} \| (\d+\.\d{{3}}) \| (\d+\.\d{{3}}) \| (\d+\.\d\d) \|\n")
+WRITTEN = re.compile(rf"# bench/run: .*, on \d+ of \d+ processors .*\n {{10,}}seed 7\n{WORKLOAD} +(\d+\.\d\d)\n")
 SECONDS = 600
 
 
@@ -36,7 +37,7 @@ def main(count):
         return
     with tempfile.TemporaryDirectory() as name:
         one, other = (checkout(pathlib.Path(name), f"of {number}", number) for number in (40_000, 2_000))
-        ended = ran(one, one, "7", WORKLOAD)
+        ended = ran("--write", one, one, "7", WORKLOAD)
         row = ROW.fullmatch(ended.stdout.removeprefix(HEADS))
         count.add(ended.returncode == 0 and ended.stdout.startswith(HEADS) and row, f"one checkout twice: {ended}")
         if row:
@@ -45,6 +46,9 @@ def main(count):
             least, most = (before - 0.0005) / (after + 0.0005) - 0.005, (before + 0.0005) / (after - 0.0005) + 0.005
             is_right = before > 0.002 and after > 0.002 and least <= ratio <= most
             count.add(is_right, f"the seconds of one checkout: {ended.stdout}")
+            text = (one / "bench/results/run.txt").read_text(encoding="utf-8")
+            written = WRITTEN.fullmatch(text)
+            count.add(written and written[1] == row[3], f"{ended.stdout} is written as {text}")
         ended = ran(one, other, "7", WORKLOAD)
         count.add(ended.returncode != 0 and "the outputs differ" in ended.stderr, f"other outputs: {ended}")
         ended = ran(one, one, "7", "none")
