@@ -1,10 +1,10 @@
 #!/usr/bin/env python3
 """contents.py [--check]
 
-Writes tests/README.md, what each test and each tool does, from the first sentences of their docstrings; modules that
-only tests import are left out. A sentence ends at its colon if enough words are before that, and a long one at such a
-comma. With --check it writes nothing: a stale page is a failure, and so is a sentence of more than 25 words. The last
-line is then 'N passed, M failed'.
+Writes tests/README.md, what each test and tool does, from the first sentences of their docstrings; modules that only
+tests import are left out. A sentence ends at its colon if enough words are before that, and a long one at such a comma.
+With --check it writes nothing: a stale page is a failure, and so is a sentence of more than 25 words. The last line is
+then 'N passed, M failed'.
 """
 import argparse
 import ast

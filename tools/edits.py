@@ -1,9 +1,9 @@
 #!/usr/bin/env python3
 """edits.py [--apply] [--edit WORD] [CRATE ..]
 
-Tries the edits of crates/NAME/must-fail and tests/edits/NAME: each puts a wrong body in place of a function's own,
-and the prover has to refuse it. Without names it tries the edits of all crates, with --edit those whose name has the
-word. It runs two crates side by side.
+Tries the edits, wrong bodies that the prover must refuse: those of crates/NAME/must-fail and tests/edits/NAME. Each
+puts a wrong body in place of a function's own, and the prover has to refuse it. Without names it tries the edits of all
+crates, with --edit those whose name has the word. It runs two crates side by side.
 
 First `rt check` has to prove each crate as it stands, which keeps its work in out/. Each edit is then made in a copy of
 the crate, of those below it and of their kept work, and `rt check` runs there, so an edit costs what it changes

@@ -1,7 +1,7 @@
 #!/usr/bin/env python3
 """figures.py
 
-Prints what each crate contains, how large it is, and how many lines of definitions there are to read. Lines of
+Prints what each crate contains, and how large it is. It also counts the lines of definitions to read. Lines of
 definitions are those of specs/*.antt but for specs/Inner/, Lib.antt, `use` lines and empty lines. In src, the models of
 types and the traits of the devices have to be read too.
 """

@@ -1,10 +1,10 @@
 #!/usr/bin/env python3
 """literals.py [--rules | --members] [--list] [--only WORD] [--rows CRATE,..] [--write] [CRATE ..]
 
-Changes each literal of the definitions to its neighbour, one at a time, and says whether a worked row refuses it: a
-number by one, a text by one character, a case to the next of its enum, a constant or a definition without arguments to
-the next of its type. With --rules it also changes rules: a comparison or a connective to the other, a condition or a
-`not` left out, a field or a definition to a like one.
+Changes each literal of the definitions to its neighbour, and says whether a worked row refuses it: a number by one, a
+text by one character, a case to the next of its enum, a constant or a definition without arguments to the next of its
+type. With --rules it also changes rules: a comparison or a connective to the other, a condition or a `not` left out, a
+field or a definition to a like one.
 
 With --members it adds instead of changing: to each comparison with a literal or a constant an alternative that is just
 outside, as a second word for a value, to each function by cases a case of a variant that has none, and to each table an

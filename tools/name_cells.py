@@ -1,7 +1,7 @@
 #!/usr/bin/env python3
 """name_cells.py [--check]
 
-Writes the cells of names of two letters from their tables: crates/sd_kinds/src/flag_cells.rt from flags.rt, and
+Writes the cells of two-letter names from their tables: crates/sd_kinds/src/flag_cells.rt from flags.rt, and
 crates/sd_rights/src/right_cells.rt from rights_table.rt. With --check it writes nothing, and fails if one of the files
 is stale; the last line is then 'N passed, M failed'. What the files say is proved all the same: a wrong cell fails the
 check of its crate.

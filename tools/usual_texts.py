@@ -1,14 +1,13 @@
 #!/usr/bin/env python3
 """usual_texts.py [--check | --find]
 
-Writes the tables of usual texts: crates/sd_kinds/src/flag_texts.rt and crates/sd_rights/src/mask_texts.rt. For reading,
-the constant SPREAD of crates/sd_text/src/usual.rt gives each text its row. For printing, MASK_SPREAD of
-crates/sd_rights/src/rights.rt gives each mask its row, and flags below 0x20 are their own row. A row without a text of
-its own repeats the first text.
-With --check it writes nothing, and fails if one of the files is stale; the last line is then 'N passed, M failed'.
-With --find it prints both constants, so that no two texts of a table, and no two masks, have one row. A text that is
-added may need others. The check of a crate refuses a row whose value is not that of its text. A text in a wrong row is
-only never found.
+Writes the tables of whole texts of flags and masks: crates/sd_kinds/src/flag_texts.rt and
+crates/sd_rights/src/mask_texts.rt. For reading, the constant SPREAD of crates/sd_text/src/usual.rt gives each text its
+row. For printing, MASK_SPREAD of crates/sd_rights/src/rights.rt gives each mask its row, and flags below 0x20 are their
+own row. A row without a text of its own repeats the first text. With --check it writes nothing, and fails if one of the
+files is stale; the last line is then 'N passed, M failed'. With --find it prints both constants, so that no two texts
+of a table, and no two masks, have one row. A text that is added may need others. The check of a crate refuses a row
+whose value is not that of its text. A text in a wrong row is only never found.
 """
 import argparse
 import functools

@@ -1,9 +1,9 @@
-"""Takes every ability of windows/directory.toml and each right that gives it, by MS-ADTS 5.1.3.3: an ACE for the object
-type, for its property set, for the object's class or for all of the object, with the right, with generic rights or with
-all rights. Whoever has one is found by `sdtool-audit who`, by `sdtool-audit risks` with that rule alone and with all
-rules, and by the page. Nobody is for an ACE of another type, one for children alone, or one that a deny comes before.
-Where the class isn't known, each finding says of which classes it is. It needs what tests/audit/audit.py needs, and for
-the page Node and the module that `make wasm` builds.
+"""Tries each right that gives an ability of windows/directory.toml, by MS-ADTS 5.1.3.3: an ACE for the object type, for
+its property set, for the object's class or for all of the object, with the right, with generic rights or with all
+rights. Whoever has one is found by `sdtool-audit who`, by `sdtool-audit risks` with that rule alone and with all rules,
+and by the page. Nobody is for an ACE of another type, one for children alone, or one that a deny comes before. Where
+the class isn't known, each finding says of which classes it is. It needs what tests/audit/audit.py needs, and for the
+page Node and the module that `make wasm` builds.
 """
 import base64
 import functools

@@ -1,8 +1,8 @@
-"""Tests sdtool-audit, over the library in out/lib or of SDTOOL_LIBRARY. Its sources are files of tests/audit/files/ in
-documented formats, and what real programs write here: samba-tool, getfattr, mkntfs and ntfscat, slapd and ldapsearch.
-Answers were worked out by hand. Every run is under a hook that ends it where it opens a connection or writes to a file
-that the words don't name. It needs click and rich (Debian: python3-click, python3-rich), and is skipped without them; a
-source whose program is missing is skipped in a line of its own.
+"""Tests the questions of sdtool-audit. It takes the library of out/lib or of SDTOOL_LIBRARY. Its sources are files of
+tests/audit/files/ in documented formats, and what real programs write here: samba-tool, getfattr, mkntfs and ntfscat,
+slapd and ldapsearch. Answers were worked out by hand. Every run is under a hook that ends it where it opens a
+connection or writes to a file that the words don't name. It needs click and rich (Debian: python3-click, python3-rich),
+and is skipped without them; a source whose program is missing is skipped in a line of its own.
 """
 import bz2
 import collections

@@ -1,6 +1,6 @@
-"""Doubles the length of each construct of each reader of sdtool-audit, and refuses more than 2.3 times the
-instructions. Archives and compressed files are among them. Every format has to have a construct, and so has each word
-for what is no object in it.
+"""Tests that readers of sdtool-audit take time in proportion to a source. It doubles the length of each construct of
+each reader, and refuses more than 2.3 times the instructions. Archives and compressed files are among them. Every
+format has to have a construct, and so has each word for what is no object in it.
 
 Valgrind's callgrind counts the instructions, also those in C. Of three lengths, each twice the one before, the second
 step may add at most 2.3 times what the first one adds: twice is linear, four times is quadratic, and what any source

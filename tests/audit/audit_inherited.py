@@ -1,6 +1,6 @@
-"""Tests which inherited ACEs of directory objects sdtool-audit leaves to the object above, and what the machines of a
-directory make for themselves. Its sources are LDIF, worked out by hand from MS-DTYP 2.5.3.4 and MS-ADTS 5.1.3. It needs
-what tests/audit/audit.py needs, and is skipped without it.
+"""Tests which inherited ACEs sdtool-audit reports at the object above, and what the machines of a directory make for
+themselves. Its sources are LDIF, worked out by hand from MS-DTYP 2.5.3.4 and MS-ADTS 5.1.3. It needs what
+tests/audit/audit.py needs, and is skipped without it.
 """
 import base64
 import random

@@ -1,6 +1,6 @@
-"""What holds for the package sdtool.audit as software: types (mypy --strict), no private name of another module, no
-option in a message that no command has, and runs as on Windows and macOS. It needs what tests/audit/audit.py needs,
-Debian's mypy and pyflakes3; a line says what is missing.
+"""Checks the package sdtool.audit as software: types (mypy --strict), no private name of another module, no option in a
+message that no command has, and runs as on Windows and macOS. It needs what tests/audit/audit.py needs, Debian's mypy
+and pyflakes3; a line says what is missing.
 """
 import ast
 import os

@@ -1,6 +1,6 @@
-"""Tests which ACEs and rules sdtool-audit names for what it has found, in each form of a report, and where it says that
-a descriptor is wrong. Random objects are compared with the independent implementation (tests/reference), other rows
-were worked out by hand. It needs what tests/audit/audit.py needs, and is skipped without it.
+"""Tests which ACEs and rules sdtool-audit names as reasons, in each form of a report, and where it says that a
+descriptor is wrong. Random objects are compared with the independent implementation (tests/reference), other rows were
+worked out by hand. It needs what tests/audit/audit.py needs, and is skipped without it.
 """
 import csv
 import io

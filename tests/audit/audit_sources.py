@@ -1,5 +1,5 @@
-"""Tests what sdtool-audit reads: every byte of a source belongs to an object, to what its format says is none, or to an
-object that can't be read. Sources of every format are made here, with the objects that they have, and then damaged:
+"""Tests that sdtool-audit loses no byte of a source: each belongs to an object, to what its format says is none, or to
+an object that can't be read. Sources of every format are made here, with the objects that they have, and then damaged:
 cut, bytes changed, lines dropped or doubled, one behind the other, in other encodings, compressed and packed. What is
 expected is counted by what makes the source, never by what reads it. Lists that once lost or invented an object are
 behind that. It needs click and rich, and the library in out/lib or the one that SDTOOL_LIBRARY names.

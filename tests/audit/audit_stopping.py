@@ -1,5 +1,5 @@
-"""Tests that sdtool-audit ends where it must. It ends at once, with its status, without a file that looks whole, and
-with all of its processes. A signal, a kill or the loss of a process ends it. The library waits.c has signals come
+"""Tests how sdtool-audit ends when it is stopped. It ends at once, with its status, without a file that looks whole,
+and with all of its processes. A signal, a kill or the loss of a process ends it. The library waits.c has signals come
 between Python's look for them and each call that waits. It needs what tests/audit/audit.py needs, and is skipped
 without it.
 """

@@ -1,8 +1,8 @@
-"""Looks for a way on which a text of a source gets to a terminal as it is: names of objects, of members of archives, of
-files, of accounts and of columns with escape sequences and line ends, in every command, on standard output and standard
-error, to a file and to a terminal. No line may begin with what a name says, and no control character may come out. In
-the code of sdtool-audit nothing but `tell` and `say` may write for people. It also fills standard error: the report has
-to be the same. It needs click and rich, and the library in out/lib or the one that SDTOOL_LIBRARY names.
+"""Tests that no text of a source reaches a terminal as it is: names of objects, of members of archives, of files, of
+accounts and of columns with escape sequences and line ends, in every command, on standard output and standard error, to
+a file and to a terminal. No line may begin with what a name says, and no control character may come out. In the code of
+sdtool-audit nothing but `tell` and `say` may write for people. It also fills standard error: the report has to be the
+same. It needs click and rich, and the library in out/lib or the one that SDTOOL_LIBRARY names.
 """
 import ast
 import base64

@@ -1,8 +1,8 @@
-"""Descriptors in which many trustees have an object type each. Twice as many take at most 2.6 times the instructions,
-in the questions of sdtool-audit: valgrind counts what each of two steps adds, and what else the machine does changes
-nothing. On the page four times as many take about four times as long. Too many pairs of a trustee and an object type
-are said to be unknown. It needs what tests/audit/audit.py needs, Debian's valgrind, and for the page Node and the
-module that `make wasm` builds.
+"""Tests how long descriptors with many trustees and object types take. Twice as many take at most 2.6 times the
+instructions, in the questions of sdtool-audit: valgrind counts what each of two steps adds, and what else the machine
+does changes nothing. On the page four times as many take about four times as long. Too many pairs of a trustee and an
+object type are said to be unknown. It needs what tests/audit/audit.py needs, Debian's valgrind, and for the page Node
+and the module that `make wasm` builds.
 """
 import concurrent.futures
 import itertools

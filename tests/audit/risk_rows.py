@@ -1,10 +1,10 @@
-"""Runs the rows of windows/examples.toml on the rules of sdtool-audit, over the library in out/lib or the one that
-SDTOOL_LIBRARY names. With --page it runs them on the page, in Node over the module that `make wasm` builds: as a paste,
-by a link, and opened in a report of sdtool-audit, whose own findings have to be the same. The rows were worked out by
-hand: each has the findings that there have to be, and no others. Where a row has no class these may depend on it, in
-words, which are the same ones in the report and on the page; so are they of each row of a directory once its class is
-taken away. Behind them come the descriptors that the classes of Windows' schema give to their objects, if Debian's
-samba-ad-provision is there: nothing is to be found in them.
+"""Runs the rows of windows/examples.toml on sdtool-audit or the page. It runs over the library in out/lib or the one
+that SDTOOL_LIBRARY names. With --page it runs them on the page, in Node over the module that `make wasm` builds: as a
+paste, by a link, and opened in a report of sdtool-audit, whose own findings have to be the same. The rows were worked
+out by hand: each has the findings that there have to be, and no others. Where a row has no class these may depend on
+it, in words, which are the same ones in the report and on the page; so are they of each row of a directory once its
+class is taken away. Behind them come the descriptors that the classes of Windows' schema give to their objects, if
+Debian's samba-ad-provision is there: nothing is to be found in them.
 """
 import base64
 import csv

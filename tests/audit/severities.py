@@ -1,7 +1,7 @@
-"""How grave the findings of `sdtool-audit risks` are. Over the masks of windows/examples.toml what implies something is
-at least as grave: more rights, a right for all object types, and the rights to change permissions or the owner and
-owning an object, which contain all others. What takes over a directory object is high. Fewer rules find all that they
-found among more, and nothing graver. It needs what tests/audit/audit.py needs.
+"""Tests the severities of `sdtool-audit risks`. Over the masks of windows/examples.toml what implies something is at
+least as grave: more rights, a right for all object types, and the rights to change permissions or the owner and owning
+an object, which contain all others. What takes over a directory object is high. Fewer rules find all that they found
+among more, and nothing graver. It needs what tests/audit/audit.py needs.
 """
 import itertools
 

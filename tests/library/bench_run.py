@@ -1,6 +1,6 @@
-"""Tries bench/run, which compares two built checkouts, on a small part of a workload: with the same checkout as OLD and
-as NEW it prints a row of its table and writes its ratio. It stops where an output differs, where a workload has no such
-name, and where a program fails. It needs sd_bench as `rt ci` builds it.
+"""Tests bench/run on a small part of a workload: with the same checkout as OLD and as NEW it prints a row of its table
+and writes its ratio. It stops where an output differs, where a workload has no such name, and where a program fails. It
+needs sd_bench as `rt ci` builds it.
 """
 import pathlib
 import re

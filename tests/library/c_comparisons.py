@@ -1,6 +1,6 @@
-"""Tests that the built library, out/lib, compares each SID of a token with each ACE at most once in a check, a run or
-reasons. No contract says that of a call that makes its own token, so this counts instructions, by valgrind's callgrind
-(Debian's package valgrind). Where it is missing, a line says that this was skipped.
+"""Tests that the library compares a SID and an ACE at most once, in a check, a run or reasons. No contract says that of
+a call that makes its own token, so this counts instructions, by valgrind's callgrind (Debian's package valgrind). Where
+it is missing, a line says that this was skipped.
 
 tests/library/c/comparisons.c checks DACLs of 500 and of 1,000 ACEs for tokens of 500 and of 1,000 SIDs. What grows with
 both numbers is the comparisons, and 16 of them are one step of the processor's vectors. So a step has a limit, and a

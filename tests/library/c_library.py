@@ -1,6 +1,6 @@
-"""Tests the built library, out/lib, from C and from Python. Each answer of a call has to be what the program answers to
-the same line: for each line of the worked rows, and random changes of them. Checks and derivations have to answer what
-the worked rows say, and random ones what the program answers; also tried are arguments that no words spell.
+"""Tests the calls of the library from C and Python. Each answer of a call has to be what the program answers to the
+same line: for each line of the worked rows, and random changes of them. Checks and derivations have to answer what the
+worked rows say, and random ones what the program answers; also tried are arguments that no words spell.
 tests/library/c/calls.c also tries each size of the output, refused allocations and threads, and looks at what is
 allocated; it runs under the address sanitizer if the compiler has it, and under valgrind if that is there.
 tests/library/c/runs.c does the same for runs: each row without devices of its own, and in each size of the output:

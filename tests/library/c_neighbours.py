@@ -1,5 +1,5 @@
-"""What is just beside each argument that the library, out/lib, takes. What include/sdtool.h lists is answered as the
-reference answers it, and all else is the argument that is wrong.
+"""Tries arguments of the library just outside what it takes. What include/sdtool.h lists is answered as the reference
+answers it, and all else is the argument that is wrong.
 
   numbers  of each enumeration: 0 to 300, each power of two with those beside it, and the greatest; each byte of an
            entry, of an ACE's type and of its flags

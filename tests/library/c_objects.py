@@ -1,14 +1,13 @@
-"""Tests the library's calls for SIDs, parts, ACEs, many checks, tokens and building, from tests/library/c/objects.c.
-What they answer has to be what the program answers: of descriptors the lines of `explain` or the `error` line, and what
-is built of the parts the layout that `convert` writes; of ACLs the same lines, up to the ACE that can't be read; of
-SIDs and their texts what `convert` does with an owner or a trustee; of many checks, and of checks with a token that is
-read once, the lines of `check`. The lines are those of the worked rows, the hostile ones of compare.py, and random
-ones. The cases of arguments, of ACLs round their limit, of 100,000 descriptors and of the time of long walks are in
-objects.c, which also tries each size of the outputs, and walks through ACLs while they change. examples/may_read.c has
-to print what docs/LIBRARY.md shows.
-
-It runs plain, under the sanitizers for addresses and undefined behaviour if the compiler has them, under valgrind if
-that is there, and with a page that cannot be touched behind each block and in front of it.
+"""Tests the library's calls for SIDs, ACEs, tokens and building, and for parts and many checks, by
+tests/library/c/objects.c. What they answer has to be what the program answers: of descriptors the lines of `explain` or
+the `error` line, and what is built of the parts the layout that `convert` writes; of ACLs the same lines, up to the ACE
+that can't be read; of SIDs and their texts what `convert` does with an owner or a trustee; of many checks, and of
+checks with a token that is read once, the lines of `check`. The lines are those of the worked rows, the hostile ones of
+compare.py, and random ones. The cases of arguments, of ACLs round their limit, of 100,000 descriptors and of the time
+of long walks are in objects.c, which also tries each size of the outputs, and walks through ACLs while they change.
+examples/may_read.c has to print what docs/LIBRARY.md shows. It runs plain, under the sanitizers for addresses and
+undefined behaviour if the compiler has them, under valgrind if that is there, and with a page that cannot be touched
+behind each block and in front of it.
 """
 import pathlib
 import random

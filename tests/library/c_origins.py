@@ -1,4 +1,4 @@
-"""Asks the library, out/lib, where each ACE of a derived descriptor comes from.
+"""Asks the library where each ACE of a derived descriptor comes from.
 
   lines  20,000 random derivations, half of them with a creator's descriptor, a tenth with a damaged one: the origins
          are those of the reference, as many as the ACEs that sdtool_derive gives, and a fault is the reference's. With

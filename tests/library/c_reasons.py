@@ -1,4 +1,4 @@
-"""Asks the library, out/lib, why each right is granted or denied.
+"""Asks the library why each right is granted or denied.
 
   lines  100,000 random descriptors, a fifth of them damaged, each with a token and a question that fit it: the reasons
          are those of the reference, by both calls, and a fault is the reference's. After a fault all 25 are nothing.

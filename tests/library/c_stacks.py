@@ -1,4 +1,4 @@
-"""Tests how much stack the calls of the built library, out/lib, need. include/sdtool.h promises an upper bound.
+"""Tests how much stack the calls of the library need. include/sdtool.h promises an upper bound.
 
   by the code     No function of libsdtool.a calls itself, directly or by way of others, and none calls through a
                   pointer. So the stack of a call is that of the longest way down, which is added up from the

@@ -1,5 +1,5 @@
-"""Looks for what the reference (tests/reference/places.py) says of the places of faults that its definition does not
-allow, and for what the built library, out/lib, says otherwise:
+"""Compares the places of faults with their definition. It refuses what the reference (tests/reference/places.py) says
+that this does not allow, and what the built library says otherwise:
 
   rows     faults of bytes and of SDDL whose places were counted by hand
   laws     of random lines of SDDL: the place's fault is the fault, its range is in the text, it is the field that does

@@ -1,4 +1,4 @@
-"""Compares what the built library, out/lib, says of faults with docs/FORMAT.md.
+"""Compares what the library says of faults with docs/FORMAT.md.
 
 sdtool_describe gives for each fault, part, ACE, field and argument the sentence that the words of its tables make, and
 the sentence of Python's exception; nothing of a place of another fault or past all texts; 71 and nothing written for

@@ -1,4 +1,4 @@
-"""Runs `python3 -m sdtool.distributed` over Dask clusters, which are processes on 127.0.0.1, and in one process.
+"""Runs `python3 -m sdtool.distributed` over Dask clusters, and in one process. The clusters are processes on 127.0.0.1.
 Whatever happens, an answer file that is there has to be what the program writes. The commands run on hostile lines, cut
 into blocks of 1 KB. Then workers have another library, see other files, come late, are stopped, killed or all gone; the
 scheduler dies; the library answers wrongly; disks are full; runs are interrupted and done again after inputs, answers,

@@ -1,4 +1,4 @@
-"""What may go wrong around a run of `python3 -m sdtool.distributed`, each by itself, on clusters of real processes:
+"""Tries what may go wrong around `python3 -m sdtool.distributed`: each by itself, on clusters of real processes:
 folders that cannot be listed, files that are no inputs, files of others at the places of answers, workers that fail,
 hang, die or are others, outputs that vanish, words that are wrong. After each run the test compares what was listed
 with what was answered: an input has the answers of the program, or standard error names it and the status is 3.

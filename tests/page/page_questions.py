@@ -1,9 +1,8 @@
-"""Asks the page's desk, in Node, about kinds of objects for which the library has no mapping of generic rights and no
-words about levels. It runs over the module that `make wasm` builds. What is unknown is said to be, nothing that is
-granted is left out, and the copied command has the same answer. Where nothing tells the kind, each view asks for it,
-and answers nothing that depends on it. A text that begins with a front of SDDL is refused where tests/reference refuses
-it, at that place. Expected values are those of winnt.h, winspool.h and certadm.h. Without Node or the module it is
-skipped in a line.
+"""Asks the page about kinds of objects that the library doesn't map. It asks the desk, in Node. It runs over the module
+that `make wasm` builds. What is unknown is said to be, nothing that is granted is left out, and the copied command has
+the same answer. Where nothing tells the kind, each view asks for it, and answers nothing that depends on it. A text
+that begins with a front of SDDL is refused where tests/reference refuses it, at that place. Expected values are those
+of winnt.h, winspool.h and certadm.h. Without Node or the module it is skipped in a line.
 """
 import base64
 import json

@@ -1,13 +1,13 @@
-"""Feeds the program thousands of lines, among them broken and hostile ones, and compares each answer with the one of
-the reference: from a file, in random pieces through a pipe, in many short inputs with all kinds of ends, and a few
-lines in every cut at two places; from hex, base64 and SDDL; as hex and base64, and as SDDL or explained, without a
-domain, under several domains, and with numbers alone. What is printed as SDDL, and what is spelled otherwise than it
-would be printed, is compared with the descriptor that it was made from. Checks ask for what has to do with the
-descriptors: by tokens of SIDs that stand in them, about rights and object types of their ACEs, at levels near those of
-their labels. Many of these ACEs are for OWNER RIGHTS or PRINCIPAL SELF. What is derived comes from descriptors whose
-ACEs are handed on, for owners and groups that stand in them, and from creators' descriptors of the same kind. There are
-as many checks, and as many derivations, as --lines says: `--only checks --only derivations --lines 100000` takes about
-four minutes on an idle processor. The same seed gives the same lines.
+"""Compares the program with the reference on thousands of lines, many of them broken and hostile: from a file, in
+random pieces through a pipe, in many short inputs with all kinds of ends, and a few lines in every cut at two places;
+from hex, base64 and SDDL; as hex and base64, and as SDDL or explained, without a domain, under several domains, and
+with numbers alone. What is printed as SDDL, and what is spelled otherwise than it would be printed, is compared with
+the descriptor that it was made from. Checks ask for what has to do with the descriptors: by tokens of SIDs that stand
+in them, about rights and object types of their ACEs, at levels near those of their labels. Many of these ACEs are for
+OWNER RIGHTS or PRINCIPAL SELF. What is derived comes from descriptors whose ACEs are handed on, for owners and groups
+that stand in them, and from creators' descriptors of the same kind. There are as many checks, and as many derivations,
+as --lines says: `--only checks --only derivations --lines 100000` takes about four minutes on an idle processor. The
+same seed gives the same lines.
 """
 import functools
 import itertools

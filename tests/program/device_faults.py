@@ -1,5 +1,5 @@
-"""Fails the program's reads and writes, by a small library (faults.c) that is preloaded under it: each of a few runs in
-turn, once and for good, in several of the ways in which such a call fails. The library tells of each call, so that is
+"""Fails the program's reads and writes: each of a few runs in turn, once and for good, in several of the ways in which
+such a call fails. A small library (faults.c) that is preloaded under it fails them, and tells of each call, so that is
 seen which ones came after the failed one.
 
   A read that fails     60 and status 3. The answers to the lines that had ended arrived before it, nothing after it.

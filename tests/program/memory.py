@@ -1,6 +1,6 @@
-"""Holds the memory that the built program ever has resident to 4 MiB, as Linux counts it (VmHWM in /proc), while its
-input is still open: on lines of more than 2^32 bytes, whose answer and the one to the line behind them are looked at
-too, and on the longest lines that are read.
+"""Tests that the program never has more than 4 MiB resident, as Linux counts it (VmHWM in /proc), while its input is
+still open: on lines of more than 2^32 bytes, whose answer and the one to the line behind them are looked at too, and on
+the longest lines that are read.
 """
 import array
 import fcntl

@@ -1,6 +1,5 @@
-"""What stands in no table: what is just beside each thing that the program takes, compares or gives a meaning. Answers
-are those of the reference, which follows MS-DTYP 2.4 and 2.5; what is no text, no command or no option is `sdtool:
-usage`.
+"""Tries what is just beside each word, number and line that the program takes. Answers are those of the reference,
+which follows MS-DTYP 2.4 and 2.5; what is no text, no command or no option is `sdtool: usage`.
 
   words    of each option with a list of values: each text of one byte and of two printable ones (c_neighbours.py has
            all of two bytes), each value with a character more, less, changed or in capitals, each value of the other

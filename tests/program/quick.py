@@ -1,8 +1,8 @@
-"""What can be looked at without a proof, in about a minute: `rt try` builds the program from its sources as they stand,
-proves nothing and keeps no file. It is given the lines of worked rows (rows/) but for very long ones, all with the same
-words in one run where there are two rows or more, or help is asked for, and random lines of compare.py, whose answers
-are those of the reference. It stops too where an index is out of bounds, a number overflows or memory is used wrongly.
-The reference is compared with the rows first.
+"""Runs rows and random lines without a proof, in about a minute: `rt try` builds the program from its sources as they
+stand, proves nothing and keeps no file. It is given the lines of worked rows (rows/) but for very long ones, all with
+the same words in one run where there are two rows or more, or help is asked for, and random lines of compare.py, whose
+answers are those of the reference. It stops too where an index is out of bounds, a number overflows or memory is used
+wrongly. The reference is compared with the rows first.
 """
 import collections
 import pathlib

@@ -1,5 +1,5 @@
-"""Refuses the program's allocations, by a small library (refuse.c) that is preloaded under it. First each allocation of
-a few command lines in turn: the program says `sdtool: no memory`, ends with status 4, and has neither read nor written
+"""Refuses the program's allocations. A small library (refuse.c) is preloaded under it. First each allocation of a few
+command lines in turn: the program says `sdtool: no memory`, ends with status 4, and has neither read nor written
 anything. One allocation of each may be dispensable: refused, it changes nothing. Before its first read the program
 takes memory for the token, in two allocations, and for the engine, in four that are as large as a descriptor or larger:
 none of them is dispensable. No allocation is larger than the engine's buffer for base64, of 174,968 bytes, so a buffer

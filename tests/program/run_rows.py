@@ -1,8 +1,7 @@
-"""Runs the rows of the folder rows, by subject, on the built program, and compares what it writes and its exit status.
-With --one-byte the input comes one byte a read; rows that ask for a device of their own are left out. With --reference
-no program is run: the answers of the reference are compared, in all rows that answer lines or name an option whose
-value does not read, and ask for no device, so that the rows and what compare.py compares with are known to say the
-same.
+"""Runs the worked rows of tests/rows/ on the built program, and compares what it writes and its exit status. With
+--one-byte the input comes one byte a read; rows that ask for a device of their own are left out. With --reference no
+program is run: the answers of the reference are compared, in all rows that answer lines or name an option whose value
+does not read, and ask for no device, so that the rows and what compare.py compares with are known to say the same.
 
 A file has its rows and their source: the section of the standard that gives the values, another implementation, or the
 document that has the rule where no standard says it. A row with another source names it.

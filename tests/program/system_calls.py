@@ -1,5 +1,5 @@
-"""Counts the program's reads and writes, by the library faults.c that is preloaded under it, and holds them to a limit:
-a read for each 64 KiB of the input, and a write for each read and for each 64,000 bytes of the output. So an answer of
+"""Holds the program's reads and writes to a limit: a read for each 64 KiB of the input, and a write for each read and
+for each 64,000 bytes of the output. The library faults.c, which is preloaded under it, counts them. So an answer of
 many bytes goes out in few writes, and so do the answers to many lines that were read at once. What else the program
 asks of the system is not counted.
 """

@@ -1,5 +1,5 @@
-"""The program's tables, over the whole range of their keys: what is listed has its value, and nothing else is there.
-The values are those of the reference, from MS-DTYP 2.4.2.4, 2.4.3, 2.4.4.1 and 2.5.1.
+"""Tries every key of the program's tables: what is listed has its value, and nothing else is there. The values are
+those of the reference, from MS-DTYP 2.4.2.4, 2.4.3, 2.4.4.1 and 2.5.1.
 
   read      every text of two letters in each case, as an alias under a domain and under none, as rights, as flags and
             as a kind, by itself and beside a listed one; every single letter as a kind; every text of one or two

@@ -1,9 +1,10 @@
 #!/usr/bin/env python3
 """lying_objects.py [--without-extension]
 
-The rows of tests/python/python_lies.py, for the Python that runs it. Each argument of each call of the module gets each
-lie that there is for its type: an object that says something else of itself than what it is. What an object is follows
-from its type and from what a type of Python keeps in it; the row says which plain value that is, or that there is none.
+Has the rows of tests/python/python_lies.py. They are for the Python that runs it. Each argument of each call of the
+module gets each lie that there is for its type: an object that says something else of itself than what it is. What an
+object is follows from its type and from what a type of Python keeps in it; the row says which plain value that is, or
+that there is none.
 
 Prints a line of JSON for each row: its name, its outcome, and what is wrong with it. An outcome is the answer, or a
 refusal. It is wrong if it is neither the answer to the plain value nor a refusal, if what is no such value is not

@@ -1,7 +1,7 @@
-"""Tests the Python module over the built library, out/lib: that arguments are checked before they reach the library,
-what exceptions say and that they can be pickled, what is true and what is not, lines() beside the program on the same
-input, `python -m sdtool` beside the program on the worked rows and on streams that fail, and an import without the
-library. With mypy, the module and a caller have to pass its strict mode.
+"""Tests the Python module over the built library: that arguments are checked before they reach the library, what
+exceptions say and that they can be pickled, what is true and what is not, lines() beside the program on the same input,
+`python -m sdtool` beside the program on the worked rows and on streams that fail, and an import without the library.
+With mypy, the module and a caller have to pass its strict mode.
 """
 import concurrent.futures
 import copy

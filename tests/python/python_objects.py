@@ -1,9 +1,9 @@
-"""Tests the Python module's objects over the built library, out/lib. What they say of each descriptor of the worked
-rows has to be what the independent implementation (tests/reference) says, and what they build of its parts has to be
-its layout. Checks and derivations have to answer what the worked rows say. Also tested: that objects cannot be changed,
-that they are equal exactly if their content is, that each repr reads back, that they can be pickled, copied and shared
-by threads and processes, what a null and an absent ACL are, and what cannot be built. hypothesis makes random
-descriptors, texts and objects that have to come back as they were; without python3-hypothesis that part is skipped.
+"""Tests the Python module's objects over the built library. What they say of each descriptor of the worked rows has to
+be what the independent implementation (tests/reference) says, and what they build of its parts has to be its layout.
+Checks and derivations have to answer what the worked rows say. Also tested: that objects cannot be changed, that they
+are equal exactly if their content is, that each repr reads back, that they can be pickled, copied and shared by threads
+and processes, what a null and an absent ACL are, and what cannot be built. hypothesis makes random descriptors, texts
+and objects that have to come back as they were; without python3-hypothesis that part is skipped.
 
 All of it is tried by the module's extension, where that is built, and by ctypes.
 """

@@ -1,7 +1,7 @@
-"""Tests sdtool.plain_descriptors, and what sdtool-audit makes of it, over the built library, out/lib. Each descriptor
-of the worked rows, random ones, and as many of them with damage have to be what the independent implementation
-(tests/reference) reads, or have its error line: as bytes, as objects, and as texts of SDDL with and without a domain;
-and by the audit as lines of hex, base64 and SDDL. Also tested: that what comes again is shared, and what is refused.
+"""Tests sdtool.plain_descriptors, and sdtool-audit over it. Each descriptor of the worked rows, random ones, and as
+many of them with damage have to be what the independent implementation (tests/reference) reads, or have its error line:
+as bytes, as objects, and as texts of SDDL with and without a domain; and by the audit as lines of hex, base64 and SDDL.
+Also tested: that what comes again is shared, and what is refused.
 
 All of it is tried by the module's extension, where that is built, and by ctypes.
 """

@@ -1,9 +1,9 @@
-"""Compiles the extension for each system, and tests the Python wheels of what is built in out/systems. The one for this
-machine is installed by pip into an empty virtual environment of the oldest and the newest Python 3 from 3.8 on that are
-there. The module has to use its extension; without the extension's file, and where the environment names another
-library, it has to give the same answers through ctypes. What a wheel for another system cannot show here is looked at:
-for which machine its files are, which C library and which names of Python they need, and what its tag and its record
-say. Two builds have to give the same bytes.
+"""Tests the Python wheels, and compiles the extension for each system. The wheels are of what is built in out/systems.
+The one for this machine is installed by pip into an empty virtual environment of the oldest and the newest Python 3
+from 3.8 on that are there. The module has to use its extension; without the extension's file, and where the environment
+names another library, it has to give the same answers through ctypes. What a wheel for another system cannot show here
+is looked at: for which machine its files are, which C library and which names of Python they need, and what its tag and
+its record say. Two builds have to give the same bytes.
 """
 import base64
 import csv

@@ -1,4 +1,5 @@
-"""Checks which modules of which crates the files of each crate name, and how large it is. Each crate has four checks:
+"""Checks what each crate, and each module of audit and page, may import. It also checks the size of crates. Each crate
+has four checks:
 
   parts of others  no file names another crate's `specs.Inner`, or a module of its `proofs` outside `proofs.laws`
   laws             no file of `proofs/laws` names `specs.Inner` of its own crate, or the goals of one of its functions

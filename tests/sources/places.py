@@ -1,8 +1,8 @@
-"""The tables of docs/ARCHITECTURE.md say which places a change touches: an alias, an error, a kind of ACE, a format, a
-question, a rule or a report of sdtool-audit. Each table is held to one instance of its subject that the sources have.
-Every file that names the instance has to be in the table, and of each row some file has to name it. So whoever adds a
-table, a binding or a list that a change has to follow also adds it there. --files prints the files of a subject and
-stops; an option and a further input of a command have no table.
+"""Compares the tables of docs/ARCHITECTURE.md with the files that a change touches: an alias, an error, a kind of ACE,
+a format, a question, a rule or a report of sdtool-audit. Each table is held to one instance of its subject that the
+sources have. Every file that names the instance has to be in the table, and of each row some file has to name it. So
+whoever adds a table, a binding or a list that a change has to follow also adds it there. --files prints the files of a
+subject and stops; an option and a further input of a command have no table.
 """
 import fnmatch
 import functools

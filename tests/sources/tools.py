@@ -1,6 +1,6 @@
-"""Runs the scripts that write files from other files: each file has to be as it is written. Also looks whether each
-edit still applies, what formatters and linters say, whether tools/literals.py keeps the reasons in its file, and for
-files at which the gate stops before its first proof.
+"""Tests that files written by scripts are as they write them. Also looks whether each edit still applies, what
+formatters and linters say, whether tools/literals.py keeps the reasons in its file, and for files at which the gate
+stops before its first proof.
 """
 import subprocess
 

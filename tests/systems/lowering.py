@@ -1,8 +1,8 @@
-"""Tests systems/lower_memory.py, by which modules for WebAssembly get a 32-bit memory. For each load and store of
-vectors that wasm-opt's pass leaves at 64 bits there is a module of one function. wasm-as has to refuse what the pass
-makes of it. What the script makes of it has to do in Node what the instruction's definition says, at an address with an
-offset. An instruction for memory that nothing is known to lower has to be refused by its name. It needs Node and
-binaryen, and is skipped without them.
+"""Tests systems/lower_memory.py, which gives WebAssembly a 32-bit memory. For each load and store of vectors that
+wasm-opt's pass leaves at 64 bits there is a module of one function. wasm-as has to refuse what the pass makes of it.
+What the script makes of it has to do in Node what the instruction's definition says, at an address with an offset. An
+instruction for memory that nothing is known to lower has to be refused by its name. It needs Node and binaryen, and is
+skipped without them.
 """
 import json
 import pathlib
