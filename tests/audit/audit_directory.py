@@ -113,6 +113,10 @@ def test_domain_of_the_source(place: Place) -> None:
     place.expect([("the domain is " + DOMAIN + ", as one.ldif says" in ended.stderr),
                   "names of 3 SIDs" in ended.stderr], [True, True],
                  f"a source's own domain is said: {ended}")
+    for to in ("csv", "jsonl", "sarif", "markdown"):
+        text = place.ask("risks", "one.ldif", "--to", to).stdout
+        place.expect([text.count(f"the domain is {DOMAIN}, as one.ldif says"), text.count("names of 3 SIDs")], [1, 1],
+                     f"a source's own domain in {to}: {text}")
     without_domain = "".join(line for line in ended.stdout.splitlines(True)
                              if not line.startswith("the domain is " + DOMAIN))
     place.expect((place.ask("risks", "one.ldif", "--domain", DOMAIN).stdout, without_domain != ended.stdout),

@@ -31,6 +31,7 @@ class Report:
         self.output, self.accepted, self.summary = output, accepted, Summary(said)
         self.groups = Groups(output.rows, is_each, output.lists_all)
         self.seen = 0
+        self._unsaid = said  # in the rows
 
     def answer(self, engine: Engine, items: Iterable[Item]) -> None:
         """Reports the answers for objects."""
@@ -51,7 +52,14 @@ class Report:
             if lists_all or is_listed(answer):
                 if has_plain_rows or answer.findings:
                     groups.add(item, answer)
-                output.add(item, answer, groups)
+                output.add(self._saying(item) if self._unsaid else item, answer, groups)
+
+    def _saying(self, item: Item) -> Item:
+        """An object whose row also says what decides about all: the first one that was read."""
+        if not item.form:
+            return item
+        said, self._unsaid = self._unsaid, ()
+        return item._replace(help="; ".join(filter(None, (item.help, *said))))
 
     def count(self, answer: Answer, count: int) -> None:
         """Counts so many objects with an answer that no report lists."""
