@@ -22,8 +22,8 @@ function isFor(ability, sid, domain, isTold) {
     return ability.only !== "everybody" || everybodyClass(sid) !== null;
 }
 
-const means = (ability, classes) =>
-    classes.length === 0 ? !ability.known : ability.on.length === 0 || ability.on.some((one) => classes.includes(one));
+const means = ({known, on}, {classes, isBelow}) =>
+    (classes.length === 0 ? !(known && isBelow) : on.length === 0 || on.some((one) => classes.includes(one)));
 
 // Whether all, or any, object types give an ability, or each that nothing names.
 const isOfAll = ({types}) => types.some(([type]) => type === "");
@@ -83,7 +83,7 @@ export function abilitiesOf(sid, got, where, {gives, givesAll}, isTold, domain) 
     const found = new Map();
     for (const ability of ABILITIES) {
         if (found.has(ability.name) || found.has(ability.unless) || !isFor(ability, sid, domain, isTold) ||
-            !means(ability, where.classes)) {
+            !means(ability, where)) {
             continue;
         }
         const told = {

@@ -2,21 +2,24 @@
 // known, what would be found of each is told with the classes that it depends on.
 import {risksOf} from "./risks.mjs";
 import {guidNames} from "./schema.mjs";
-import {ABILITIES, DEFAULTS, PROTECTING} from "./windows.mjs";
+import {ABILITIES, CONTAINERS, DEFAULTS, PROTECTING} from "./windows.mjs";
 
 const OTHER = "other"; // stands for a class that nothing names
 const CHILDREN = 0x3;  // rights whose object type is a class
 const MOST = 10_000;   // ACEs times classes
 const PLACES = [PROTECTING[0], ...DEFAULTS.flatMap(([, , at]) => at)];
-const BELOW_A_HEAD = /^,\s*(?:DC=|CN=System,|CN=Services,|CN=Configuration,)/i;
+const BELOW_A_HEAD = new RegExp(`^,\\s*(?:DC=|CN=(?:${CONTAINERS.join("|")}),)`, "i");
 const WITHOUT_ACCOUNTS = /^DC=(?:Domain|Forest)DnsZones,/i;
 
-// The place of an object with a name, which may be empty.
+// The place of an object with a name, which may be empty. Without classes the name says nothing.
 export function placeOf(name, classes) {
+    if (!classes.length) {
+        return {classes, named: "", hasAccounts: true};
+    }
     const first = /^(?:[^,\\]|\\[^])*/.exec(name)[0];
     const isBelowHead = BELOW_A_HEAD.test(name.slice(first.length));
     const named = (isBelowHead && PLACES.find((place) => place.toLowerCase() === first.toLowerCase())) || "";
-    const own = named === PROTECTING[0] && classes.length ? [...PROTECTING[1], ...classes] : classes;
+    const own = named === PROTECTING[0] ? [...PROTECTING[1], ...classes] : classes;
     return {classes: own, named, hasAccounts: !WITHOUT_ACCOUNTS.test(name)};
 }
 

@@ -65,7 +65,7 @@ function wantedOf(sid, kind, domain) {
 function isDefault(ace, mask, ofChildren, {kind, domain, classes, named}) {
     const relative = relativeOf(ace.sid);
     const isKnown = relative && (!domain || relative.domain === domain);
-    return DEFAULTS.some(([kinds, ofClasses, at, who, allowed, object, inherited, below, known]) => {
+    return DEFAULTS.some(([kinds, ofClasses, at, who, allowed, object, inherited, below]) => {
         const isTrustee = who === ace.sid || (isKnown && who === relative.number);
         if (!isTrustee || !kinds.includes(kind) || ((below ? ofChildren : mask) & ~allowed) !== 0) {
             return false;
@@ -78,9 +78,6 @@ function isDefault(ace, mask, ofChildren, {kind, domain, classes, named}) {
         }
         if (ace.flags.includes("ID")) {
             return below;
-        }
-        if (classes.length === 0) {
-            return !known;
         }
         return (ofClasses.length === 0 && at.length === 0) || ofClasses.includes(classes.at(-1)) || at.includes(named);
     });
@@ -370,7 +367,7 @@ function ofBelow(library, {below, kept, own, beyond, wanted, ofSid}, options) {
         let had = own.got(sid);
         const told = new Set(ofSid(sid, had).map(keyOf));
         const classes = classesOf(aces.map((ace) => ace.inherited));
-        const where = {classes, own: classes, hasAccounts: false};
+        const where = {classes, own: classes, hasAccounts: false, isBelow: true};
         return children.flatMap((child) => {
             const got = beyond(child, sid, below);
             if (!isDirectory(kind)) {

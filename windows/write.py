@@ -187,20 +187,18 @@ def mask_of(row):
 
 
 def read_defaults(schema, kinds):
-    defaults = []
-    for row in table("defaults")["default"]:
+    given, defaults = table("defaults"), []
+    for row in given["default"]:
         expect(set(row) <= {"kinds", "classes", "at", "sid", "number", "account", "mask", "rights", "object",
-                            "inherited", "known",
-                            "below"}, f"{row}: another key")
+                            "inherited", "below"}, f"{row}: another key")
         expect(len({"sid", "number", "account"} & set(row)) == 1, f"{row}: one trustee")
         expect(set(row.get("kinds", ())) <= set(kinds), f"{row}: no such kind")
         expect(set(row.get("classes", ())) <= set(schema.guids["class"]), f"{row}: no such class")
         defaults.append((tuple(row.get("kinds", ("ds", "template"))), tuple(row.get("classes", ())),
                          tuple(row.get("at", ())), row.get("sid") or row.get("account") or row["number"], mask_of(row),
                          schema.guid(row["object"]) if row.get("object") else row.get("object", "*"),
-                         schema.guid(row["inherited"], "class") if "inherited" in row else "", row.get("below", False),
-                         row.get("known", False)))
-    return {"DEFAULTS": tuple(defaults)}
+                         schema.guid(row["inherited"], "class") if "inherited" in row else "", row.get("below", False)))
+    return {"DEFAULTS": tuple(defaults), "CONTAINERS": tuple(given["containers"])}
 
 
 def read_rules():
@@ -356,7 +354,8 @@ def python_text(tables, schema):
         "CONDITION": ("Dict[str, str]",
                       "How a finding begins that depends on the class of an object, which isn't known."),
         "DEFAULTS": ("Tuple[Tuple[Any, ...], ...]", "Windows' own ACEs: kinds, classes, places, trustee, mask, object "
-                     "type, inherited type, below, known."),
+                     "type, inherited type, below."),
+        "CONTAINERS": ("Tuple[str, ...]", "What their places are below, beside the heads of naming contexts."),
         "SEVERITIES": ("Tuple[str, ...]", "How grave a finding is, the gravest first."),
         "RULES": ("Tuple[Tuple[str, str, bool, str, str, str], ...]",
                   "Rules of risks: name, severity, whether it is off, reason, words of the page, severity for "
@@ -446,8 +445,8 @@ def script_text(tables, schema):
     lines = ["// What Windows means by SIDs, rights, kinds of objects and types, and what errors mean, by "
              "windows/write.py."]
     for name in ("SIDS", "OF_A_DOMAIN", "FAMILIES", "USUAL", "KINDS", "ABILITIES", "HARMLESS", "DESCRIPTORS",
-                 "PROTECTING", "CONDITION", "DEFAULTS", "SEVERITIES", "RULES", "RULE_OF", "RISKS_OF", "QUIET",
-                 "ATTRIBUTES", "PRIVILEGES", "HINTS", "REPORT", "ERRORS"):
+                 "PROTECTING", "CONDITION", "DEFAULTS", "CONTAINERS", "SEVERITIES", "RULES", "RULE_OF", "RISKS_OF",
+                 "QUIET", "ATTRIBUTES", "PRIVILEGES", "HINTS", "REPORT", "ERRORS"):
         lines.append(f"export const {name} = {json_value(plain(of_page(name, tables)), '')};")
     lines.append("// Of each type the end of GUIDs, and then for each GUID with that end its first eight digits and "
                  "its name.")

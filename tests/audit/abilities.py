@@ -72,7 +72,6 @@ class Given(NamedTuple):
 
     aces: str
     gives: bool
-    is_typed: bool = False  # by an object type that is none of the object's class
 
 
 KINDS = {"CR": ("right", "set", "attribute"), "WP": ("attribute", "set"), "SW": ("write",), "CC": ("class",)}
@@ -119,7 +118,7 @@ def givens(row, of_class):
         "(A;;GR;;;{})", "(A;IO;GA;;;{})", "(D;;GA;;;{})(A;;GA;;;{})", f"(D;;{right};;;{{}})(A;;{right};;;{{}})",
         f"(OD;;{right};{of_class};;{{}})(A;;{right};;;{{}})", f"(D;;{right};;;{{}})(OA;;{right};{of_class};;{{}})"))
     if {"*", "?"} & set(row["types"]):
-        yield Given(f"(OA;;{right};{ELSEWHERE};;{{}})", True, True)
+        yield Given(f"(OA;;{right};{ELSEWHERE};;{{}})", True)
     elif paths or needs_schema(row):
         yield Given(f"(OA;;{right};{ELSEWHERE};;{{}})", False)
     if row.get("all"):
@@ -133,7 +132,7 @@ def givens(row, of_class):
 
 def of_several(right, leaves, of_class):
     """The same of object types that are needed together."""
-    yield Given("".join(f"(OA;;{right};{leaf};;{{}})" for leaf in leaves), True, True)
+    yield Given("".join(f"(OA;;{right};{leaf};;{{}})" for leaf in leaves), True)
     for leaf in leaves:
         yield Given(f"(OA;;{right};{leaf};;{{}})", False)
         yield Given(f"(OD;;{right};{leaf};;{{}})(A;;{right};;;{{}})", False)
@@ -143,15 +142,15 @@ def of_several(right, leaves, of_class):
 def of_path(right, leaf, of_set, of_class):
     """The same of one object type. The first ACE decides that is for it, for its set, for the class or for all."""
     allowed, denied = f"(OA;;{right};{leaf};;{{}})", f"(OD;;{right};{leaf};;{{}})"
-    yield from (Given(aces, True, True) for aces in (
+    yield from (Given(aces, True) for aces in (
         allowed, f"(OA;;GA;{leaf};;{{}})", f"{allowed}(D;;GA;;;{{}})", f"{allowed}(OD;;{right};{of_class};;{{}})"))
     yield from (Given(aces, False) for aces in (
         f"(OA;;RC;{leaf};;{{}})", f"(OA;IO;{right};{leaf};;{{}})", f"(D;;{right};;;{{}}){allowed}",
         f"(OD;;{right};{of_class};;{{}}){allowed}"))
     if not of_set:
         return
-    yield Given(f"(OA;;{right};{of_set};;{{}})", True, True)
-    yield Given(f"{allowed}(OD;;{right};{of_set};;{{}})", True, True)
+    yield Given(f"(OA;;{right};{of_set};;{{}})", True)
+    yield Given(f"{allowed}(OD;;{right};{of_set};;{{}})", True)
     yield from (Given(aces, False) for aces in (
         f"{denied}(OA;;{right};{of_set};;{{}})", f"(OD;;{right};{of_set};;{{}}){allowed}",
         f"(OD;;{right};{of_set};;{{}})(A;;{right};;;{{}})"))
@@ -238,8 +237,6 @@ def judge_named(place, name, source, is_known, *words):
     """What is asked for by name is found by whatever gives it, and by nothing else. is_known: the classes are."""
     of_who = findings(place, "who", name, source, *words)
     of_risks = findings(place, "risks", source, "--rules", name, *words)
-    # What is told where the class is known alone isn't told of an object type elsewhere.
-    needs_class = any(row.get("known") for row in rows_of(name))
     for one in entries_of(name):
         if not is_known and not one.given.gives and "(OD;" in one.given.aces:
             continue  # what objects of this class lack those of another may have: see test_conditions
@@ -247,8 +244,7 @@ def judge_named(place, name, source, is_known, *words):
         told = [name] * gives + [UNNAMED] * stands_in(name, one, is_known)
         place.expect(counted([found[:3] for found in of_who[one.name] if found[0] == "who"], is_known),
                      [("who", one.trustee, each) for each in told], f"who {name} of {one.of_class} {words} {one.sddl}")
-        is_told = gives and not (needs_class and not is_known and one.given.is_typed)
-        place.expect(counted([found[:2] for found in of_risks[one.name]], is_known), [(name, one.trustee)] * is_told,
+        place.expect(counted([found[:2] for found in of_risks[one.name]], is_known), [(name, one.trustee)] * gives,
                      f"risks --rules {name} of {one.of_class} {words} {one.sddl}")
 
 
@@ -365,30 +361,51 @@ def classes_in(conditions, classes):
 
 @functools.lru_cache(None)
 def all_classes():
-    """The classes that abilities, and defaults which count only where the class is known, mean something for."""
-    rows = [row.get("on", ()) for row in table("directory")["ability"]]
-    rows += [row.get("classes", ()) for row in table("defaults")["default"] if row.get("known")]
-    return {OTHER_CLASS, *itertools.chain(*rows)}
+    """The classes that abilities and defaults name, and one more."""
+    rows = [*table("directory")["ability"], *table("defaults")["default"]]
+    return {OTHER_CLASS, *itertools.chain(*(row.get("on", row.get("classes", ())) for row in rows))}
+
+
+@functools.lru_cache(None)
+def kind_of(name):
+    """A kind of objects, with what it has of another one."""
+    rows = {row["name"]: row for row in table("kinds")["kind"]}
+    return {**rows.get(rows[name].get("like"), {}), **rows[name]}
+
+
+@functools.lru_cache(None)
+def rights_in(words, kind):
+    """The bits of rights in words."""
+    rows = [*kind_of(kind)["rights"], *table("kinds")["standard"]]
+    bits = {row["name"]: row["bit"] for row in rows}
+    masks = {name[:1].upper() + name[1:]: mask for name, mask in kind_of(kind).get("masks", {}).items()}
+    changing = sum(row["bit"] for row in rows if "change" in row["does"])
+    named = {**bits, **masks, "every right to change": changing}
+    whole = [name for name in named if words == name or words.startswith(name + ", ")]
+    if not words:
+        return 0
+    first = max(whole, key=len, default=words.split(", ")[0])
+    return (named[first] if first in named else int(first, 0)) | rights_in(words[len(first) + 2:], kind)
 
 
 def by_class(told):
-    """Of which classes each rule tells of each trustee, in findings of rule, trustee and condition."""
+    """Of which classes each rule tells of each trustee and mask, in findings of these and a condition."""
     found = {}
-    for rule, who, condition in told:
-        found.setdefault((rule, who), []).append(condition)
+    for rule, who, mask, condition in told:
+        found.setdefault((rule, who, hex(mask)), []).append(condition)
     return {key: classes_in(conditions, all_classes()) for key, conditions in found.items()}
 
 
-def otherwise_on_page(findings, warnings):
-    """What the audit says of classes, and the page says otherwise of the same rule and trustee. The page alone tells of
-    templates where it isn't known that an object is one."""
-    own = by_class((one["rule"], sid_in(one["trustee"]), condition_in(one["text"])) for one in findings
-                   if one["trustee"])
-    shown = by_class((one.get("rule"), one.get("who", ""), condition_on_page(one)) for one in warnings)
-    templates = {who for rule, who in shown.keys() - own.keys() if rule == "template-edit"}
-    less = {key: {TEMPLATE} if key[1] in templates else set() for key in own}
-    return {key: (found, shown.get(key)) for key, found in own.items()
-            if found - less[key] != shown.get(key, set()) - less[key]}
+def otherwise_on_page(findings, warnings, kind="ds"):
+    """What the audit or the page says of a rule, a trustee, rights and classes, and the other one says otherwise."""
+    def granted(finding):
+        return functools.reduce(int.__or__, (rights_in(one["rights"], kind) for one in finding["because"]), 0)
+
+    own = by_class((one["rule"], sid_in(one["trustee"]), granted(one), condition_in(one["text"]))
+                   for one in findings if one["trustee"])
+    shown = by_class((one["rule"], one["who"], one.get("mask", 0), condition_on_page(one))
+                     for one in warnings if one.get("rule") and one.get("who"))
+    return {key: (own.get(key), shown.get(key)) for key in own.keys() | shown.keys() if own.get(key) != shown.get(key)}
 
 
 def bound_texts(name):
@@ -408,8 +425,7 @@ def judge_conditions(place, name):
     known = place.write("known.ldif", ldif([one for _, one in entries]))
     plain = place.table([(str(at), f"O:BAG:BAD:{aces.replace('{}', trustee)}") for at, aces in enumerate(texts)],
                         "plain.csv")
-    is_told_typed = not any(row.get("known") for row in rows_of(name))
-    for words, column in ((("who", name), 2), (("risks",), 0)) if is_told_typed else ((("who", name), 2),):
+    for words, column in ((("who", name), 2), (("risks",), 0)):
         of_known = findings(place, *words, known)
         of_plain = {int(one["name"]): [condition_in(found["text"]) for found in one["findings"]
                                        if found[("rule", "trustee", "rights")[column]] == name]
@@ -428,8 +444,67 @@ def test_conditions(place):
         judge_conditions(place, name)
 
 
+def given_by_windows():
+    """The ACEs that Windows gives to objects, with their classes and places."""
+    guids = {name: row["guid"] for rows in table("schema").values() for name, row in rows.items()}
+    for row in table("defaults")["default"]:
+        if "kinds" not in row and "account" not in row:
+            kind, sid = "OA" if row["object"] else "A", row.get("sid", f"S-1-5-21-1-2-3-{row.get('number')}")
+            types = f"{guids.get(row['object'], '')};{guids.get(row.get('inherited'), '')}"
+            yield (f"({kind};{'CI' * row.get('below', False)};{row['rights']};{types};{sid})", row.get("classes", ()),
+                   row.get("at", ()))
+
+
+def test_conditions_of_defaults(place):
+    """What is found of an ACE that Windows gives to some classes, where no class is known, is what is found of all
+    others."""
+    rows, classes = [row for row in given_by_windows() if row[1]], sorted(all_classes())
+    entries = [Entry(name_of(f"{at}x{number}", one), one, "", Given(aces, one not in of))
+               for at, (aces, of, _) in enumerate(rows) for number, one in enumerate(classes)]
+    of_known = findings(place, "risks", place.write("known.ldif", ldif(entries)))
+    plain = place.objects("risks", place.table([(aces, f"O:BAG:BAD:{aces}") for aces, *_ in rows]), "--type", "ds")
+    for at, ((aces, of, _), one) in enumerate(zip(rows, plain)):
+        wanted, told = {}, {}
+        for number, of_class in enumerate(classes):
+            for rule, sid, rights, _ in of_known[name_of(f"{at}x{number}", of_class)]:
+                wanted.setdefault((rule, sid, rights), set()).add(of_class)
+        for each in one["findings"]:
+            key = each["rule"], sid_in(each["trustee"]), each["rights"]
+            told.setdefault(key, []).append(condition_in(each["text"]))
+        place.expect({key: classes_in(conditions, classes) for key, conditions in told.items()}, wanted,
+                     f"classes of {aces}, which Windows gives to {of}")
+        place.expect([key for key, found in wanted.items() if found & set(of)], [], f"{aces} of {of}")
+    place.expect(any(one["findings"] for one in plain), True, "ACEs that are found of other classes")
+
+
+def test_places(place):
+    """What Windows gives in a place is excused there alone, and only where the class is known: by the audit, and on
+    the page."""
+    above = {"CN=Policies": "CN=System,DC=example,DC=com"}
+    of_templates = [aces for aces, *_ in given_by_windows() if "0e10c968-78fb-11d2-90d4-00c04f79dc55" in aces]
+    entries = []
+    for aces, _, at in given_by_windows():
+        of_class, rest = (TEMPLATE, TEMPLATES) if aces in of_templates else ("container", "DC=example,DC=com")
+        entries += [entry_text(f"{first}{more},{above.get(first, rest)}", classes, f"O:BAG:BAD:{aces}")
+                    for first in at for more in ("", " 2") for classes in (("top", of_class), ())]
+    looked = on_page(place, entries)
+    found = {}
+    told = place.objects("risks", place.write("places.ldif", "".join(entries)))
+    place.expect(len(told), len(entries), "objects in places")
+    for number, (entry, one) in enumerate(zip(entries, told)):
+        is_there, is_known = number // 2 % 2 == 0, number % 2 == 0
+        place.expect(bool(one["findings"]) and is_there and is_known, False, f"in its place: {entry} {one}")
+        found[is_there, is_known] = found.get((is_there, is_known), 0) + len(one["findings"])
+        if looked is not None:
+            place.expect(otherwise_on_page(one["findings"], looked[number]["warnings"]), {},
+                         f"in a place, by the audit and on the page: {entry}")
+    place.expect([bool(count) for count in found.values()], [False, True, True, True], "what is found elsewhere")
+
+
 MEMBER = "bf9679c0-0de6-11d0-a285-00aa003049e2"
 FOR_MEMBERS = f"add members, only for object type member ({MEMBER})"
+FOR_TEMPLATES = (f"if this is a {TEMPLATE}: change a certificate template, only for object type "
+                 f"member ({MEMBER})")
 BY_ALL = "by full control"
 ZONES = ("dnsZone or dnsZoneScope or dnsZoneScopeContainer or msWMI-StringSetParam or msWMI-IntSetParam or "
          "msWMI-UintSetParam or msWMI-MergeablePolicyTemplate or msWMI-RangeParam or msWMI-SimplePolicyTemplate")
@@ -441,10 +516,10 @@ SAID = [
         f"if this is a serversContainer: register the server of a domain controller, {BY_ALL}"]),
     (("who", "add-member"), f"(OA;;WP;{MEMBER};;{{}})", [f"if this is a group or groupOfNames: {FOR_MEMBERS}"]),
     (("who", "write-properties"), "(A;;GA;;;{})", ["write all properties"]),
-    (("risks",), f"(OA;;WP;{MEMBER};;{{}})", [f"if this is a group or groupOfNames: {FOR_MEMBERS}"]),
+    (("risks",), f"(OA;;WP;{MEMBER};;{{}})", [f"if this is a group or groupOfNames: {FOR_MEMBERS}", FOR_TEMPLATES]),
     (("risks",), f"(OA;CI;WP;{MEMBER};;{{}})",
      [f"unless this is a group or groupOfNames: {FOR_MEMBERS}; in objects below",
-      f"if this is a group or groupOfNames: {FOR_MEMBERS}"]),
+      f"if this is a group or groupOfNames: {FOR_MEMBERS}", FOR_TEMPLATES]),
     (("risks",), "(A;;CC;;;{})", ["create objects in it"]),
     (("risks",), "(A;;CC;;;AU)", [f"unless this is a {ZONES}: create objects in it"]),
     (("risks",), "(A;;WP;;;{})", ["write all properties"]), (("risks",), "(A;;GA;;;{})", [""])]
@@ -471,9 +546,10 @@ def test_said(place):
 
 
 def test_conditions_on_page(place):
-    """Page and audit say the same of classes, of each rule that the audit tells."""
-    texts = list(dict.fromkeys(one.sddl for name in names() for one in entries_of(name)
-                               if one.given.gives and one.trustee != EVERYONE))
+    """Page and audit say the same of rules, trustees, rights and classes."""
+    texts = list(dict.fromkeys([*(one.sddl for name in names() for one in entries_of(name)
+                                  if one.given.gives and one.trustee != EVERYONE),
+                                *(f"O:BAG:BAD:{aces}" for aces, *_ in given_by_windows())]))
     looked = on_page(place, [{"text": text, "kind": "ds", "isKindChosen": True} for text in texts])
     if looked is None:
         return
@@ -497,5 +573,5 @@ def run_tests(count, tests):
 
 
 def main(count):
-    run_tests(count, (test_named, test_design, test_reasons, test_all_rules, test_page, test_conditions, test_said,
-                      test_conditions_on_page))
+    run_tests(count, (test_named, test_design, test_reasons, test_all_rules, test_page, test_conditions,
+                      test_conditions_of_defaults, test_places, test_said, test_conditions_on_page))

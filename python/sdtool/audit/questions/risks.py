@@ -206,17 +206,15 @@ class Risks:
     def _places(self, descriptor: Descriptor, kind: str, place: Place) -> Iterable[Tuple[Place, Sequence[Group]]]:
         """The place of an object, or those that it may have if its class isn't known: with the ACEs that are excused in
         some classes alone, and these."""
-        groups = groups_of(descriptor, kind, place, self._abilities) if descriptor.dacl == "list" else []
-        if groups in ([], [()]):
-            return [(place, groups)]
-        open_aces = [(number, ace) for number, ace in enumerate(descriptor.aces, 1)
-                     if ace.kind in ALLOWS and not self._defaults.excuse(ace, kind, place)]
+        if kind != "ds" or place.classes or descriptor.dacl != "list":
+            return [(place, [])]
+        excused = {number: self._defaults.classes(ace, kind) for number, ace in enumerate(descriptor.aces, 1)
+                   if ace.kind in ALLOWS and not self._defaults.excuse(ace, kind, place)}
         found: Dict[Tuple[int, ...], List[Group]] = {}
-        for group in groups:
-            of_class = place._replace(classes=group[:1])
-            excused = tuple(number for number, ace in open_aces if self._defaults.excuse(ace, kind, of_class))
-            found.setdefault(excused, []).append(group)
-        return [(place._replace(handed_on=place.handed_on + excused), listed) for excused, listed in found.items()]
+        for group in groups_of(descriptor, kind, place, self._abilities, [*filter(None, excused.values())]):
+            numbers = tuple(number for number, classes in excused.items() if not set(group[:1]).isdisjoint(classes))
+            found.setdefault(numbers, []).append(group)
+        return [(place._replace(handed_on=place.handed_on + numbers), listed) for numbers, listed in found.items()]
 
     def _found(self, cases: Sequence[_Case], descriptor: Descriptor, kind: str) -> Iterable[Finding]:
         if not cases[0].groups:

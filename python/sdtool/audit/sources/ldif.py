@@ -5,7 +5,7 @@ import binascii
 import re
 from typing import Dict, Iterator, List, NamedTuple, Tuple, Union
 
-from sdtool._windows import DESCRIPTORS
+from sdtool._windows import CONTAINERS, DESCRIPTORS
 from sdtool.audit.sources import binary, ndr
 from sdtool.audit.sources.frame import Format, Lines, Look, Piece
 from sdtool.audit.sources.items import Item, bytes_item, item_of, unreadable
@@ -279,7 +279,7 @@ def _as_lines(lines: Iterator[str]) -> Lines:
 
 
 _HEAD_OF_ZONES = re.compile(r"DC=(?:Domain|Forest)DnsZones,", re.I)
-_BELOW_A_HEAD = re.compile(r"DC=|CN=(?:System|Services|Configuration|Certificate Templates),", re.I)
+_BELOW_A_HEAD = re.compile(f"DC=|CN=(?:{'|'.join(CONTAINERS)}),", re.I)
 _FIRST_PART = re.compile(r"(?:[^,\\]|\\.)*", re.S)
 
 

@@ -44,11 +44,12 @@ def classes_of(text: str) -> Tuple[str, ...]:
 
 def known_place(text: str, kind: str) -> Place:
     """The place of an object of a kind, with all classes that its rights are of. A template has its class by its
-    kind."""
+    kind. Without classes the name says nothing."""
     place = place_of("" if text == WITHOUT_OWNER else text)
-    if place.named == _PROTECTING and place.classes:
-        place = place._replace(classes=_PROTECTED + place.classes)
-    return place._replace(classes=("pKICertificateTemplate",)) if kind == "template" and not place.classes else place
+    if not place.classes:
+        own = ("pKICertificateTemplate",) if kind == "template" else ()
+        return Place(own, handed_on=place.handed_on, heirs=place.heirs, makers=place.makers)
+    return place._replace(classes=_PROTECTED + place.classes) if place.named == _PROTECTING else place
 
 
 NAMED_PLACES = frozenset({_PROTECTING, *(name for row in DEFAULTS for name in row[2])})

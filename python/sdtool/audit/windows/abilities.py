@@ -172,7 +172,7 @@ class Abilities:
         writing = _WRITE if ability.right == _VALIDATED and self._is_told(_WRITE, sid) else 0
         if is_whole and not got.mask & writing:
             yield "", got.mask
-        is_typed = bool(where.classes and where.is_known) or not ability.known or self._trust is None
+        is_typed = bool(where.classes) or not where.is_known or not ability.known or self._trust is None
         for one, mask in got.by_type:
             is_all = is_whole and not (got.mask | mask) & writing and is_own(one, where.own)
             if is_all or is_typed and ability.is_by(one):

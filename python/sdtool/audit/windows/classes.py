@@ -1,20 +1,17 @@
 """Directory objects whose class isn't known: what would be found of each class, with the classes that it depends on."""
-from typing import Dict, Iterable, List, Sequence, Tuple
+import itertools
+from typing import Collection, Dict, Iterable, List, Sequence, Tuple
 
-from sdtool._windows import ABILITIES, CONDITION, DEFAULTS
+from sdtool._windows import ABILITIES, CONDITION
 from sdtool.audit.findings import NO_MARK, Finding
 from sdtool.audit.library import Descriptor
 from sdtool.audit.sources.places import Place
-from sdtool.audit.windows import names as sids
 from sdtool.audit.windows.abilities import TEMPLATE, Abilities, Where, class_of
 
 _OTHER = "other"  # stands for a class that nothing names
 _MOST = 10_000    # ACEs times classes
 _BOUND = frozenset(one["name"] for one in ABILITIES if one["on"])
-# Trustees and classes of defaults that count only where the class is known.
-_OF_DEFAULTS = tuple((row[3], row[1]) for row in DEFAULTS if row[8])
-_NAMES = tuple(dict.fromkeys([_OTHER, *(name for one in ABILITIES for name in one["on"]),
-                              *(name for _, names in _OF_DEFAULTS for name in names)]))
+_NAMES = tuple(dict.fromkeys([_OTHER, *(name for one in ABILITIES for name in one["on"])]))
 
 # Classes that nothing tells apart; none stands for any class.
 Group = Tuple[str, ...]
@@ -30,16 +27,16 @@ def as_one_of(group: Group, place: Place) -> Where:
     return Where(group[:1], group[:1], place.is_of_accounts, False)
 
 
-def groups_of(descriptor: Descriptor, kind: str, place: Place, abilities: Abilities) -> List[Group]:
-    """The classes that an object may be of, others first, or none if its class is known."""
+def groups_of(descriptor: Descriptor, kind: str, place: Place, abilities: Abilities,
+              excused: Sequence[Sequence[str]] = ()) -> List[Group]:
+    """The classes that an object may be of, others first, or none if its class is known. excused has for ACEs the
+    classes that Windows gives them to."""
     if kind != "ds" or place.classes:
         return []
-    trustees = {one for ace in descriptor.aces for one in (ace.sid, sids.domain_of(ace.sid)[1])}
-    told_by = [*(one.on for one in abilities.bound(descriptor)),
-               *(names for who, names in _OF_DEFAULTS if who in trustees)]
+    told_by: List[Collection[str]] = [*(one.on for one in abilities.bound(descriptor)), *dict.fromkeys(excused)]
     typed = dict.fromkeys(filter(None, (class_of(ace.object_type) for ace in descriptor.aces)))
     groups: Dict[object, List[str]] = {}
-    for name in dict.fromkeys([*_NAMES, *typed]):
+    for name in dict.fromkeys([*_NAMES, *itertools.chain(*excused), *typed]):
         is_apart = name in typed or name == TEMPLATE
         groups.setdefault(name if is_apart else tuple(name in names for names in told_by), []).append(name)
     return [tuple(group) for group in groups.values()] if len(groups) * len(descriptor.aces) <= _MOST else [()]

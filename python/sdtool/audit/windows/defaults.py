@@ -5,6 +5,7 @@ from sdtool._windows import DEFAULTS
 from sdtool.audit.library import INHERIT_ONLY, INHERITED, Ace, mapped, mapped_below
 from sdtool.audit.sources.places import Place
 from sdtool.audit.windows import names as sids
+from sdtool.audit.windows.rights import DIRECTORY
 
 
 class Default(NamedTuple):
@@ -16,7 +17,6 @@ class Default(NamedTuple):
     object_type: str      # a GUID, nothing, or "*" for any
     inherited_type: str
     below: bool           # children inherit it
-    known: bool = False   # it counts only where the class is known
 
 
 ACCOUNTS = frozenset(row[3] for row in DEFAULTS if isinstance(row[3], str) and not row[3].startswith("S-1-"))
@@ -48,20 +48,27 @@ class Defaults:
 
     def excuse(self, ace: Ace, kind: str, place: Place) -> bool:
         """Whether an ACE is one that Windows gives in this place."""
-        return any(_fits(row, ace, kind, place) for row in self._rows_of(ace.sid))
+        return any(_fits(row, ace, kind) and _is_in(row, ace, kind, place) for row in self._rows_of(ace.sid))
+
+    def classes(self, ace: Ace, kind: str) -> Tuple[str, ...]:
+        """The classes of objects to which Windows gives an ACE."""
+        return tuple(dict.fromkeys(name for row in self._rows_of(ace.sid) if _fits(row, ace, kind)
+                                   for name in row.classes))
 
 
-def _fits(row: Default, ace: Ace, kind: str, place: Place) -> bool:
+def _fits(row: Default, ace: Ace, kind: str) -> bool:
+    """Whether an ACE is that of a default, in the right place."""
     if kind not in row.kinds or (mapped_below(ace, kind) if row.below else mapped(ace.mask, kind)) & ~row.mask:
         return False
     if row.object_type not in ("*", ace.object_type) or row.inherited_type not in ("", ace.inherited_type):
         return False
-    if kind not in ("ds", "template"):
+    if kind not in DIRECTORY:
         return row.below == bool(ace.flags & INHERIT_ONLY)
-    if ace.flags & INHERITED:
-        return row.below
-    if not place.classes:
-        return not row.known
-    if not row.classes and not row.at:
+    return row.below or not ace.flags & INHERITED
+
+
+def _is_in(row: Default, ace: Ace, kind: str, place: Place) -> bool:
+    """Whether a default is one of an object in this place. An inherited ACE may be in any."""
+    if kind not in DIRECTORY or ace.flags & INHERITED or not row.classes and not row.at:
         return True
-    return place.classes[-1] in row.classes or place.named in row.at
+    return bool(place.classes) and place.classes[-1] in row.classes or place.named in row.at
