@@ -51,7 +51,9 @@ function host(memoryOf, take) {
 }
 
 function run(module, take) {
-    const {exports} = new WebAssembly.Instance(module, {wasi_snapshot_preview1: host(() => exports.memory, take)});
+    /** @type {any} */
+    const exports =
+        new WebAssembly.Instance(module, {wasi_snapshot_preview1: host(() => exports.memory, take)}).exports;
     const before = process.cpuUsage();
     try {
         exports._start();

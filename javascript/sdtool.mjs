@@ -301,7 +301,8 @@ export class ArgumentFault extends Error {
      * @param {unknown} cause what the caller's own code threw, if that is why
      */
     constructor(problem, argument = null, entry = null, cause = undefined) {
-        super(placeOf(argument, entry) + problem, cause === undefined ? undefined : {__proto__: null, cause});
+        super(placeOf(argument, entry) + problem,
+            cause === undefined ? undefined : /** @type {ErrorOptions} */ ({__proto__: null, cause}));
         this.argument = argument;
         this.entry = entry;
     }
@@ -488,7 +489,9 @@ function isGetter(level, name) {
 function namedOf(value, known, argument, entry = null) {
     if (typeof value !== "object" || value === null || value === OBJECT)
         throw new ArgumentFault(known.isNone, argument, entry);
-    const {doors, names} = known, levels = levelsOf(value, argument, entry), found = {__proto__: null}, last = list();
+    const {doors, names} = known, levels = levelsOf(value, argument, entry), last = list();
+    /** @type {{[name: string]: any}} */
+    const found = {__proto__: null};
     const listed = listedIn(levels, known, argument, entry);
     const read = (name, level) => {
         const place = known.isPart ? argument : name;
@@ -1297,7 +1300,10 @@ async function moduleOf(source) {
 // A call of the library that older modules lack.
 const NEWEST_CALL = "sdtool_sddl_place";
 
-// Another module, or that of an older version, is refused before it runs.
+/**
+ * Another module, or that of an older version, is refused before it runs.
+ * @param {WebAssembly.Module} module
+ */
 function own(module) {
     if (WebAssembly.Module.exports(module).some(({name}) => name === NEWEST_CALL)) return module;
     throw new Error("sdtool: this module of WebAssembly is another one than sdtool.wasm of this version");

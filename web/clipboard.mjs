@@ -195,6 +195,7 @@ function ofSddlLine(lines, number) {
     }
     const at = withFronts(line, found ? found.index + found[1].length : 0);
     const before = line.slice(0, at);
+    /** @type {Array<{what: string, text?: string}>} */
     const dropped = /[^\s"']/.test(before) ? [{what: "before", text: before.trim()}] : [];
     let rest = line.slice(at);
     const mark = before.at(-1);
@@ -338,9 +339,6 @@ export function descriptorsIn(text, form) {
     const all = found.length ? found : [{name: "", form: "sddl", line: linesOf(given).join(" "), dropped: []}];
     const isListing = !found.length && ICACLS.test(given);
     const classes = classesIn(given);
-    for (const one of all) {
-        Object.assign(one, {classes: classes.get(one.name) ?? NONE, isListing});
-        one.dropped.unshift(...lost);
-    }
-    return all;
+    return all.map(
+        (one) => ({...one, classes: classes.get(one.name) ?? NONE, isListing, dropped: [...lost, ...one.dropped]}));
 }

@@ -91,11 +91,10 @@ function read(library, {text, form, chosen}, domain) {
         isListing: one.isListing
     };
     const {value, fault} = tried(() => descriptorOf(library, one.form, one.line, domain.option));
-    if (!fault) {
-        return {...about, descriptor: value};
-    }
-    const place = placeOf(library, one.form, one.line, fault);
-    return {...about, fault, place, written: packed(one.form === "sddl" ? writtenAces(one.line) : [])};
+    const place = fault && placeOf(library, one.form, one.line, fault);
+    const written = packed(fault && one.form === "sddl" ? writtenAces(one.line) : []);
+    const outcome = fault ? {fault, place, written} : {descriptor: value};
+    return {...about, ...outcome};
 }
 
 // A browser copies a text from the worker at once, but objects one by one. So a list that may be long is sent as one

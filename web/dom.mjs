@@ -32,7 +32,15 @@ export function make(name, attributes = {}, ...children) {
     return element;
 }
 
-export const byId = (id) => document.getElementById(id);
+/**
+ * Elements with a type of their own, by their ids.
+ * @typedef {Record<"text" | "domain" | "classes" | "report-text", HTMLInputElement> &
+ *     Record<"form" | "kind" | "chosen", HTMLSelectElement> & Record<"lines-stop" | "lines-save", HTMLButtonElement> &
+ *     {"lines-bar": HTMLProgressElement, "more-options": HTMLDetailsElement}} Elements
+ */
+
+/** @type {<Id extends string>(id: Id) => Id extends keyof Elements ? Elements[Id] : HTMLElement} */
+export const byId = (id) => /** @type {any} */ (document.getElementById(id));
 
 export function show(element, ...children) {
     element.replaceChildren(...children.flat(Infinity).filter(Boolean));
@@ -59,7 +67,8 @@ export function select(id, options, value, onchange) {
 export const tooLong = (text, most) => (text.length > most ? say(WORDS.tooLong, {count: text.length, most}) : "");
 
 // A field of one line. A text that is too long for it is not taken.
-export function input(id, value, oninput, {most = MOST_WORD, ...attributes} = {}) {
+export function input(id, value, oninput,
+    /** @type {{most?: number, [attribute: string]: unknown}} */ {most = MOST_WORD, ...attributes} = {}) {
     const note = `${id}-long`;
     const type = () => {
         const said = tooLong(field.value, most);

@@ -31,7 +31,8 @@ function below(library, parent, asked, levels) {
 }
 
 // The new object, and for a folder the two levels below it, which their own folders alone make.
-export function inherit(library, {parent, creator, kind, ...asked}) {
+export function inherit(library, {parent, creator, kind, owner, group, mapping, printing, heirs}) {
+    const asked = {owner, group, mapping, printing, heirs};
     const object = objectOf(library, parent, asked, kind, creator);
     return {...object, children: kind === "file" ? [] : below(library, object.descriptor, asked, LEVELS_BELOW)};
 }

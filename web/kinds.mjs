@@ -12,7 +12,10 @@ const anyOf = (names) => `(?:${names.join("|")})`;
 const word = (names) => `\\b${anyOf(names)}\\b`;
 const ofValue = (names) => `"${anyOf(names)}"\\s?=|\\b${anyOf(names)}(?: |\\t){1,40}REG_BINARY\\b`;
 
-// What a text has to have by a row of the table: for some keys the name of a value too.
+/**
+ * What a text has to have by a row of the table: for some keys the name of a value too.
+ * @param {{property?: string[], key?: string, value?: string[], name?: string, before?: string, text?: string}} hint
+ */
 function patternsOf({property, key, value, name, before, text}) {
     if (key) {
         return value ? [`\\\\${key}`, ofValue(value)] : [`\\\\${key}\\b`];
@@ -98,8 +101,8 @@ export function kindsOf(aces) {
         return telling.filter(({mask}) => usual.includes(mask)).length - (isOdd ? telling.length + 1 : 0);
     };
     const all = Object.keys(KINDS).filter((kind) => !tableOf(kind).rule);
-    const fitting = all.filter((kind) => hasRights(kind, aces)).map((kind) => [rank(kind), kind]);
-    return fitting.length ? fitting.sort(([one], [other]) => other - one).map(([, kind]) => kind) : all;
+    const fitting = all.filter((kind) => hasRights(kind, aces)).map((kind) => ({kind, rank: rank(kind)}));
+    return fitting.length ? fitting.sort((one, other) => other.rank - one.rank).map(({kind}) => kind) : all;
 }
 
 // The kind that the rights of ACEs tell of, or null where several kinds have them. Without rights there is nothing that

@@ -65,8 +65,8 @@ export function descriptorOf(library, form, line, options = {}) {
     }
     const answer = answerTo(library, ["convert", "--from", form, "--to", "hex"], line) || "error 5 short";
     if (answer.startsWith("error ")) {
-        const [, number, ...more] = answer.split(" ");
-        throw new Fault(Number(number), ...more);
+        const [, number, name, part, otherPart] = answer.split(" ");
+        throw new Fault(Number(number), name, part, otherPart);
     }
     return bytesOfHex(answer);
 }
@@ -179,6 +179,8 @@ export function aceTexts(library, aces, domain) {
 }
 
 // The flags of an ACL of a model, as SDDL has them.
-export const aclFlags = (library, list, {control, [list]: {state}}) => (state === "absent" ?
-        state :
-        library.toSddl(library.build({control, [list]: state === "list" ? [] : {state}})).slice("D:".length));
+export function aclFlags(library, list, model) {
+    const {state} = model[list];
+    const empty = {control: model.control, [list]: state === "list" ? [] : {state}};
+    return state === "absent" ? state : library.toSddl(library.build(empty)).slice("D:".length);
+}

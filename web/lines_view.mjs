@@ -88,7 +88,9 @@ function filtersOf({options, filterToken}) {
 // meanwhile.
 class Run {
     constructor(file, {from, type}) {
-        Object.assign(this, {file, from, type});
+        this.file = file;
+        this.from = from;
+        this.type = type;
         this.pieces = [];
         this.kept = 0;
         this.began = performance.now();
@@ -154,7 +156,13 @@ class Run {
 
 export class LinesView {
     constructor(lines, {files, onOpen}) {
-        Object.assign(this, {lines, files, onOpen, filter: "all", page: 0, file: null, run: null});
+        this.lines = lines;
+        this.files = files;
+        this.onOpen = onOpen;
+        this.filter = "all";
+        this.page = 0;
+        this.file = null;
+        this.run = null;
     }
 
     make() {

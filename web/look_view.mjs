@@ -157,6 +157,7 @@ function jumpTo(list, number) {
 
 function markAce(list, number) {
     document.querySelectorAll("tr.ace.found").forEach((row) => row.classList.remove("found"));
+    /** @returns {HTMLElement} */
     const more = () => document.querySelector(`[aria-labelledby="${list}-heading"] .more button`);
     while (!byId(`${list}-${number}`) && more()) {
         more().click();

@@ -60,10 +60,14 @@ const errorWords = (error) => (error instanceof TooSlow ? say(WORDS.tooSlow, {se
                                                           say(WORDS.broke, {reason: shownName(error.message)}));
 
 class Page {
-    constructor({desk, isWorker}, source, bytes, report) {
-        Object.assign(
-            this, {desk, source, bytes, isWorker, state: freshState(), result: null, asked: null, turns: new Map()});
-        this.reportNames = [];
+    constructor({desk, isWorker, version}, source, bytes, report) {
+        this.desk = desk;
+        this.version = version;
+        this.state = freshState();
+        this.result = null;
+        this.asked = null;
+        this.turns = new Map();
+        this.reportNames = new Map();
         // A report has a view of its own, before all others.
         this.views = Object.keys(WORDS.tabs).filter((view) => view !== "report" || report);
         this.reportView = report ?
@@ -335,7 +339,8 @@ class Page {
     // What a report says of all its objects: the domain of aliases, and names of SIDs.
     takeHead({domain, names, title}) {
         document.title = title ? `${shownName(title)} - ${WORDS.title}` : WORDS.title;
-        Object.assign(this, {reportNames: namesOfReport(names ?? []), namesText: null});
+        this.reportNames = namesOfReport(names ?? []);
+        this.namesText = null;
         if (!location.hash) {
             this.state.domain = domain ?? "";
             byId("domain").value = this.state.domain;
@@ -378,7 +383,8 @@ class Page {
     refresh() {
         show(byId("copied")); // of an older state
         const turn = this.beginTurn(["look", ...ANSWERED]);
-        Object.assign(this, {result: null, asked: null});
+        this.result = null;
+        this.asked = null;
         if (!this.state.isKindChosen) {
             this.state.kind = freshState().kind; // what an older text told
         }
@@ -517,7 +523,7 @@ class Page {
         const range = rangeIn(field.value, place);
         field.focus();
         if (range) {
-            field.setSelectionRange(...range);
+            field.setSelectionRange(range[0], range[1]);
         }
     }
 
@@ -637,7 +643,7 @@ class Page {
 
     showPrintHead(result) {
         show(byId("print-head"), make("h1", {}, WORDS.print.heading),
-            make("p", {}, say(WORDS.print.made, {version: this.version ?? ""})),
+            make("p", {}, say(WORDS.print.made, {version: this.version})),
             make("p", {}, `${WORDS.print.text}: `, make("code", {}, visible((result.line ?? "").slice(0, 3000)))));
         byId("print-head").hidden = false;
         byId("print-head").classList.remove(OLDER);
@@ -651,7 +657,7 @@ async function unpacked(base64) {
 }
 
 const fillWords = () =>
-    document.querySelectorAll("[data-word]")
+    /** @type {NodeListOf<HTMLElement>} */ (document.querySelectorAll("[data-word]"))
         .forEach((element) => { element.textContent = element.dataset.word.split(".").reduce(valueIn, WORDS); });
 
 // A policy says nothing of connections between browsers, so this page has none of what makes them.
@@ -677,8 +683,7 @@ async function begin() {
     byId("version").textContent = say(WORDS.version, {version});
     byId("starting").hidden = true;
     byId("page").hidden = false;
-    const page = new Page(started, source, bytes, byId("report").textContent.trim());
-    page.version = version;
+    const page = new Page({...started, version}, source, bytes, byId("report").textContent.trim());
     byId(page.state.view === "report" ? "tab-report" : "text").focus();
     document.body.dataset.ready = started.isWorker ? "worker" : "page";
 }

@@ -101,7 +101,7 @@ export function rightsInWords(kind, mask) {
     const rest = compound ? (mask & ~compound[0]) >>> 0 : mask;
     const named = rightsOf(
         kind).filter((right) => has(rest, right.bit))
-                      .sort((one, other) => (one.bit === 0x100000) - (other.bit === 0x100000));
+                      .sort((one, other) => Number(one.bit === 0x100000) - Number(other.bit === 0x100000));
     const special = bitsOf(rest).filter((bit) => !named.some((right) => right.bit === bit));
     const known = special.filter((bit) => valueIn(WORDS.generic, bit) || bit === 0x1000000 || bit === 0x2000000);
     const unknown = special.filter((bit) => !known.includes(bit)).reduce((all, bit) => (all | bit) >>> 0, 0);

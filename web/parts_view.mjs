@@ -12,7 +12,7 @@ const LARGE = 20_000; // characters; a longer text is kept beside its field
 // A field for a text that may be long, with what to show beside it, and a function that puts a text into it. TAKE gets
 // what is typed or pasted. A long text stays out of the field: no browser lays out a line of a megabyte at each key.
 // One that is too long is not taken.
-export function longField(id, text, take, {most = MOST_TEXT, clear, ...attributes}) {
+export function longField(id, text, take, {most = MOST_TEXT, clear = null, ...attributes}) {
     const note = make("div", {id: `${id}-large`, class: "large", role: "status", hidden: true});
     const put = (value) => {
         const said = tooLong(value, most);

@@ -43,7 +43,10 @@ function isRow(row, value) {
         columns.every(([, type], at) => (valueIn(TESTS, type) ?? areRows(type))(value[at]));
 }
 
-// The values of a row by the names of its columns.
+/**
+ * The values of a row by the names of its columns.
+ * @returns {any} as the table REPORT has it
+ */
 const named = (row, value) => Object.fromEntries(valueIn(ROWS, row).map(
     ([name, type], at) => [name, Object.hasOwn(ROWS, type) ? allNamed(type, value[at]) : value[at]]));
 
@@ -67,8 +70,13 @@ const textOf = ({name, source, reason, help, findings}) => [name, source, reason
 
 export class Report {
     constructor(text) {
-        Object.assign(
-            this, {text, objects: [], damaged: 0, head: null, last: null, answers: new Map(), rules: new Map()});
+        this.text = text;
+        this.objects = [];
+        this.damaged = 0;
+        this.head = null;
+        this.last = null;
+        this.answers = new Map();
+        this.rules = new Map();
     }
 
     // Finds the lines, and counts answers and rules; 'tell' hears how far it is.

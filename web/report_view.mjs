@@ -71,8 +71,11 @@ export function objectWords(object) {
 
 export class ReportView {
     constructor(text, {onOpen, onHead}) {
-        Object.assign(
-            this, {report: new Report(text), onOpen, onHead, filter: {answer: "", rule: "", text: ""}, page: 0});
+        this.report = new Report(text);
+        this.onOpen = onOpen;
+        this.onHead = onHead;
+        this.filter = {answer: "", rule: "", text: ""};
+        this.page = 0;
         this.asked = 0;
     }
 

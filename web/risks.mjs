@@ -91,9 +91,14 @@ class TooMany extends Error {}
 // is that about the object as a whole, so it isn't asked.
 class View {
     constructor(library, descriptor, kind, aces, numbers) {
-        const types = typesBySid(isDirectory(kind) ? aces.filter(({object}) => object) : []);
-        const isDenied = aces.some((ace) => DENIES.includes(ace.kind));
-        Object.assign(this, {library, descriptor, kind, numbers, types, isDenied, known: new Map(), typed: 0});
+        this.library = library;
+        this.descriptor = descriptor;
+        this.kind = kind;
+        this.numbers = numbers;
+        this.types = typesBySid(isDirectory(kind) ? aces.filter(({object}) => object) : []);
+        this.isDenied = aces.some((ace) => DENIES.includes(ace.kind));
+        this.known = new Map();
+        this.typed = 0;
     }
 
     typesOf(sid) { return typesFor(this.types, sidsOf(sid)); }

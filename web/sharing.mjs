@@ -15,7 +15,12 @@ const FORMS = ["auto", "sddl", "hex", "base64"];
 const MOST_LEVEL = 0xffffffff;
 const MAXIMUM_ALLOWED = 0x2000000;
 
-// The name of each field, whose it is, and how many characters it takes.
+/** @typedef {(state: import("./state.mjs").State) => object} Holder */
+
+/**
+ * The name of each field, whose it is, and how many characters it takes.
+ * @type {[string, Holder, string, number?][]}
+ */
 const FIELDS = [
     ["d", (state) => state, "text", MOST_TEXT],
     ["domain", (state) => state, "domain"],
@@ -29,6 +34,7 @@ const FIELDS = [
     ["creator", (state) => state.made, "creator", MOST_TEXT],
     ["other", (state) => state.other, "text", MOST_TEXT],
 ];
+/** @type {[string, Holder, string][]} */
 const FLAGS = [
     ["common", (state) => state, "common"],
     ["maximum", (state) => state.ask, "maximum"],
@@ -36,6 +42,7 @@ const FLAGS = [
     ["security", (state) => state.ask, "security"],
     ["take-ownership", (state) => state.ask, "takeOwnership"],
 ];
+/** @type {[string, Holder, string, string[]][]} */
 const CHOICES = [
     ["view", (state) => state, "view", VIEWS],
     ["kind", (state) => state, "kind", KINDS],
@@ -80,29 +87,28 @@ export function addressOf(state, fresh) {
 }
 
 // How each name of an address is taken into a state: whether it could be read. What can't stays as it was.
-const READERS = new Map([
-    ...FIELDS.map(([name, holder, key, most = MOST_WORD]) => [name,
-                      (state, value) => {
-                          const isShort = value.length <= most;
-                          holder(state)[key] = isShort ? value : holder(state)[key];
-                          return isShort;
-                      }]),
-    ...FLAGS.map(([name, holder, key]) => [name,
-                     (state, value) => {
-                         holder(state)[key] = value === "1";
-                         return value === "0" || value === "1";
-                     }]),
-    ...CHOICES.map(([name, holder, key, known]) => [name,
-                       (state, value) => {
-                           const isKnown = known.includes(value);
-                           holder(state)[key] = isKnown ? value : holder(state)[key];
-                           state.isKindChosen ||= isKnown && name === "kind";
-                           return isKnown;
-                       }]),
-    ["level", takeLevel],
-    ["rights", takeRights],
-    ["chosen", takeChosen],
-]);
+const READERS = new Map([["level", takeLevel], ["rights", takeRights], ["chosen", takeChosen]]);
+for (const [name, holder, key, most = MOST_WORD] of FIELDS) {
+    READERS.set(name, (state, value) => {
+        const isShort = value.length <= most;
+        holder(state)[key] = isShort ? value : holder(state)[key];
+        return isShort;
+    });
+}
+for (const [name, holder, key] of FLAGS) {
+    READERS.set(name, (state, value) => {
+        holder(state)[key] = value === "1";
+        return value === "0" || value === "1";
+    });
+}
+for (const [name, holder, key, known] of CHOICES) {
+    READERS.set(name, (state, value) => {
+        const isKnown = known.includes(value);
+        holder(state)[key] = isKnown ? value : holder(state)[key];
+        state.isKindChosen ||= isKnown && name === "kind";
+        return isKnown;
+    });
+}
 
 // A level is one of the list of the view, or another number, which gets a line of its own in it.
 function takeLevel(state, value) {

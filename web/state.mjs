@@ -4,6 +4,8 @@ export const MOST_TEXT = 50_000_000;
 export const MOST_LIST = 400_000;
 export const MOST_WORD = 1000;
 
+/** @typedef {ReturnType<typeof freshState>} State */
+
 // What a new page asks: the state that controls change, and that an address can have.
 export const freshState = () => ({
     view: "look",

@@ -55,9 +55,13 @@ function isListed(line) {
 
 class Reader {
     constructor(library, domain) {
-        const token =
-            {entries: [], level: null, privileges: [], notes: [], faults: [], refused: null, lacksUser: false};
-        Object.assign(this, {library, domain, token, users: 0, groups: 0, typed: 0, hasPrivileges: false});
+        this.library = library;
+        this.domain = domain;
+        this.token = {entries: [], level: null, privileges: [], notes: [], faults: [], refused: null, lacksUser: false};
+        this.users = 0;
+        this.groups = 0;
+        this.typed = 0;
+        this.hasPrivileges = false;
     }
 
     // Behind one SID more than a token can have, or as many texts that are none as are shown, the rest is not read.
@@ -79,9 +83,7 @@ class Reader {
         }
     }
 
-    fail(text, {number, name} = {}) {
-        this.token.faults.push({text, number: number ?? 25, faultName: name ?? "sid-form"});
-    }
+    fail(text, {number = 25, name = "sid-form"} = {}) { this.token.faults.push({text, number, faultName: name}); }
 
     readWords(line) {
         for (const item of line.split(/[\s,;]+/).filter(Boolean)) {

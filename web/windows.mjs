@@ -959,11 +959,13 @@ export const DESCRIPTORS = {
     "msDS-AllowedToActOnBehalfOfOtherIdentity": "delegation", "msDS-GroupMSAMembership": "managed-password",
     "pKIEnrollmentAccess": "",
 };
+/** @type {[string, (string)[]]} */
 export const PROTECTING = ["CN=AdminSDHolder", ["user", "computer", "group"]];
 export const CONDITION = {
     "only": "if this is a {classes}", "except": "unless this is a {classes}", "or": " or ",
     "many": "depending on its class, which isn't known",
 };
+/** @type {([(string)[], (string)[], (string)[], number | string, number, string, string, boolean])[]} */
 export const DEFAULTS = [
     [["printer"], [], [], "S-1-15-2-1", 983088, "*", "", true],
     [

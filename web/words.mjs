@@ -636,10 +636,10 @@ export const WORDS = {
 
     names: mapped(SIDS, ([, name]) => name),
     relativeNames: mapped(OF_A_DOMAIN, ([, name]) => name),
-    families: [
+    families: /** @type {[RegExp, string][]} */ ([
         ...FAMILIES.map(([begins, name]) => [new RegExp(`^${begins}`), name]),
         [/^S-1-5-21-\d+-\d+-\d+-(\d+)$/, "Account {number}"],
-    ],
+    ]),
 };
 
 // A text of the words, with its values.

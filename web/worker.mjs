@@ -78,7 +78,13 @@ export class TooSlow extends Error {}
 // typed before is of no use.
 export class Desk {
     constructor(start, seconds = SECONDS_TO_ANSWER) {
-        Object.assign(this, {start, seconds, waiting: new Map(), current: null, last: 0, end: null, timer: null});
+        this.start = start;
+        this.seconds = seconds;
+        this.waiting = new Map();
+        this.current = null;
+        this.last = 0;
+        this.end = null;
+        this.timer = null;
     }
 
     ask(name, about) {
@@ -169,7 +175,13 @@ export async function startDesk(source, bytes) {
 
 // Answers files, one at a time, in a worker of its own where there can be one: {answerFile, stop}.
 export class FileDesk {
-    constructor(source, bytes, isWorker) { Object.assign(this, {source, bytes, isWorker, last: 0, current: null}); }
+    constructor(source, bytes, isWorker) {
+        this.source = source;
+        this.bytes = bytes;
+        this.isWorker = isWorker;
+        this.last = 0;
+        this.current = null;
+    }
 
     // What of the library or the worker is needed is started with the first file, and kept.
     async answerFile(about, hear) {

@@ -441,13 +441,25 @@ def without_usual(row, tables):
     return (*row[:3], None if row[3] == tables["USUAL"] else row[3])
 
 
+def script_type(*values):
+    """The type of values as JSDoc has it. A list with items of several types is a tuple."""
+    if not isinstance(values[0], list):
+        return " | ".join(sorted({{bool: "boolean", int: "number", str: "string"}[type(value)] for value in values}))
+    if len({type(item) for value in values for item in value}) > 1:
+        return f"[{', '.join(script_type(*items) for items in zip(*values, strict=True))}]"
+    return f"({script_type(*(item for value in values for item in value))})[]"
+
+
 def script_text(tables, schema):
     lines = ["// What Windows means by SIDs, rights, kinds of objects and types, and what errors mean, by "
              "windows/write.py."]
     for name in ("SIDS", "OF_A_DOMAIN", "FAMILIES", "USUAL", "KINDS", "ABILITIES", "HARMLESS", "DESCRIPTORS",
                  "PROTECTING", "CONDITION", "DEFAULTS", "CONTAINERS", "SEVERITIES", "RULES", "RULE_OF", "RISKS_OF",
                  "QUIET", "ATTRIBUTES", "PRIVILEGES", "HINTS", "REPORT", "ERRORS"):
-        lines.append(f"export const {name} = {json_value(plain(of_page(name, tables)), '')};")
+        value = plain(of_page(name, tables))
+        if name in ("PROTECTING", "DEFAULTS"):
+            lines.append(f"/** @type {{{script_type(value)}}} */")
+        lines.append(f"export const {name} = {json_value(value, '')};")
     lines.append("// Of each type the end of GUIDs, and then for each GUID with that end its first eight digits and "
                  "its name.")
     lines.append(f"export const TYPES = {json_value({kind: folded_types(schema.rows[kind]) for kind in TYPES}, '')};")

@@ -7,10 +7,10 @@ import {pathToFileURL} from "node:url";
 const TOP = new URL("../..", import.meta.url);
 const [place] = process.argv.slice(2);
 
-const module = await import(pathToFileURL(place));
+const module = await import(pathToFileURL(place).href);
 const library = module.library ?? await module.load();
-const {linesOf, questionOf} = await import(new URL("web/desk.mjs", TOP));
-const {freshState} = await import(new URL("web/state.mjs", TOP));
+const {linesOf, questionOf} = await import(new URL("web/desk.mjs", TOP).href);
+const {freshState} = await import(new URL("web/state.mjs", TOP).href);
 
 function look(given) {
     const start = process.cpuUsage();

@@ -9,12 +9,12 @@ import {pathToFileURL} from "node:url";
 const TOP = new URL("../..", import.meta.url);
 const [place] = process.argv.slice(2);
 
-const module = await import(pathToFileURL(place));
+const module = await import(pathToFileURL(place).href);
 const library = module.library ?? await module.load();
-const {questionOf} = await import(new URL("web/desk.mjs", TOP));
-const {freshState} = await import(new URL("web/state.mjs", TOP));
-const {addressOf, takeAddress} = await import(new URL("web/sharing.mjs", TOP));
-const {Report} = await import(new URL("web/report.mjs", TOP));
+const {questionOf} = await import(new URL("web/desk.mjs", TOP).href);
+const {freshState} = await import(new URL("web/state.mjs", TOP).href);
+const {addressOf, takeAddress} = await import(new URL("web/sharing.mjs", TOP).href);
+const {Report} = await import(new URL("web/report.mjs", TOP).href);
 const {rows, report} = JSON.parse(fs.readFileSync(0, "utf8"));
 
 function told(state) {

@@ -1,5 +1,10 @@
 // What tests/page/page.py runs in a page: it chooses, types and reads as a person would. GIVEN are the arguments.
+/** @type {(id: string) => any} */
 const byId = (id) => document.getElementById(id);
+/** @type {(css: string) => any} */
+const first = (css) => document.querySelector(css);
+/** @type {(css: string, take?: (element: any) => any) => any[]} */
+const each = (css, take) => Array.from(document.querySelectorAll(css), take);
 const put = (id, value) => {
     const field = byId(id);
     if (field.type === "checkbox") {
@@ -46,8 +51,9 @@ const textOf = (bytes) => {
 async function rows(...given) {
     const found = [];
     const originalURL = URL.createObjectURL;
+    /** @type {Blob} */
     let saved = null;
-    URL.createObjectURL = (blob) => {
+    URL.createObjectURL = (/** @type {Blob} */ blob) => {
         if (blob.type === "text/plain") {
             saved = blob;
         }
@@ -87,7 +93,7 @@ async function grid(...given) {
     const found = [];
     for (const text of given[0]) {
         await see(text);
-        found.push(Array.from(document.querySelectorAll("table.grid tbody tr"),
+        found.push(each("table.grid tbody tr",
             (row) => [row.dataset.token, row.querySelector("button.cell").dataset.sid,
                 Array.from(row.querySelectorAll("button.cell"),
                     (cell) => [Number(cell.dataset.bit), cell.dataset.state, cell.textContent])]));
@@ -99,14 +105,11 @@ async function reasons(...given) {
     const found = [];
     for (const [text, sid, bit] of given[0]) {
         await see(text);
-        const cell = document.querySelector(`button.cell[data-sid="${sid}"][data-bit="${bit}"]`);
+        const cell = first(`button.cell[data-sid="${sid}"][data-bit="${bit}"]`);
         byId("why").textContent = "";
         cell.click();
         await until(() => byId("why").textContent !== "");
-        found.push([
-            cell.closest("tr").dataset.token, byId("why").textContent,
-            Array.from(document.querySelectorAll("tr.ace.found"), (row) => row.id)
-        ]);
+        found.push([cell.closest("tr").dataset.token, byId("why").textContent, each("tr.ace.found", (row) => row.id)]);
     }
     return found;
 }
@@ -122,8 +125,8 @@ async function ask(...given) {
     put("ask-security", given[0].security);
     await see(given[0].text);
     return {
-        verdict: document.querySelector("#ask-result .verdict code")?.textContent ?? byId("ask-result").textContent,
-        reasons: Array.from(document.querySelectorAll("#ask-result tr.reason"),
+        verdict: first("#ask-result .verdict code")?.textContent ?? byId("ask-result").textContent,
+        reasons: each("#ask-result tr.reason",
             (row) => [Number(row.dataset.bit), row.dataset.by, row.dataset.number ?? "",
                 row.classList.contains("allow")])
     };
@@ -136,7 +139,7 @@ async function inherit(...given) {
     put("made-group", given[0].group);
     put("made-creator", given[0].creator);
     await see(given[0].text);
-    return Array.from(document.querySelectorAll("#inherit-result section.node"), (node) => ({
+    return each("#inherit-result section.node", (node) => ({
         sddl: node.querySelector(":scope > p > code")?.textContent ?? null,
         level: node.className,
         from: Array.from(node.querySelectorAll(":scope > ol > li"), (item) => item.dataset.from)
@@ -148,9 +151,9 @@ async function compare(...given) {
     put("other-text", given[1]);
     await see(given[0]);
     return {
-        verdict: document.querySelector("#compare-result .verdict")?.textContent ?? byId("compare-result").textContent,
-        states: Array.from(document.querySelectorAll("#compare-result tr.compared"), (row) => row.dataset.state),
-        rights: Array.from(document.querySelectorAll("#compare-result li[data-sid]"),
+        verdict: first("#compare-result .verdict")?.textContent ?? byId("compare-result").textContent,
+        states: each("#compare-result tr.compared", (row) => row.dataset.state),
+        rights: each("#compare-result li[data-sid]",
             (item) => [item.dataset.sid, Number(item.dataset.gained), Number(item.dataset.lost)])
     };
 }
@@ -191,7 +194,7 @@ async function triesToSend(...given) {
              ["video", "src"], ["object", "data"]]) {
         await attempt(name, async () => {
             const element = document.createElement(name);
-            if (name === "link") element.rel = "stylesheet";
+            if (name === "link") element.setAttribute("rel", "stylesheet");
             element.setAttribute(attribute, address + "/" + name);
             document.body.append(element);
             await pause(50);
@@ -205,8 +208,8 @@ const pasteInto = (id, text) => {
     const transfer = new window.DataTransfer();
     transfer.setData("text/plain", text);
     // Chromium takes clipboardData, Firefox data.
-    byId(id).dispatchEvent(new window.ClipboardEvent(
-        "paste", {clipboardData: transfer, dataType: "text/plain", data: text, bubbles: true, cancelable: true}));
+    const given = {clipboardData: transfer, dataType: "text/plain", data: text, bubbles: true, cancelable: true};
+    byId(id).dispatchEvent(new window.ClipboardEvent("paste", given));
 };
 
 // How long a key has to wait for the page until it has answered.
@@ -233,7 +236,7 @@ async function whileBusy(act) {
 
 async function longLine(...given) {
     const times = await whileBusy(() => pasteInto("text", given[0]));
-    const shown = document.querySelector("#dacl-heading small") ?? byId("view-look");
+    const shown = first("#dacl-heading small") ?? byId("view-look");
     return {...times, aces: shown.textContent.slice(0, 200)};
 }
 
@@ -254,8 +257,9 @@ async function bigFile(...given) {
     const {data, times, stopAfter, isShort} = given[0];
     const one = bytesOf(data);
     const originalURL = URL.createObjectURL;
+    /** @type {Blob} */
     let saved = null;
-    URL.createObjectURL = (blob) => {
+    URL.createObjectURL = (/** @type {Blob} */ blob) => {
         if (blob.type === "text/plain") saved = blob;
         return originalURL.call(URL, blob);
     };
@@ -299,20 +303,20 @@ async function bigFile(...given) {
 // before the lines of its table are read.
 async function lastOfFilter(name) {
     await until(() => byId("lines-filter"));
-    const numbers = () => document.querySelector("#lines-table .pages").firstChild.data.match(/[\d,]+/g);
-    document.activeElement.blur();
+    const numbers = () => first("#lines-table .pages").firstChild.data.match(/[\d,]+/g);
+    /** @type {HTMLElement} */ (document.activeElement).blur();
     put("lines-filter", name);
     await until(() => document.activeElement.id === "lines-filter" && byId("lines-filter").value === name);
     const [, , count] = numbers();
     if (!byId("page-last").disabled) {
-        document.activeElement.blur();
+        /** @type {HTMLElement} */ (document.activeElement).blur();
         byId("page-last").click();
         await until(() => numbers()[1] === count);
     }
     return {count, last: numbers()[1]};
 }
 
-const linesShown = () => Array.from(document.querySelectorAll("table.lines tbody th"), (one) => one.textContent);
+const linesShown = () => each("table.lines tbody th", (one) => one.textContent);
 
 // A filter whose lines are read only when those of another one, chosen after it, are shown. Gives what is shown in the
 // end.
@@ -320,6 +324,7 @@ async function overtaken(...given) {
     const [first, second] = given;
     const {text} = window.Blob.prototype;
     const reads = [];
+    /** @type {(value?: unknown) => void} */
     let read = null;
     const gate = new Promise((resolve) => { read = resolve; });
     window.Blob.prototype.text = function() {
@@ -347,7 +352,7 @@ async function besideOtherFile(...given) {
     let name = null;
     window.HTMLAnchorElement.prototype.click = function() { name = this.download; };
     byId("lines-save").click();
-    document.querySelector("table.lines .jump").click();
+    first("table.lines .jump").click();
     await until(() => byId("text").value !== "");
     await until(isIdle);
     return {name, text: byId("text").value, form: byId("form").value};
@@ -370,17 +375,18 @@ async function filters(...given) {
 }
 
 // What the Tab key has to reach, in this order, and where it is.
-const all = () => Array.from(document.querySelectorAll("*"));
+const all = () => each("*");
 const describe = (one) =>
     ({at: all().indexOf(one), text: `${one.tagName} ${one.id} ${one.className} ${one.textContent.slice(0, 30)}`});
 
 function reachable() {
-    return Array.from(document.querySelectorAll("a[href], button, input, select, textarea, summary, [tabindex]"))
+    return each("a[href], button, input, select, textarea, summary, [tabindex]")
         .filter((one) => one.tabIndex >= 0 && !one.disabled && one.getClientRects().length > 0)
         .map(describe);
 }
 
 function focused() {
+    /** @type {any} */
     const one = document.activeElement;
     const isSeen = (element) => element && getComputedStyle(element).outlineStyle !== "none" &&
         parseFloat(getComputedStyle(element).outlineWidth) >= 2;
@@ -389,7 +395,7 @@ function focused() {
 
 // The rows of a report, in order.
 function reportRows() {
-    return Array.from(document.querySelectorAll("#report-table tbody tr"), (row) => ({
+    return each("#report-table tbody tr", (row) => ({
         name: row.querySelector("th bdi").textContent,
         line: Number(/line (\d+)$/.exec(row.querySelector("th .where").textContent)?.[1] ?? 0),
         answer: row.querySelector("td .badge").textContent,
@@ -407,7 +413,7 @@ async function afterFilter(act) {
 // Opens an object of a report by its line, and goes back.
 async function openRow(...given) {
     byId("tab-report").click();
-    const row = Array.from(document.querySelectorAll("#report-table tbody tr"))
+    const row = each("#report-table tbody tr")
                     .find((one) => one.querySelector("th .where").textContent.endsWith(`line ${given[0]}`));
     row.querySelector("button.open").click();
     await until(isIdle);
@@ -415,7 +421,7 @@ async function openRow(...given) {
         opened: byId("opened").textContent,
         look: byId("view-look").textContent,
         cells: document.querySelectorAll("button.cell").length,
-        sddl: document.querySelector(".words code.whole")?.textContent ?? ""
+        sddl: first(".words code.whole")?.textContent ?? ""
     };
     byId("opened-back").click();
     return got;
@@ -456,7 +462,7 @@ async function contrast(...given) {
         return [255, 255, 255];
     };
     const found = [];
-    for (const element of document.querySelectorAll("body *")) {
+    for (const element of each("body *")) {
         const text = Array.from(element.childNodes)
                          .filter((node) => node.nodeType === 3)
                          .map((node) => node.data.trim())
@@ -474,32 +480,28 @@ async function contrast(...given) {
 }
 
 async function namesAndLabels(...given) {
-    const nameless = Array.from(document.querySelectorAll("input, select, textarea"))
+    const nameless = each("input, select, textarea")
                          .filter((one) => one.offsetParent !== null && !one.labels?.length && !one.ariaLabel &&
                                  !one.getAttribute("aria-label"));
-    const mute =
-        Array.from(document.querySelectorAll("button"))
-            .filter((one) => one.offsetParent !== null && !one.textContent.trim() && !one.getAttribute("aria-label"));
-    const ids = Array.from(document.querySelectorAll("[id]"), (one) => one.id);
+    const mute = each("button").filter(
+        (one) => one.offsetParent !== null && !one.textContent.trim() && !one.getAttribute("aria-label"));
+    const ids = each("[id]", (one) => one.id);
     const twice = ids.filter((id, at) => ids.indexOf(id) !== at);
-    const lost =
-        Array.from(document.querySelectorAll("[aria-labelledby], [aria-describedby], [aria-controls], label[for]"))
-            .flatMap((one) => ["aria-labelledby", "aria-describedby", "aria-controls", "for"].flatMap(
-                         (name) => (one.getAttribute(name) ?? "").split(" ").filter(Boolean)))
-            .filter((id) => !byId(id));
+    const lost = each("[aria-labelledby], [aria-describedby], [aria-controls], label[for]")
+                     .flatMap((one) => ["aria-labelledby", "aria-describedby", "aria-controls", "for"].flatMap(
+                                  (name) => (one.getAttribute(name) ?? "").split(" ").filter(Boolean)))
+                     .filter((id) => !byId(id));
     return {nameless: nameless.map((one) => one.id), mute: mute.length, twice, lost};
 }
 
 // What a text or a field comes to: how long it took, what is said of it, and whether something older is still seen.
-const isOlderSeen = () =>
-    Array.from(document.querySelectorAll(".older")).some((one) => one.offsetParent !== null && one.checkVisibility({
-        visibilityProperty: true
-    }) && one.textContent !== "");
+const isOlderSeen = () => each(".older").some(
+    (one) => one.offsetParent !== null && one.checkVisibility({visibilityProperty: true}) && one.textContent !== "");
 async function ended(began) {
     await until(isIdle);
     await drawn();
     const seconds = (performance.now() - began) / 1000;
-    const view = document.querySelector("[role=tabpanel]:not([hidden])");
+    const view = first("[role=tabpanel]:not([hidden])");
     const isOlder = isOlderSeen() || view.matches(".older") || view.querySelector(".older") !== null;
     return {seconds, found: byId("found").textContent.slice(0, 200), isOlder};
 }
@@ -621,7 +623,7 @@ async function stopWorker(...given) {
 async function breakWorker(...given) {
     const {postMessage} = window.Worker.prototype;
     window.Worker.prototype.postMessage = function(message) {
-        if (message.name) setTimeout(() => this.onerror({message: "out of memory"}));
+        if (message.name) setTimeout(() => this.onerror(new window.ErrorEvent("error", {message: "out of memory"})));
         else postMessage.call(this, message);
     };
     const began = performance.now();

@@ -2,7 +2,7 @@
 // It reads lists of texts and of lists of ACEs as JSON.
 import fs from "node:fs";
 
-const {kindByRights, kindIn, kindsOf} = await import(new URL("../../web/kinds.mjs", import.meta.url));
+const {kindByRights, kindIn, kindsOf} = await import(new URL("../../web/kinds.mjs", import.meta.url).href);
 const {texts, lists} = JSON.parse(fs.readFileSync(0, "utf8"));
 process.stdout.write(JSON.stringify({
     kinds: texts.map(kindIn),

@@ -7,13 +7,13 @@ import {pathToFileURL} from "node:url";
 const TOP = new URL("../..", import.meta.url);
 const [place] = process.argv.slice(2);
 
-const module = await import(pathToFileURL(place));
+const module = await import(pathToFileURL(place).href);
 const library = module.library ?? await module.load();
-const {questionOf} = await import(new URL("web/desk.mjs", TOP));
-const {freshState} = await import(new URL("web/state.mjs", TOP));
-const {commandOf} = await import(new URL("web/sharing.mjs", TOP));
-const {descriptorsIn} = await import(new URL("web/clipboard.mjs", TOP));
-const {answerTo} = await import(new URL("web/library.mjs", TOP));
+const {questionOf} = await import(new URL("web/desk.mjs", TOP).href);
+const {freshState} = await import(new URL("web/state.mjs", TOP).href);
+const {commandOf} = await import(new URL("web/sharing.mjs", TOP).href);
+const {descriptorsIn} = await import(new URL("web/clipboard.mjs", TOP).href);
+const {answerTo} = await import(new URL("web/library.mjs", TOP).href);
 const OLDER = "process";
 
 function answer({name, text, kind, more}) {
