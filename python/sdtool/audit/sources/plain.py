@@ -54,8 +54,9 @@ def _named_item(line: str, place: str, label: str, number: int, given: Optional[
     if found is None:
         return None
     front, text = line[:found.start()], line[found.start():].rstrip()
-    mark = front[-1] if front[-1] in "\"'" else ""
-    text, front = text.removesuffix(mark), front.removesuffix(mark).rstrip(" \t:=").strip(" \t\"'")
+    if front[-1] in "\"'" and text.endswith(front[-1]):
+        text = text[:-1]
+    front = re.sub("[\"']\\Z", "", front).rstrip(" \t:=").strip(" \t\"'")
     if not front or text.count("(") != text.count(")") or not (text[-1].isalnum() or text[-1] == ")"):
         return None
     name = place if plain_name(front) in DESCRIPTOR_NAMES else front

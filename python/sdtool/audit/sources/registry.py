@@ -122,7 +122,7 @@ def _binary_value(begin: int, name: str, data: str, lines: _Numbered) -> Value:
     count = 0
     while True:
         is_open = line.rstrip().endswith("\\")
-        digits = line.rstrip()[:-1].rstrip(" \t").removesuffix(",") if is_open else line
+        digits = re.sub(r",\Z", "", line.rstrip()[:-1].rstrip(" \t")) if is_open else line
         if not _DIGITS.match(digits):
             return Value(begin, begin + 1 + count, name, "", "the value has something other than hex digits")
         parts.append(digits)
