@@ -28,8 +28,6 @@ def answer(text):
 
 
 # A name may have a CR in it, and bytes that are not UTF-8.
-sys.stdin.reconfigure(newline="\n", errors="surrogateescape")
-sys.stdout.reconfigure(errors="surrogateescape")
-for line in sys.stdin:
-    name, _, text = line.rstrip("\r\n").partition("\t")
-    print(f"{name}: {answer(text)}")
+for line in sys.stdin.buffer:
+    name, _, text = line.decode(errors="surrogateescape").rstrip("\r\n").partition("\t")
+    sys.stdout.buffer.write(f"{name}: {answer(text)}\n".encode(errors="surrogateescape"))

@@ -391,7 +391,8 @@ class Changes:
     def of_word(self, word, is_right, declared):
         first, _, rest = word.partition(".")
         if first in self.enum_by_prefix and rest:
-            if other := self.next_variant(*self.enum_by_prefix[first], rest):
+            crate, enum = self.enum_by_prefix[first]
+            if other := self.next_variant(crate, enum, rest):
                 yield word, f"{first}.{other}", ""
         elif word in self.enum_of:
             crate, enum, path = self.enum_of[word]

@@ -572,6 +572,6 @@ def run_tests(count, tests):
             test(place)
 
 
-def main(count):
+def main(count: preload.Count) -> None:
     run_tests(count, (test_named, test_design, test_reasons, test_all_rules, test_page, test_conditions,
                       test_conditions_of_defaults, test_places, test_said, test_conditions_on_page))

@@ -1,12 +1,10 @@
-"""Checks the package sdtool.audit as software: types (mypy --strict), no private name of another module, no option in a
-message that no command has, and runs as on Windows and macOS. It needs what tests/audit/audit.py needs, Debian's mypy
-and pyflakes3; a line says what is missing.
+"""Checks the package sdtool.audit as software: no private name of another module, no option in a message that no command
+has, and runs as on Windows and macOS. It needs what tests/audit/audit.py needs; a line says what is missing.
 """
 import ast
 import os
 import pathlib
 import re
-import shutil
 import subprocess
 import tempfile
 
@@ -71,26 +69,6 @@ def fork():
     raise OSError("a fork")
 os.fork = fork
 """ + START
-
-
-def test_types(count: preload.Count) -> None:
-    if not shutil.which("mypy"):
-        print("skipped: mypy is missing (Debian: mypy)")
-        return
-    # Errors of modules outside of the audit are those of their own tests.
-    with tempfile.TemporaryDirectory() as cache:
-        ended = subprocess.run(["mypy", "--strict", "--follow-imports=silent", "--cache-dir", cache, "sdtool/audit"],
-                               cwd=TOP / "python", capture_output=True, text=True)
-    count.add(ended.returncode == 0, f"mypy: {ended.stdout}{ended.stderr}")
-
-
-def test_names(count: preload.Count) -> None:
-    lint = next(filter(None, map(shutil.which, ("pyflakes3", "pyflakes"))), None)
-    if lint is None:
-        print("skipped: pyflakes is missing (Debian: pyflakes3)")
-        return
-    ended = subprocess.run([lint, str(PACKAGE)], capture_output=True, text=True)
-    count.add(ended.returncode == 0, f"pyflakes: {ended.stdout}{ended.stderr}")
 
 
 def test_private_names(count: preload.Count) -> None:
@@ -202,9 +180,8 @@ def test_windows_and_macos(count: preload.Count, python: str) -> None:
 
 
 def main(count: preload.Count) -> None:
-    for static in (test_types, test_names, test_private_names):
-        if preload.is_chosen(f"static {static.__name__}"):
-            static(count)
+    if preload.is_chosen(f"static {test_private_names.__name__}"):
+        test_private_names(count)
     others = [test for test in (test_options, test_other_systems, test_windows_and_macos) if
               preload.is_chosen(test)]
     python = audit.python_with_packages() if others else None

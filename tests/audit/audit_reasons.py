@@ -335,7 +335,7 @@ def test_many(place: Place) -> None:
 
 # Words of a command, descriptors, and what each finding says: its rule, trustee and because.
 ALL, WRITE = f"(A;;0x1f01ff;;;{EVERYONE[EVERYONE.index('(') + 1:-1]})", "(D;;0x2;;;S-1-5-32-545)"
-ROWS = [
+ROWS: list = [
     (("who", "0x2"), f"O:{ANN}D:{WRITE}{ALL}",
      [("who", EVERYONE, [(2, ALL, "write data", True)]),
       ("stopped", audit.USERS, [(1, WRITE, "write data", False)])]),

@@ -256,9 +256,9 @@ def test_databases(place: Place) -> None:
                   ["--no-header"], ["--name-column", "1"], ["--descriptor-column", "2"], ["--object-names", "list.csv"],
                   ["--attribute", "user.x"]):
         for paths in (["kept.db"], [source, "kept.db"]):
-            ended = place.ask("risks", *paths, *words)
-            place.expect((ended.status, ended.stdout, words[0] in ended.stderr), (2, "", True),
-                         f"{words} of a database: {ended}")
+            refused = place.ask("risks", *paths, *words)
+            place.expect((refused.status, refused.stdout, words[0] in refused.stderr), (2, "", True),
+                         f"{words} of a database: {refused}")
     place.write("none.csv", "name,sddl\n")
     place.ask("risks", "none.csv", "--into", "none.db", may_write="none.db")
     place.expect(place.ask("risks", "none.db").status, 3, "a database of a list without objects")

@@ -25,7 +25,7 @@ import tempfile
 import threading
 import time
 import zipfile
-from typing import Callable, Dict, List, NamedTuple, Optional, Sequence, Tuple
+from typing import Any, Callable, Dict, List, NamedTuple, Optional, Sequence, Tuple
 
 import audit
 import preload
@@ -1436,20 +1436,20 @@ class Processes:
         self._reporting, self._engine, self._path = reporting, engine, place.folder / "table"
         self._pool = pool.Pool(3, engine.Held(Nothing(), lambda: reporting.Report(Listed())))  # type: ignore[arg-type]
 
-    def read(self, text: str) -> Tuple[list, object]:
+    def read(self, text: str) -> Tuple[list, Any]:
         """The objects of a table, and the account of its lines."""
         from sdtool.audit.sources import reading
         from sdtool.audit.sources.options import SourceOptions
         self._path.write_bytes(text.encode())
         units = reading.read_tables(str(self._path), SourceOptions(format="csv"), lambda count: None)
         table = next(units)  # whose file is open until the units end
-        report = self._reporting.Report(Listed())
+        listed = Listed()
+        report = self._reporting.Report(listed)
         self._reporting.Tables(report, self._engine.Engine(Nothing(), self._pool), self._pool,
                                lambda count: None).add(table)
-        return (report.output.found if report.seen == report.summary.total == len(report.output.found) else [],
-                table.account)
+        return listed.found if report.seen == report.summary.total == len(listed.found) else [], table.account
 
-    def alone(self, text: str) -> Tuple[list, object]:
+    def alone(self, text: str) -> Tuple[list, Any]:
         """The same by one process."""
         from sdtool.audit.sources import reading
         from sdtool.audit.sources.options import SourceOptions
@@ -1552,7 +1552,7 @@ def add_options(parser: argparse.ArgumentParser) -> None:
     parser.add_argument("--seed", type=int, default=1, help="of what is drawn")
 
 
-def main(count: preload.Count, given: argparse.Namespace) -> None:
+def main(count: preload.Count, given: preload.Given) -> None:
     python = audit.python_with_packages()
     if not python:
         print("skipped: no Python here has click and rich (Debian: python3-click, python3-rich)")

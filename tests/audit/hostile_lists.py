@@ -363,7 +363,7 @@ def lines(count):
         count.add(told.count(b"\n") == 2 and child.returncode == 0, f"{words}, lines that come late: {told}")
 
 
-def main(count, given):
+def main(count: preload.Count, given: preload.Given) -> None:
     program = given.program
     with tempfile.TemporaryDirectory() as folder:
         os.symlink(program, os.path.join(folder, "sdtool"))

@@ -12,6 +12,7 @@ import tempfile
 
 import abilities
 import counted_calls
+import preload
 
 TRUSTEES, MOST_FOR_EACH = (20, 40, 80), 2.6  # twice the trustees are linear, four times are quadratic
 JOBS = 2  # side by side
@@ -110,5 +111,5 @@ def test_bound(place):
         place.expect(len(found), 100, "trustees on the page")
 
 
-def main(count):
+def main(count: preload.Count) -> None:
     abilities.run_tests(count, (test_growth, test_page, test_bound))

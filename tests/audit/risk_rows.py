@@ -242,7 +242,7 @@ def add_options(words):
     words.add_argument("--library", default=str(TOP / "out/systems/wasm/sdtool.mjs"), help="the page's library")
 
 
-def main(count, chosen):
+def main(count: preload.Count, chosen: preload.Given) -> None:
     if chosen.page and not (shutil.which("node") and os.path.exists(chosen.library)):
         print(f"skipped: no Node, or no {chosen.library}")
         return

@@ -6,6 +6,7 @@ among more, and nothing graver. It needs what tests/audit/audit.py needs.
 import itertools
 
 import abilities
+import preload
 from abilities import BITS, ELSEWHERE, EVERYONE, SEVERITIES, SIGNED_IN, SOMEBODY, findings, names, table
 
 WRITE_DAC, WRITE_OWNER = 0x40000, 0x80000
@@ -171,5 +172,5 @@ def test_fewer_rules(place):
                 judge_fewer(place, f"--rules {named}", of_all, fewer, kept)
 
 
-def main(count):
+def main(count: preload.Count) -> None:
     abilities.run_tests(count, (test_masks, test_classes, test_high, test_fewer_rules))

@@ -7,6 +7,8 @@ import re
 import subprocess
 import tempfile
 
+import preload
+
 TOP = pathlib.Path(__file__).resolve().parents[2]
 RUN = TOP / "bench/run"
 WORKLOAD = "calls"
@@ -30,7 +32,7 @@ def ran(*words):
     return subprocess.run([RUN, *words], capture_output=True, text=True, timeout=SECONDS, check=False)
 
 
-def main(count):
+def main(count: preload.Count) -> None:
     program = TOP / "crates/sd_bench/out/sd_bench"
     count.add(program.exists(), f"there is no {program}: rt ci builds it, or rt run in crates/sd_bench")
     if not program.exists():

@@ -51,7 +51,7 @@ def per_step(program, call):
     return STEP * grown / (MANY - FEW) ** 2
 
 
-def main(count):
+def main(count: preload.Count) -> None:
     if shutil.which("valgrind") is None:
         print("skipped: there is no valgrind")
         return

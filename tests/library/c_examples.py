@@ -13,6 +13,7 @@ import sys
 import tempfile
 
 import c_install
+import preload
 import run_examples
 
 TOP = c_install.TOP
@@ -133,7 +134,7 @@ def test_recipe(count, folder, environment):
         count.add(printed == example.printed, f"docs/COOKBOOK.md: {example.command}\n  printed {printed!r}")
 
 
-def main(count):
+def main(count: preload.Count) -> None:
     room = next((room for room in (tempfile.gettempdir(), TOP / "out") if can_keep(room, "user.NTACL")), None)
     if room is None or not shutil.which("pkg-config"):
         print("skipped: there is no pkg-config, or no file system here keeps attributes of users")

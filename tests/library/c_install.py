@@ -213,7 +213,7 @@ def test_scripts(count):
         count.add("\nset -euo pipefail\n" in path.read_text(encoding="utf-8"), path.name)
 
 
-def main(count):
+def main(count: preload.Count) -> None:
     test_scripts(count)
     if not shutil.which("pkg-config"):
         print("skipped: there is no pkg-config")

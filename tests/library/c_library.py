@@ -21,6 +21,7 @@ import sys
 import tempfile
 
 import compare
+import preload
 import reference
 import run_rows
 
@@ -592,7 +593,7 @@ def add_options(parser):
     parser.add_argument("--lines", type=int, default=400)
 
 
-def main(count, arguments):
+def main(count: preload.Count, arguments: preload.Given) -> None:
     choices = random.Random(29)
     rows = lines_of_rows()
     lines = tuple(of_rows + random_lines(of_rows, arguments.lines, change, choices)

@@ -390,8 +390,8 @@ def domains():
         text = DOMAIN_SID.text().encode()
         admins = of_admins = (23, 0, 0)
         if sid and len(sid.sub_authorities) < 15:
-            admins = Sid(sid.authority, (*sid.sub_authorities, 512))
-            admins, of_admins = admins.to_bytes(), reference.layout(owned._replace(owner=admins))
+            group = Sid(sid.authority, (*sid.sub_authorities, 512))
+            admins, of_admins = group.to_bytes(), reference.layout(owned._replace(owner=group))
         for name, arguments, right in (
                 ("sdtool_to_sddl", (reference.layout(owned), data, True), b"O:" + text),
                 ("sdtool_sid_to_text", (DOMAIN_SID.to_bytes(), data, True), text),
@@ -646,7 +646,7 @@ PARTS = (mappings, kinds, entries, states, types_and_flags, faults, sids_as_text
          words, layers)
 
 
-def main(count):
+def main(count: preload.Count) -> None:
     for part in filter(preload.is_chosen, PARTS):
         before = count.passed
         for what, found, right in part():

@@ -17,6 +17,7 @@ import tempfile
 
 import c_library
 import compare
+import preload
 import reference
 
 DOMAIN_TEXT = "S-1-5-21-1-2-3"
@@ -282,7 +283,7 @@ def add_options(parser):
     parser.add_argument("--lines", type=int, default=400)
 
 
-def main(count, arguments):
+def main(count: preload.Count, arguments: preload.Given) -> None:
     choices = random.Random(31)
     maker = compare.Lines(choices)
     with tempfile.TemporaryDirectory() as name:

@@ -12,6 +12,7 @@ import random
 
 import c_library
 import compare
+import preload
 import reference
 from c_neighbours import ARGUMENT, CREATOR, MOST_DERIVED_ACES, OK, TOO_SMALL, answered, origins_of
 from reference import Ace, Acl, Descriptor, Sid
@@ -175,7 +176,7 @@ def add_options(parser):
     parser.add_argument("--lines", type=int, default=20_000)
 
 
-def main(count, given):
+def main(count: preload.Count, given: preload.Given) -> None:
     test_laws(count)
     test_most(count)
     test_lines(count, given.lines, random.Random(78))

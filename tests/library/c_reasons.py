@@ -15,6 +15,7 @@ from ctypes import byref, c_char_p, c_size_t, c_uint32
 
 import c_library
 import compare
+import preload
 import reference
 from c_neighbours import NO_PLACE, OK, Asker, Outcome, Reason, call
 from reference import Ace, Acl, Descriptor, Sid
@@ -132,7 +133,7 @@ def add_options(parser):
     parser.add_argument("--lines", type=int, default=100_000)
 
 
-def main(count, given):
+def main(count: preload.Count, given: preload.Given) -> None:
     with tempfile.TemporaryDirectory() as name:
         test_time(count, pathlib.Path(name))
     test_lines(count, given.lines, random.Random(77))

@@ -18,6 +18,7 @@ import subprocess
 import tempfile
 from typing import NamedTuple
 
+import preload
 from c_library import built
 
 TOP = pathlib.Path(__file__).resolve().parents[2]
@@ -293,6 +294,6 @@ def test_running(count):
                      big.encode() * 3, status)
 
 
-def main(count):
+def main(count: preload.Count) -> None:
     test_code(count)
     test_running(count)

@@ -46,7 +46,7 @@ def ace(kind=0, flags=0, size=20, body=EVERYONE):
 
 
 # Bytes, and the number of their fault, its part, ACE, field, offset and size.
-OF_BYTES = [
+OF_BYTES: list = [
     (b"", 5, None, None, None, 0, 0),
     (b"\1\0\4", 5, None, None, None, 3, 0),
     (bytes(20), 6, None, None, None, 0, 1),
@@ -71,7 +71,7 @@ OF_BYTES = [
     (header(owner=20, group=24) + b"\1\1\0\0\1\1\0\5" + bytes(8), 14, "group", None, None, 24, 12),
     (header(4, owner=32, dacl=20) + acl(15, 0) + bytes(4) + EVERYONE, 14, "dacl", None, None, 20, 15),
 ]
-OF_SDDL = [
+OF_SDDL: list = [
     (b"x", 20, None, None, None, 0, 1),
     (b" O", 20, None, None, None, 2, 0),
     (b"O BA", 20, None, None, None, 1, 1),
@@ -112,7 +112,7 @@ OF_SDDL = [
 ]
 
 
-OF_SDDL_ALONE = [
+OF_SDDL_ALONE: list = [
     (b"O:BAG:DAD:(A;;FA;;;DU)", 23, "group", None, "sid", 6, 2),
     (b"D:(A;;FA;;;WD)(A;;FA;;;da)S:(AU;;FA;;;ZZ)", 23, "dacl", 1, "sid", 23, 2),
     (b"S: \tP (AU;SA;FA;;;WD)\t(AU;SA;FA;;;EA) ", 23, "sacl", 1, "sid", 34, 2),
@@ -329,7 +329,7 @@ def add_options(words):
     words.add_argument("--lines", type=int, default=100_000)
 
 
-def main(count, given):
+def main(count: preload.Count, given: preload.Given) -> None:
     lines, chosen = given.lines, random.Random(1)
     maker = compare.Lines(chosen)
     judge_rows(count)

@@ -13,6 +13,7 @@ import re
 import sys
 
 import fault_places
+import preload
 import sddl_texts
 from fault_places import FIELDS, LIBRARY, NO_ACE, PARTS, Told
 from reference.places import Place
@@ -161,5 +162,5 @@ def compare_library(count, words):
     count.add(library.longest <= library.most, f"a sentence has {library.longest} bytes")
 
 
-def main(count):
+def main(count: preload.Count) -> None:
     compare_library(count, documented())

@@ -258,7 +258,7 @@ def add_options(parser):
     parser.add_argument("--why", help="why other figures rise; these are written too")
 
 
-def main(count, given):
+def main(count: preload.Count, given: preload.Given) -> None:
     # The file is read where valgrind is missing too, so that nobody hands in one that can't be read.
     kept = Figures()
     if not shutil.which("valgrind"):

@@ -930,7 +930,7 @@ def in_a_place(tests, name, *tools):
     return count
 
 
-def main(count, wanted):
+def main(count: preload.Count, wanted: preload.Given) -> None:
     with tempfile.TemporaryDirectory(ignore_cleanup_errors=True) as folder:
         python = dask_cluster.python_with_dask(folder)
         if python is None:

@@ -1042,7 +1042,7 @@ GROUPS = {
 }
 
 
-def main(count, wanted):
+def main(count: preload.Count, wanted: preload.Given) -> None:
     with tempfile.TemporaryDirectory(ignore_cleanup_errors=True) as folder:
         os.chmod(folder, 0o755)
         python = dask_cluster.python_with_dask(folder)

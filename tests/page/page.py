@@ -190,7 +190,7 @@ def add_options(parser):
     parser.add_argument("--pictures", type=pathlib.Path, help="a folder for pictures of the views")
 
 
-def main(count, given):
+def main(count: preload.Count, given: preload.Given) -> None:
     given.page = given.page.resolve()
     start_again()
     if not given.page.exists():

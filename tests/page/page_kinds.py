@@ -8,6 +8,7 @@ import shutil
 import subprocess
 import tomllib
 
+import preload
 from reference import sddl_reading
 
 TOP = pathlib.Path(__file__).resolve().parents[2]
@@ -70,7 +71,7 @@ TEXTS = [
     ("D:(A;;0x1;;;WD)", None),
 ]
 # Masks of ACEs, and the kind that they tell of.
-MASKS = [
+MASKS: list = [
     ([0x1f01ff, 0x1200a9], "folder"), ([0x1f01ff, 0x2], "folder"), ([0x10000000, 0x1f01ff], "folder"), ([], "folder"),
     ([0], "folder"), ([0xf01ff, 0x2009d], None), ([0x2], None), ([0x20019], None), ([0x1], None), ([0x10000000], None),
     ([0x10000000, 0x2], None), ([0x10000], None), ([0xf0007, 0x7], None), ([0x4000000], None), ([0x1fffff], "process"),
@@ -78,7 +79,7 @@ MASKS = [
 ]
 # Windows' own descriptors without what tells of their kind: the kind that the page asks about first, and others that it
 # doesn't offer, since they don't have the rights by winspool.h, winsvc.h, wbemcli.h, winnt.h and certsrv.h.
-BARE = [
+BARE: list = [
     ("G:SYD:(A;;LCSWSDRCWDWO;;;BA)(A;OIIO;RPWPSDRCWDWO;;;BA)(A;OIIO;GA;;;CO)(A;OIIO;GA;;;AC)(A;;SWRC;;;WD)(A;CIIO;GX;;"
      ";WD)(A;;SWRC;;;AC)(A;CIIO;GX;;;AC)", "printer", ["log", "com", "authority"]),
     (SERVICE, "service", ["key", "service-manager", "log", "printer", "com", "wmi", "authority"]),
@@ -107,7 +108,7 @@ def judge_rows(count, rows, answers):
         count.add(is_right, f"rights of {kind} tell of {told}, and {asked} are asked about: {row['sddl']}")
 
 
-def main(count):
+def main(count: preload.Count) -> None:
     if not shutil.which("node"):
         print("skipped: there is no Node")
         return

@@ -13,6 +13,7 @@ import re
 import shutil
 import subprocess
 
+import preload
 import sddl_texts
 
 TOP = pathlib.Path(__file__).resolve().parents[2]
@@ -166,7 +167,7 @@ def rows_of_kinds():
 # Of these a text is put together, with a front that nobody can read or a part that comes twice.
 PIECES = ["O:", "G:", "D:", "S:", "O:S-15 ", "O:BA", "G:SY", "O:S-1-5-18", "D:P", "D:X", "S:X", "O: ", "D:(A;;FA;;;WD)",
           "D:AI(A;;FA;;;WD)", "S:(AU;SA;FA;;;WD)", " ", "\t", "D:NO_ACCESS_CONTROL", "x", "O:DA", "o:s-15"]
-FRONT = re.compile(r"[ \t]*[OGDS]:", re.I)
+FRONT_OF_TEXT = re.compile(r"[ \t]*[OGDS]:", re.I)
 REFUSED = 600  # texts
 
 
@@ -175,7 +176,7 @@ def refused_texts():
     chance, told = random.Random(1), 0
     while told < REFUSED:
         text = "".join(chance.choice(PIECES) for _ in range(chance.randrange(2, 5))).strip()
-        if FRONT.match(text):
+        if FRONT_OF_TEXT.match(text):
             told += 1
             yield ("look", "folder", text, {}), sddl_texts.expected(text, code_units=True, with_domain=False)
 
@@ -205,7 +206,7 @@ def add_options(words):
     words.add_argument("--library", default=str(TOP / "out/systems/wasm/sdtool.mjs"), help="the page's library")
 
 
-def main(count, chosen):
+def main(count: preload.Count, chosen: preload.Given) -> None:
     if not (shutil.which("node") and os.path.exists(chosen.library)):
         print(f"skipped: no Node, or no {chosen.library}")
         return

@@ -21,7 +21,7 @@ def counted(text, word):
     return int(found[-1]) if found else None
 
 
-def main(count):
+def main(count: preload.Count) -> None:
     if not shutil.which("node"):
         print("skipped: node (Debian: nodejs)")
         return

@@ -129,7 +129,8 @@ def laid_out(pieces, gaps, order, unused=(0, 0, 0, 0), control=0x8000, manager=0
             offsets[part] = 20 + len(join(*body).data)
             body.append(pieces[part])
             control |= {2: SACL_PRESENT, 3: DACL_PRESENT}.get(part, 0)
-    front = Piece(header(*offsets, control, manager), [(0, 1), (2, 2), (4, 4), (8, 4), (12, 4), (16, 4)])
+    front = Piece(header(*offsets, control=control, manager=manager),
+                  [(0, 1), (2, 2), (4, 4), (8, 4), (12, 4), (16, 4)])
     return join(front, *body)
 
 
@@ -243,7 +244,7 @@ def double_fault_lines():
             body += bad[part] if state == "bad" else good[part]
             if state == "meets":  # (its last byte is the first one of the next part)
                 body = body[:-1]
-        yield header(*offsets, 0x8014) + body
+        yield header(*offsets, control=0x8014) + body
 
 
 def overlap_lines():
@@ -255,7 +256,7 @@ def overlap_lines():
         offsets[one], offsets[other] = 32, place
         data[32:40] = long_acl if one in ACLS else long_sid
         data[place:place + 8] = short_acl if other in ACLS else short_sid
-        yield header(*offsets, 0x8014) + bytes(data[20:])
+        yield header(*offsets, control=0x8014) + bytes(data[20:])
     # The parts stand eight bytes after one another and have more than eight, or they stand apart.
     for order, apart, more in itertools.product(itertools.permutations(PARTS), range(16), (0, 4, 8, 16, 24)):
         offsets, body = [0] * 4, b""
@@ -268,7 +269,7 @@ def overlap_lines():
             if apart >> part & 1:
                 offsets[part] = 20 + len(body)
                 body += short_acl if part in ACLS else short_sid
-        yield header(*offsets, 0x8014) + body
+        yield header(*offsets, control=0x8014) + body
 
 
 def fixed_lines():
@@ -499,7 +500,7 @@ class Lines:
         for at in (20 + len(gap), 20 + place):
             acl_there = at + 8 <= 20 + len(body) and body[at - 20] != 1
             offsets[self.chance.choice(ACLS if acl_there else (0, 1))] = at
-        return Piece(header(*offsets, 0x8014) + bytes(body))
+        return Piece(header(*offsets, control=0x8014) + bytes(body))
 
     def ends(self):
         """A field or two at an end of its range, or near its value."""
@@ -1072,7 +1073,7 @@ def add_options(parser):
     parser.add_argument("--seed", type=int, default=1, help="(%(default)s)")
 
 
-def main(count, given):
+def main(count: preload.Count, given: preload.Given) -> None:
     compared = Count()
     for part in filter(preload.is_chosen, PARTS_OF_ALL):
         PARTS_OF_ALL[part](compared, given.program, Lines(random.Random(f"{given.seed} {part}")), given.lines)

@@ -6,6 +6,8 @@ import pathlib
 import re
 import subprocess
 
+import preload
+
 FOLDER = pathlib.Path(__file__).resolve().parents[2] / "packaging/completions"
 SECONDS = 1200
 OPTION = re.compile(r"--([a-z][a-z-]*)")
@@ -61,7 +63,7 @@ def of_fish(command):
     return options
 
 
-def main(count, given):
+def main(count: preload.Count, given: preload.Given) -> None:
     program = given.program
     commands = commands_of(program)
     count.add(len(commands) >= 4, f"the commands of help: {commands}")

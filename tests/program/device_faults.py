@@ -295,7 +295,7 @@ def judge_many(count, runner):
         count.add(ended[:3] == (status, wanted, says), f"a million lines, {settings}: {ended}")
 
 
-def main(count, given):
+def main(count: preload.Count, given: preload.Given) -> None:
     program = given.program
     with tempfile.TemporaryDirectory() as folder, concurrent.futures.ThreadPoolExecutor(os.cpu_count()) as pool:
         runner = Runner(program, preload.build("faults.c", folder))

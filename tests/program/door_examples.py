@@ -19,6 +19,8 @@ import subprocess
 import tempfile
 from typing import List, NamedTuple
 
+import preload
+
 TOP = pathlib.Path(__file__).resolve().parents[2]
 DOORS = ["sd_core", "sd_binary", "sd_sddl", "sd_access", "sd_filter"]
 LIBRARIES = "sd_tests"  # crates.txt lists for it all that an example may use
@@ -163,7 +165,7 @@ def build(folder, modules, others):
     return folder / "crates/doors"
 
 
-def main(count):
+def main(count: preload.Count) -> None:
     heads = {door: head_of(door) for door in DOORS}
     for door, head in heads.items():
         count.add(head is not None, f"{door}: no example, or not what it prints")

@@ -13,6 +13,7 @@ import time
 from typing import NamedTuple
 
 import device_faults as faults
+import preload
 
 MOST_KIB = 4096
 BLOCK = 1 << 20
@@ -78,7 +79,7 @@ def run(words, blocks):
         return Ended(b"".join(written), child.wait(), memory)
 
 
-def main(count, given):
+def main(count: preload.Count, given: preload.Given) -> None:
     program = given.program
     for name, form, blocks, wanted in cases():
         ended = run([program, "convert", "--from", form, "--to", "hex"], blocks)

@@ -559,7 +559,7 @@ def judge(program, task):
     return passed, failed
 
 
-def main(count, given):
+def main(count: preload.Count, given: preload.Given) -> None:
     with multiprocessing.get_context("fork").Pool(os.cpu_count()) as pool:
         results = [(part, pool.imap_unordered(functools.partial(judge, given.program), list(part())))
                    for part in PARTS if preload.is_chosen(part)]

@@ -13,6 +13,7 @@ import tempfile
 from typing import NamedTuple, Tuple
 
 import compare
+import preload
 import run_rows
 
 PROGRAM = pathlib.Path(__file__).resolve().parents[2] / "crates/sdtool"
@@ -72,7 +73,7 @@ def told_of(folder):
     return told, before
 
 
-def main(count):
+def main(count: preload.Count) -> None:
     run_rows.judge(count, filter(run_rows.is_for_reference, run_rows.all_rows()), run_rows.asked_of_reference)
     print(f"rows on the reference: {count.passed}", flush=True)
     runs = {f"{number:03}": run for number, run in enumerate([*of_rows(), *of_random_lines()])}

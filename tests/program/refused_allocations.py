@@ -230,7 +230,7 @@ def refuse_when_reading(count, program, words, lines, library, answers=None):
     count.add(is_told(told) and told.endswith(READ), f"{shown}, the library told {told[:20]}, and no read last")
 
 
-def main(count, given):
+def main(count: preload.Count, given: preload.Given) -> None:
     program = given.program
     with tempfile.TemporaryDirectory() as folder:
         library = preload.build("refuse.c", folder)

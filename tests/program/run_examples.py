@@ -11,6 +11,8 @@ import subprocess
 import tempfile
 from typing import NamedTuple
 
+import preload
+
 SECONDS = 1200  # for one command
 TOP = pathlib.Path(__file__).resolve().parents[2]
 # The documents, and the folder in which the commands of each are run: one that has a copy of examples/, or that copy.
@@ -84,7 +86,7 @@ def printed_by(command, folder, path):
     return ended.stdout
 
 
-def main(count, given):
+def main(count: preload.Count, given: preload.Given) -> None:
     program = given.program
     judge_tables(count, program)
     with tempfile.TemporaryDirectory() as bin_folder:

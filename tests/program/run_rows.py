@@ -348,7 +348,7 @@ def add_options(parser):
     parser.add_argument("--one-byte", action="store_true", help="the input comes one byte a read")
 
 
-def main(count, given):
+def main(count: preload.Count, given: preload.Given) -> None:
     rows = [row for row in all_rows() if preload.is_chosen(row["id"])]
     if given.one_byte:
         rows = [row for row in rows if is_for_files(row)]

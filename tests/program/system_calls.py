@@ -37,7 +37,7 @@ def of_examples():
                                                       lines * (MEGABYTE // len(lines)))
 
 
-def main(count, given):
+def main(count: preload.Count, given: preload.Given) -> None:
     program = given.program
     with tempfile.TemporaryDirectory() as folder:
         runner = faults.Runner(program, preload.build("faults.c", folder))

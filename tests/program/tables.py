@@ -309,7 +309,7 @@ def judge(count, program, words, lines):
               f"{shown}: status {ended.returncode}, stderr {ended.stderr[:80]}")
 
 
-def main(count, given):
+def main(count: preload.Count, given: preload.Given) -> None:
     program = given.program
     tests = (aliases_read, fields_read, kinds_read, parts_read, acl_flags_read, aliases_printed, fields_printed,
              types_printed, words_explained, flags_explained, of_base64)

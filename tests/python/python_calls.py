@@ -1,7 +1,7 @@
 """Tests the Python module over the built library: that arguments are checked before they reach the library, what
 exceptions say and that they can be pickled, what is true and what is not, lines() beside the program on the same input,
 `python -m sdtool` beside the program on the worked rows and on streams that fail, and an import without the library.
-With mypy, the module and a caller have to pass its strict mode.
+With mypy, a caller has to pass its strict mode.
 """
 import concurrent.futures
 import copy
@@ -81,7 +81,7 @@ def raised(call, *arguments, **named):
 
 def test_types(count):
     """Of each argument some values of a wrong type, which are a WrongType, and so a TypeError, that names it."""
-    whole = {
+    whole: dict = {
         sdtool.to_sddl: {"descriptor": EMPTY, "domain": None, "numeric": False},
         sdtool.explain: {"descriptor": EMPTY, "domain": None, "numeric": False},
         sdtool.normalize: {"descriptor": EMPTY},
@@ -96,7 +96,7 @@ def test_types(count):
         sdtool.fault_text: {"number": 25},
         sdtool.plain_descriptors: {"descriptors": [], "domain": None, "ahead": 1},
     }
-    wrong = {
+    wrong: dict = {
         "descriptor": ["O:BA", None, 20, [1], object()], "domain": [1, ["S"], 1.0], "numeric": [0, 1, None, "yes"],
         "text": [None, 1, object(), ["D:"]], "sids": [BU, "BU", None, 1, [1], [None], [BU, 2.0]],
         "deny_only": [BU, "BU", None, [1]], "wanted": [True, False, None, 1.0, "FR", b"1"], "maximum": [0, 1, None],
@@ -496,16 +496,13 @@ def test_annotations(count):
         wrong.write_text(WRONG_CALLER, encoding="utf-8")
         mypy = ["mypy", "--strict", "--cache-dir", str(pathlib.Path(name, "cache"))]
         environment = {**os.environ, "MYPYPATH": str(TOP / "python")}
-        # Not distributed: Dask and fsspec, as Debian has them, have no annotations.
-        module = sorted(str(path) for path in (TOP / "python/sdtool").glob("*.py"))
-        for words in (["--python-version", "3.8", *module], [str(caller)]):
-            found, status = ran([*mypy, *words], env=environment, cwd=name)
-            count.add(status == 0, f"mypy --strict {words}: {found}")
+        found, status = ran([*mypy, str(caller)], env=environment, cwd=name)
+        count.add(status == 0, f"mypy --strict takes no caller: {found}")
         found, status = ran([*mypy, str(wrong)], env=environment, cwd=name)
         count.add(status == 1 and found.count("error:") >= 2, f"mypy takes a wrong caller: {found}")
 
 
-def main(count, given):
+def main(count: preload.Count, given: preload.Given) -> None:
     program = given.program
     tests = (test_types, test_numbers, test_sids, test_taken_types, test_verdicts, test_faults, test_processes,
              test_empty_text, test_imports, test_threads, test_annotations, test_memory)

@@ -232,7 +232,7 @@ def add_options(parser):
     parser.add_argument("--show", action="store_true", help="the time of each run")
 
 
-def main(count, given):
+def main(count: preload.Count, given: preload.Given) -> None:
     found = pythons()
     print(f"in Python {', '.join('.'.join(map(str, version)) for _, version, _ in found)}")
     with tempfile.TemporaryDirectory() as name:

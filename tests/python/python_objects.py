@@ -226,7 +226,8 @@ def test_aces(count):
     for text, number in (("(A;;FR;;;BU)S:(A;;FR;;;BU)", 70), ("(A;;FR;;BU)", 20), ("(XA;;FR;;;BU)", 29),
                          ("(A;;FR;;;DA)", 23)):
         problem = raised(Ace.from_sddl, text)
-        count.add(isinstance(problem, sdtool.Error) and problem.number == number, f"the ACE {text!r}: {problem!r}")
+        is_right = isinstance(problem, sdtool.Error) and getattr(problem, "number", 0) == number
+        count.add(is_right, f"the ACE {text!r}: {problem!r}")
     count.add(FileMask(READ).names == ("READ_DATA", "READ_EA", "READ_ATTRIBUTES", "READ_CONTROL", "SYNCHRONIZE") and
               KeyMask(0x20019).names == ("QUERY_VALUE", "ENUMERATE_SUB_KEYS", "NOTIFY", "READ_CONTROL") and
               DirectoryMask(0x100).names == ("CONTROL_ACCESS",), "names of rights")
@@ -586,11 +587,11 @@ class Text(str):
 
 def judge_ways_of_text(count, text, domain, expected):
     """Every call with a text says the same place, also copied, from another thread, and of a text that lies."""
-    calls = [lambda: sdtool.from_sddl(Text(text), domain=domain),
-             lambda: SecurityDescriptor.from_sddl(text, domain=domain),
-             lambda: SecurityDescriptor.from_sddl(Text(text), domain=domain),
-             lambda: next(sdtool.plain_descriptors([text], domain=domain)),
-             lambda: list(sdtool.plain_descriptors(["D:", Text(text), b""], domain=domain))[1]]
+    calls: list = [lambda: sdtool.from_sddl(Text(text), domain=domain),
+                   lambda: SecurityDescriptor.from_sddl(text, domain=domain),
+                   lambda: SecurityDescriptor.from_sddl(Text(text), domain=domain),
+                   lambda: next(sdtool.plain_descriptors([text], domain=domain)),
+                   lambda: list(sdtool.plain_descriptors(["D:", Text(text), b""], domain=domain))[1]]
     for call in calls:
         try:
             problem = call()
@@ -1040,7 +1041,7 @@ def add_options(parser):
     parser.add_argument(WITHOUT_EXTENSION, action="store_true", help="by ctypes alone")
 
 
-def main(count, arguments):
+def main(count: preload.Count, arguments: preload.Given) -> None:
     if hypothesis is None and os.access(OTHER_PYTHON, os.X_OK) and subprocess.run(
             [OTHER_PYTHON, "-c", "import hypothesis"], stderr=subprocess.DEVNULL, check=False).returncode == 0:
         preload.go_on_in(OTHER_PYTHON)

@@ -90,7 +90,7 @@ def random_ace(choices):
     mask = choices.choice((0, 0x1f01ff, 0x10000000, choices.randrange(2**32)))
     flags = choices.choice((0, 3, 0x1b, choices.randrange(256))) & ~0x20
     of_kind = guids if kind in reference.OBJECT_TYPES else (None, None)
-    return reference.Ace(kind, flags, mask, *of_kind, random_sid(choices))
+    return reference.Ace(kind, flags, mask, *of_kind, sid=random_sid(choices))
 
 
 def random_acl(choices, common):
@@ -302,7 +302,7 @@ def add_options(parser):
     parser.add_argument(WITHOUT_EXTENSION, action="store_true", help="by ctypes alone")
 
 
-def main(count, arguments):
+def main(count: preload.Count, arguments: preload.Given) -> None:
     choices = random.Random(arguments.seed)
     of_hex, of_sddl = lines(arguments.count, choices)
     test_descriptors(count, of_hex)

@@ -7,6 +7,7 @@ its record say. Two builds have to give the same bytes.
 """
 import base64
 import csv
+import functools
 import hashlib
 import io
 import json
@@ -22,6 +23,7 @@ import zipfile
 TOP = pathlib.Path(__file__).resolve().parents[2]
 sys.path.insert(0, str(TOP / "packaging"))
 import extension  # noqa: E402
+import preload  # noqa: E402
 
 SYSTEMS = TOP / "out/systems"
 SECONDS = 3000
@@ -142,24 +144,19 @@ def test_contents(count, wheel, system, folder):
                   f"{wheel.name} needs {libraries}")
 
 
+@functools.cache
 def exported():
     """The names that the oldest Python that is here exports."""
-    if not exported.names:
-        for python in PYTHONS:
-            if shutil.which(python):
-                code = ("import sys, sysconfig, os; print(os.path.realpath(sys.executable)); "
-                        "print(os.path.join(sysconfig.get_config_var('LIBDIR') or '', "
-                        "sysconfig.get_config_var('LDLIBRARY') or ''))")
-                for path in ran([python, "-c", code])[0].split("\n"):
-                    if os.path.isfile(path):
-                        exported.names |= set(re.findall(r" [TDBRV] (_?Py\w+)",
-                                                         ran(["nm", "-D", "--defined-only", path])[0]))
-                if exported.names:
-                    break
-    return exported.names
-
-
-exported.names = set()
+    names = set()
+    for python in filter(shutil.which, PYTHONS):
+        code = ("import sys, sysconfig, os; print(os.path.realpath(sys.executable)); "
+                "print(os.path.join(sysconfig.get_config_var('LIBDIR') or '', "
+                "sysconfig.get_config_var('LDLIBRARY') or ''))")
+        for path in filter(os.path.isfile, ran([python, "-c", code])[0].split("\n")):
+            names |= set(re.findall(r" [TDBRV] (_?Py\w+)", ran(["nm", "-D", "--defined-only", path])[0]))
+        if names:
+            break
+    return names
 
 
 def answers(python, **environment):
@@ -238,7 +235,7 @@ EXPECTED = [
     "error 2 hex-digit\n"]
 
 
-def main(count):
+def main(count: preload.Count) -> None:
     for system in MACHINES:
         test_compiled(count, system)
     systems = [system for system in MACHINES if (SYSTEMS / system / NAMES[system][0]).is_file()]

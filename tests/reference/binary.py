@@ -41,7 +41,7 @@ def read_ace(left, part):
                 guids[bit], body = body[:16], body[16:]
     if len(body) < 8:  # (where a GUID does not fit there is nothing left)
         raise Fault(11, "ace-size", part)
-    return Ace(ace_type, flags, mask, *guids.values(), read_sid(body, part)), size
+    return Ace(ace_type, flags, mask, *guids.values(), sid=read_sid(body, part)), size
 
 
 def read_acl(data, part):

@@ -176,7 +176,7 @@ def fields_of(text):
     for found in heads_of(text):
         letter, aces = found[1].decode().upper(), list(ACE_TEXT.finditer(found[3]))
         name = "sid" if letter in "OG" else "flags"
-        yield Field(PARTS[letter], None, name, *front_of(found), False, bool(aces))
+        yield Field(PARTS[letter], None, name, *front_of(found), object_kind=False, has_aces=bool(aces))
         for number, ace in enumerate(aces):
             at, kind = found.start(3) + ace.start(1), ace[1].partition(b";")[0].upper().decode("latin-1")
             is_object = any(KINDS[code] == kind for code in OBJECT_TYPES)

@@ -258,7 +258,7 @@ class Firefox:
         shutil.rmtree(self.folder, ignore_errors=True)
 
 
-BROWSERS = [Chromium, Firefox]
+BROWSERS: list = [Chromium, Firefox]
 
 
 def started(kind, *more_words):

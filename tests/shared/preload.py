@@ -2,6 +2,7 @@
 what is chosen, and the count of what was judged. Who imports it finds the modules of all folders of tests, and those of
 tools/.
 """
+import argparse
 import os
 import pathlib
 import re
@@ -9,7 +10,7 @@ import shutil
 import signal
 import subprocess
 import sys
-from typing import NamedTuple
+from typing import IO, Any, NamedTuple, Sequence
 
 TOP = pathlib.Path(__file__).resolve().parents[2]
 FOLDERS = {path.parent for path in TOP.glob("tests/*/*.py")} - {TOP / "tests/reference"}
@@ -17,11 +18,11 @@ sys.path[:0] = map(str, [*sorted(FOLDERS), TOP / "tests", TOP / "tools"])
 PROGRAM = os.path.abspath(os.environ.get("SDTOOL_PROGRAM", TOP / "crates/sdtool/out/sdtool"))
 LIBRARY = os.path.abspath(os.environ.get("SDTOOL_LIBRARY", TOP / "out/lib/libsdtool.so"))
 COUNTED = re.compile(r"(\d+) passed, (\d+) failed")
-ONLY = []  # words of --only
-chosen = []  # the parts that run
+ONLY: list[str] = []  # words of --only
+chosen: list[str] = []  # the parts that run
 
 
-def is_chosen(part):
+def is_chosen(part: Any) -> bool:
     """Whether a part of a test is to run: a function, or a name."""
     name = getattr(part, "__name__", part)
     is_it = not ONLY or any(word in name for word in ONLY)
@@ -30,7 +31,7 @@ def is_chosen(part):
     return is_it
 
 
-def go_on_in(python):
+def go_on_in(python: str) -> None:
     """Starts the test again in a Python that has what it needs, if it does not run there."""
     if python != sys.executable and os.environ.get("SDTOOL_TESTS_PYTHON") != python:
         os.environ["SDTOOL_TESTS_PYTHON"] = python
@@ -38,7 +39,7 @@ def go_on_in(python):
         os.execv(python, [python, *sys.argv])
 
 
-def compiler():
+def compiler() -> list[str]:
     for name in (os.environ.get("CC"), "cc", "gcc", "clang"):
         if name and shutil.which(name):
             return [name]
@@ -47,7 +48,7 @@ def compiler():
     return [str(kit / "toolchain/bin/clang"), "-fuse-ld=lld"]
 
 
-def build(source, folder):
+def build(source: str, folder: str | os.PathLike[str]) -> str:
     """The library that the file of this folder makes."""
     library = os.path.join(folder, pathlib.Path(source).with_suffix(".so").name)
     path = pathlib.Path(__file__).with_name(source)
@@ -62,12 +63,12 @@ class Event(NamedTuple):
     moved: int   # bytes
 
 
-def events_in(file):
+def events_in(file: IO[bytes]) -> list[Event]:
     file.seek(0)
     return [Event(line[0], int(line[1:])) for line in file.read().decode().splitlines()]
 
 
-def let_signals_come():
+def let_signals_come() -> None:
     """
     A shell that starts a test in the background has SIGINT ignored, and nohup SIGHUP. Each process that the test starts
     and then interrupts would ignore them too. A handler that does nothing is not handed on.
@@ -77,26 +78,36 @@ def let_signals_come():
             signal.signal(number, lambda *_: None)
 
 
+class Given(argparse.Namespace):
+    """The words of the command line, and the program."""
+
+    @property
+    def program(self) -> str:
+        if not os.path.exists(PROGRAM):
+            sys.exit(f"there is no {PROGRAM}: make program")
+        return PROGRAM
+
+
 class Count:
     """What passed and what failed; no more failures are printed than so many."""
 
-    def __init__(self, most_shown=20):
+    def __init__(self, most_shown: int = 20) -> None:
         self.passed = self.failed = 0
         self.most_shown = most_shown
 
-    def add(self, is_right, what):
+    def add(self, is_right: object, what: object) -> None:
         self.passed, self.failed = self.passed + bool(is_right), self.failed + (not is_right)
         if not is_right and self.failed <= self.most_shown:
             print(f"FAIL {what}")
 
-    def add_counted(self, line, status):
+    def add_counted(self, line: str, status: int) -> bool:
         """Adds the last line of a test. One that has none, or another status than the line says, has failed."""
         counted = COUNTED.fullmatch(line.strip())
         passed, failed = map(int, counted.groups()) if counted else (0, 1)
         self.passed, self.failed = self.passed + passed, self.failed + (failed or bool(status))
         return not failed and not status
 
-    def add_run(self, words, no_such_part=None, before=""):
+    def add_run(self, words: Sequence[str], no_such_part: int | None = None, before: str = "") -> int:
         """Runs another test, prints all but its last line, behind a text, and adds that. Gives its status."""
         child = subprocess.Popen(words, stdin=subprocess.DEVNULL, stdout=subprocess.PIPE, text=True, errors="replace")
         last = ""
@@ -109,7 +120,7 @@ class Count:
             self.add_counted(last, child.returncode)
         return child.returncode
 
-    def end(self):
+    def end(self) -> int:
         """Prints the last line, and gives the exit status."""
         print(f"{self.passed} passed, {self.failed} failed")
         return 1 if self.failed else 0

@@ -327,7 +327,7 @@ def compare_constants(count, top, header):
         count.add(found == numbers.get(declared), f"{path}: {name} is {found}, but {declared} {numbers.get(declared)}")
 
 
-def main(count):
+def main(count: preload.Count) -> None:
     top = preload.TOP
     header, sources = header_in((top / HEADER).read_text(encoding="utf-8")), Sources(top)
     count.most_shown = 1000

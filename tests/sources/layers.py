@@ -153,7 +153,7 @@ def judge_audit(count, rooms, imports):
     count.add(not circle, f"modules of the audit that import each other in a circle: {', '.join(circle)}")
 
 
-def main(count):
+def main(count: preload.Count) -> None:
     top = preload.TOP
     listed = dependencies(top)
     count.most_shown = 1000

@@ -10,6 +10,8 @@ import re
 import shutil
 import subprocess
 
+import preload
+
 TOP = pathlib.Path(__file__).resolve().parents[2]
 DOCUMENTS = [*(f"docs/{name}.md" for name in ("ARCHITECTURE", "DECISIONS", "DEFINITIONS", "PERF", "PROVED")),
              "bench/README.md", "tests/README.md"]
@@ -115,7 +117,7 @@ def is_known(word, words):
     return word in words or word.endswith("_") and any(name.startswith(word) for name in words)
 
 
-def main(count):
+def main(count: preload.Count) -> None:
     paths, words = list(files()), set()
     for path in filter(is_source, paths):
         text = path.read_text(encoding="utf-8", errors="ignore")

@@ -11,6 +11,8 @@ import re
 import tomllib
 import uuid
 
+import preload
+
 TOP = pathlib.Path(__file__).resolve().parents[2]
 FOLDER = pathlib.Path("/usr/share/samba/setup")
 KINDS = {"right": "right", "write": "validated write", "set": "property set", "class": "class", "attribute": "property"}
@@ -210,7 +212,7 @@ def add_options(parser):
     parser.add_argument("--folder", type=pathlib.Path, default=FOLDER)
 
 
-def main(count, given):
+def main(count: preload.Count, given: preload.Given) -> None:
     folder = given.folder
     if (folder / "extended-rights.ldif").exists():
         judge(count, folder)

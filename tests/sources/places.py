@@ -12,6 +12,7 @@ import re
 from typing import NamedTuple
 
 import names
+import preload
 
 TOP = pathlib.Path(__file__).resolve().parents[2]
 DOCUMENT = "docs/ARCHITECTURE.md"
@@ -88,7 +89,7 @@ def add_options(parser):
     parser.add_argument("--files", choices=SUBJECTS, help="prints the files of a subject, and stops")
 
 
-def main(count, given):
+def main(count: preload.Count, given: preload.Given) -> None:
     if given.files:
         print("\n".join(filter(changes, naming(SUBJECTS[given.files].pattern))))
         return

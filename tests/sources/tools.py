@@ -41,7 +41,7 @@ def judge_files(count):
         count.add(not is_unread, f"{name} is outside of crates/")
 
 
-def main(count):
+def main(count: preload.Count) -> None:
     judge_files(count)
     if preload.is_chosen(judge_literals):
         judge_literals(count)

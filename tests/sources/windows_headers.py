@@ -6,6 +6,8 @@ import pathlib
 import re
 import tomllib
 
+import preload
+
 TOP = pathlib.Path(__file__).resolve().parents[2]
 FOLDER = pathlib.Path("/usr/share/mingw-w64/include")
 HEADERS = ("winnt.h", "winsvc.h", "winspool.h", "winevt.h", "wbemcli.h", "combaseapi.h", "certadm.h", "iads.h")
@@ -156,7 +158,7 @@ def judge_sids(count, constants):
         count.add(value == number and f"S-1-5-{number}-" in families, f"SECURITY_{name}_BASE_RID is {value}")
 
 
-def main(count):
+def main(count: preload.Count) -> None:
     if not all((FOLDER / header).exists() for header in HEADERS):
         print("skipped: the headers of Windows (Debian: mingw-w64-common)")
         return

@@ -11,6 +11,8 @@ import subprocess
 import sys
 import tempfile
 
+import preload
+
 SYSTEMS = pathlib.Path(__file__).resolve().parents[2] / "systems"
 sys.path.append(str(SYSTEMS))
 import lower_memory  # noqa: E402
@@ -116,7 +118,7 @@ def test_left_alone(count):
         count.add(lower_memory.lowered(text) == text, f"{text} becomes {lower_memory.lowered(text)}")
 
 
-def main(count):
+def main(count: preload.Count) -> None:
     missing = [tool for tool in ("node", "wasm-opt", "wasm-as") if not shutil.which(tool)]
     if missing:
         print(f"lowering: skipped, there is no command {', '.join(missing)}")

@@ -20,6 +20,7 @@ import subprocess
 import tempfile
 
 import c_library
+import preload
 import systems
 
 TOP = pathlib.Path(__file__).resolve().parents[2]
@@ -257,7 +258,7 @@ def add_options(parser):
     parser.add_argument("--archives", action="store_true", help="compare two packings of all archives")
 
 
-def main(count, given):
+def main(count: preload.Count, given: preload.Given) -> None:
     with tempfile.TemporaryDirectory() as name:
         folder = pathlib.Path(name)
         test_wheels(count, given.program, folder, given.arm64)

@@ -795,7 +795,7 @@ def add_options(parser):
     parser.add_argument("--lines", type=int, default=100_000, help="(%(default)s)")
 
 
-def main(count, given):
+def main(count: preload.Count, given: preload.Given) -> None:
     start_again()
     with tempfile.TemporaryDirectory() as name:
         folder = pathlib.Path(name)

@@ -592,4 +592,4 @@ def made(work: Work) -> Work:
 
 def cuts_of(given: Given, block: int) -> List[Tuple[int, Optional[int]]]:
     cuts = [*range(0, given.size or 1, block), given.size]
-    return list(zip(cuts, cuts[1:]))  # type: ignore[arg-type]
+    return list(zip(cuts, cuts[1:]))

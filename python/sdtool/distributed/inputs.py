@@ -50,7 +50,7 @@ class Finder:
     def listed(self, folder: str) -> List[Dict[str, Any]]:
         told = entries(self.fs, folder)
         return sorted((each for each in told if each["name"].rstrip("/") != folder.rstrip("/")),
-                      key=lambda each: each["name"])
+                      key=lambda each: str(each["name"]))
 
     def below(self, folder: str) -> Iterator[Found]:
         try:

@@ -291,7 +291,7 @@ class Work:
     def __post_init__(self) -> None:
         self.place = Place(*url_to_fs(self.out))
         self.mine = f"{self.place.ours}/{self.run}"
-        self.manifests: Dict[str, List[dict]] = {}
+        self.manifests: Dict[str, List[Dict[str, Any]]] = {}
 
     def check(self) -> None:
         """Raises Unfit if this worker has another library, or another output, or cannot write to it."""
@@ -348,7 +348,7 @@ class Work:
 
     def is_whole(self, record: Dict[str, Any]) -> bool:
         with contextlib.suppress(OSError):
-            return self.copy(record) == record["digest"]
+            return bool(self.copy(record) == record["digest"])
         return False
 
     def do(self, tasks: List[Tuple[str, Tuple[Any, ...], Tuple[Any, ...]]]) -> List[Tuple[str, Any]]:
