@@ -12,7 +12,7 @@ import sys
 CHANGES = 0xD0156  # each right that changes something: --want would need all of them at once
 
 
-def said(line, answer):
+def said(line: bytes, answer: str) -> str:
     verdict, _, mask = answer.partition(" ")
     if verdict == "error":
         return f"unknown: {answer}"
@@ -23,11 +23,12 @@ def said(line, answer):
     return {"granted": "yes" if int(mask, 16) & CHANGES else "no", "denied": "no"}[verdict]
 
 
-def main():
+def main() -> int:
     os.set_blocking(sys.stdin.fileno(), True)  # else Python takes no line yet for the end
     command = [sys.argv[1], "check", "--from", "sddl", "--token", sys.argv[2], "--maximum"]
     # Without a buffer each line goes out at once; else both sides would wait.
     with subprocess.Popen(command, bufsize=0, stdin=subprocess.PIPE, stdout=subprocess.PIPE) as sdtool:
+        assert sdtool.stdin and sdtool.stdout
         for line in sys.stdin.buffer:
             line = line.rstrip(b"\r\n")  # a line that keeps its end would be two
             try:

@@ -11,7 +11,7 @@ CHANGES = (FileMask.WRITE_DATA | FileMask.APPEND_DATA | FileMask.WRITE_EA | File
 ask = sdtool.Checker(sdtool.Token(["BU", "WD", "AU"]), maximum=True)
 
 
-def answer(text):
+def answer(text: str) -> str:
     if not text.strip():
         return "unknown, no descriptor"
     try:

@@ -12,6 +12,7 @@ import re
 import stat
 import struct
 import sys
+from typing import Iterator, Sequence
 
 import sdtool
 from sdtool import FileMask
@@ -27,7 +28,7 @@ class Unknown(Exception):
     """Why there is no answer."""
 
 
-def descriptor_at(data):
+def descriptor_at(data: bytes) -> int:
     """Where the descriptor begins in Samba's attribute, xattr_NTACL of its xattr.idl; 0 if there is none.
 
     The attribute has its version twice and a reference to what follows. In version 1 that is the descriptor. Later
@@ -44,7 +45,7 @@ def descriptor_at(data):
     return {1: 8, 2: 28, 3: 80}.get(version, 0)
 
 
-def unwrapped(data):
+def unwrapped(data: bytes) -> bytes:
     """The descriptor of Samba's attribute. Its offsets count from the attribute's first byte, so they are moved."""
     at = descriptor_at(data)
     if not at or len(data) < at + HEADER:
@@ -56,7 +57,7 @@ def unwrapped(data):
     return data[at:at + 4] + moved + data[at + HEADER:]
 
 
-def descriptor_of(path, attributes):
+def descriptor_of(path: bytes, attributes: Sequence[str]) -> bytes:
     for name in attributes:
         try:
             data = os.getxattr(path, name, follow_symlinks=False)
@@ -68,7 +69,7 @@ def descriptor_of(path, attributes):
     raise Unknown("no attribute")
 
 
-def sids_in(descriptor):
+def sids_in(descriptor: sdtool.SecurityDescriptor) -> Iterator[sdtool.Sid]:
     """The SIDs that may have rights: Everyone, the owner, and those of ACEs that allow."""
     yield EVERYONE
     if descriptor.owner is not None:
@@ -77,24 +78,24 @@ def sids_in(descriptor):
         yield from (ace.sid for ace in descriptor.dacl if ace.kind in (sdtool.AceKind.A, sdtool.AceKind.OA))
 
 
-def may_change(descriptor, sid):
+def may_change(descriptor: sdtool.SecurityDescriptor, sid: sdtool.Sid) -> bool:
     """Whether a token with this SID and Everyone may change the file."""
     verdict = descriptor.check(sdtool.Token([EVERYONE, sid]), maximum=True)
     return verdict.granted and verdict.mask & CHANGES != 0
 
 
-def answer(path, attributes):
+def answer(path: bytes, attributes: Sequence[str]) -> str:
     descriptor = sdtool.SecurityDescriptor.from_bytes(descriptor_of(path, attributes))
     sids = dict.fromkeys(sids_in(descriptor))  # each once
     return ", ".join(str(sid) for sid in sids if may_change(descriptor, sid)) or "nobody"
 
 
-def tell(path, text):
+def tell(path: bytes, text: str) -> None:
     # Other characters than these would let the name of a file pretend to be an answer.
     sys.stdout.buffer.write(re.sub(rb"[\0-\x1f\x7f]", b"?", path) + b": " + text.encode() + b"\n")
 
 
-def walk(path, attributes):
+def walk(path: bytes, attributes: Sequence[str]) -> bool:
     """Tells who may change a file or folder, and all below it. Gives whether nothing is unknown."""
     known = True
     is_folder = False
@@ -124,7 +125,7 @@ def walk(path, attributes):
     return known
 
 
-def main():
+def main() -> int:
     if len(sys.argv) not in (2, 3):
         print("usage: who_may_write.py DIRECTORY [ATTRIBUTE]", file=sys.stderr)
         return 2

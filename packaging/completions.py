@@ -9,7 +9,7 @@ import argparse
 import pathlib
 import re
 import sys
-from typing import NamedTuple, Optional, Tuple
+from typing import Dict, Iterable, List, NamedTuple, Optional, Tuple
 
 HERE = pathlib.Path(__file__).resolve().parent
 FOLDER = HERE / "completions"
@@ -33,7 +33,7 @@ class Option(NamedTuple):
     words: Tuple[str, ...] = ()  # the values, where they are few
 
 
-def option_of(kind, texts):
+def option_of(kind: str, texts: str) -> Option:
     """The option of a row, which has a name, what its value is called, and help. A flag has no value."""
     name, *value, what = re.findall(r'"([^"]*)"', texts)
     if len(value) != (kind != "flag"):
@@ -56,20 +56,20 @@ COMMANDS = {
 HELP, SHOWS_HELP = "help", "show help"
 
 
-def quoted(text, quote):
+def quoted(text: str, quote: str) -> str:
     """A text in single quotes, in which a shell writes a quote so."""
     return "'" + text.replace("'", quote) + "'"
 
 
-def dashed(options):
+def dashed(options: Iterable[Option]) -> List[str]:
     return [f"--{option.name}" for option in options]
 
 
-def bash():
-    def offer(words):
+def bash() -> str:
+    def offer(words: str) -> str:
         return f'mapfile -t COMPREPLY < <(compgen -W {words} -- "$current")'
 
-    few = {}
+    few: Dict[Tuple[str, ...], List[Option]] = {}
     for option in OPTIONS.values():
         if option.words:
             few.setdefault(option.words, []).append(option)
@@ -101,12 +101,12 @@ def bash():
     ))
 
 
-def zsh():
-    def spec(option):
+def zsh() -> str:
+    def spec(option: Option) -> str:
         value = f":{option.value}:{'(' + ' '.join(option.words) + ')' if option.words else ''}" if option.value else ""
         return quoted(f"--{option.name}[{option.what}]{value}", "'\\''")
 
-    def block(command):
+    def block(command: str) -> List[str]:
         own = [spec(option) for option in OWN[command] if option not in common]
         return [f"    {command})", " \\\n            ".join(("        _arguments $common", *own)), "        ;;"]
 
@@ -143,8 +143,8 @@ def zsh():
     ))
 
 
-def fish():
-    def row(option):
+def fish() -> str:
+    def row(option: Option) -> str:
         having = [command for command in COMMANDS if option in OWN[command]]
         value = f" -x{' -a ' + repr(' '.join(option.words)) if option.words else ''}" if option.value else ""
         condition = f"__fish_seen_subcommand_from {' '.join(having)}"
@@ -163,7 +163,7 @@ def fish():
 FILES = {"sdtool.bash": bash, "_sdtool": zsh, "sdtool.fish": fish}
 
 
-def main():
+def main() -> int:
     parser = argparse.ArgumentParser(description="Writes the completions of three shells.")
     parser.add_argument("--check", action="store_true", help="writes nothing, and fails if a file is stale")
     checks, stale = parser.parse_args().check, 0

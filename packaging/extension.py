@@ -15,6 +15,7 @@ import subprocess
 import sys
 import sysconfig
 import tempfile
+from typing import Optional, Union
 
 TOP = pathlib.Path(__file__).resolve().parents[1]
 sys.dont_write_bytecode = True
@@ -35,23 +36,24 @@ FILES = {"linux-x86_64": "_native.abi3.so", "linux-aarch64": "_native.abi3.so", 
 DLL = "python3.dll"  # which each version of Python for Windows has, with the limited interface
 
 
-def headers():
+def headers() -> Optional[str]:
     """The folder of Python.h, if one is there."""
     places = [sysconfig.get_paths()["include"], *sorted(glob.glob("/usr/include/python3.*"))]
     return next((place for place in places if os.path.exists(os.path.join(place, "Python.h"))), None)
 
 
-def missing(system):
+def missing(system: str) -> Optional[str]:
     """What there is not, to compile for a system."""
     if not shutil.which(COMPILERS[system][0]):
         return f"there is no {COMPILERS[system][0]}"
     return None if headers() else "there is no Python.h, of Debian's package python3-dev"
 
 
-def compile_object(system, folder, target):
+def compile_object(system: str, folder: pathlib.Path, target: pathlib.Path) -> None:
     """Compiles the source to an object. The headers are copied, since Python.h takes the pyconfig.h beside it."""
-    include = folder / "include"
-    shutil.copytree(headers(), include, ignore=shutil.ignore_patterns("internal", "pyconfig*.h"))
+    include, python = folder / "include", headers()
+    assert python  # else missing() has said so
+    shutil.copytree(python, include, ignore=shutil.ignore_patterns("internal", "pyconfig*.h"))
     shutil.copy(TOP / "packaging/pyconfig.h", include)
     compiler, *flags = COMPILERS[system]
     words = [flag for flag in [*FLAGS, *flags] if not flag.startswith("-Wl,")
@@ -59,7 +61,7 @@ def compile_object(system, folder, target):
     subprocess.run([compiler, *words, f"-I{include}", f"-I{TOP / 'include'}", "-c", SOURCE, "-o", target], check=True)
 
 
-def import_library(folder, compiled):
+def import_library(folder: pathlib.Path, compiled: pathlib.Path) -> pathlib.Path:
     """What the linker has to know of python3.dll: the names that the object uses."""
     tools = COMPILERS["windows-x86_64"][0][:-len("gcc")]
     symbols = subprocess.run([tools + "nm", "--undefined-only", compiled], stdout=subprocess.PIPE, check=True,
@@ -73,7 +75,7 @@ def import_library(folder, compiled):
     return library
 
 
-def compile_extension(system, target):
+def compile_extension(system: str, target: Union[str, pathlib.Path]) -> None:
     """Compiles the extension for a system."""
     with tempfile.TemporaryDirectory() as name:
         folder = pathlib.Path(name)
@@ -85,7 +87,7 @@ def compile_extension(system, target):
         build_wheel.place(made, target)
 
 
-def main():
+def main() -> None:
     if len(sys.argv) != 3 or sys.argv[1] not in COMPILERS:
         sys.exit(__doc__)
     problem = missing(sys.argv[1])

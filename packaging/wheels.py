@@ -13,6 +13,7 @@ import pathlib
 import re
 import sys
 import tempfile
+from typing import Iterator, Tuple
 
 TOP = pathlib.Path(__file__).resolve().parents[1]
 sys.dont_write_bytecode = True
@@ -24,16 +25,16 @@ import extension  # noqa: E402
 OLDEST = {"linux-x86_64": (2, 5), "linux-aarch64": (2, 17)}
 
 
-def platform_of(system, binaries):
+def platform_of(system: str, binaries: bytes) -> str:
     """The platform of a wheel's tag."""
     if system == "windows-x86_64":
         return "win_amd64"
     needed = {(int(major), int(minor)) for major, minor in re.findall(rb"GLIBC_(\d+)\.(\d+)", binaries)}
     major, minor = max(needed | {OLDEST[system]})
-    return f"manylinux_{major}_{minor}_{system.removeprefix('linux-')}"
+    return f"manylinux_{major}_{minor}_{system[len('linux-'):]}"
 
 
-def binaries_of(system):
+def binaries_of(system: str) -> Iterator[Tuple[str, bytes]]:
     """The library and the extension, each as a name and its bytes."""
     name = "sdtool.dll" if system == "windows-x86_64" else "libsdtool.so.0"
     yield f"sdtool/{name}", (TOP / "out" / "systems" / system / name).read_bytes()
@@ -47,7 +48,7 @@ def binaries_of(system):
         yield f"sdtool/{target.name}", target.read_bytes()
 
 
-def main():
+def main() -> None:
     folder = TOP / "out" / "dist"
     folder.mkdir(parents=True, exist_ok=True)
     for system in sys.argv[1:]:

@@ -20,6 +20,7 @@ import sysconfig
 import tarfile
 import tempfile
 import zipfile
+from typing import Any, List, Optional, Tuple, Union
 
 HERE = pathlib.Path(__file__).resolve().parent
 MODULE = HERE / "sdtool"
@@ -44,20 +45,22 @@ Requires-Dist: rich >= 13; extra == 'audit'
 ENTRY_POINTS = (f"{NAME}.dist-info/entry_points.txt", b"[console_scripts]\nsdtool-audit = sdtool.audit.__main__:main\n")
 ANY = "py3-none-any"
 FLAGS = ["-std=gnu11", "-O2", "-Wall", "-Wextra", "-Werror", "-shared", "-fPIC"]
+Path = Union[str, pathlib.Path]
+Files = List[Tuple[str, bytes]]  # names and bytes
 
 
-def module_files():
+def module_files() -> List[pathlib.Path]:
     """The files of the module that are the same everywhere."""
     return sorted(path for path in MODULE.rglob("*") if path.suffix in (".py", ".pyi")
                   or path.name in ("py.typed", "sdtool.html"))
 
 
-def header_folder():
+def header_folder() -> Optional[pathlib.Path]:
     """Where sdtool.h is: beside this file in a source archive, in the repository, or where the compiler looks."""
     return next((folder for folder in (HERE, HERE.parent / "include") if (folder / "sdtool.h").exists()), None)
 
 
-def compile_extension(target):
+def compile_extension(target: pathlib.Path) -> Optional[str]:
     """Compiles the extension. Gives why it cannot, or None."""
     compiler = shlex.split(os.environ.get("CC", "cc"))
     if os.name != "posix" or not shutil.which(compiler[0]):
@@ -69,10 +72,10 @@ def compile_extension(target):
     return None if ended.returncode == 0 else ended.stdout.decode("utf-8", "replace")
 
 
-def place(made, target):
+def place(made: pathlib.Path, target: Path) -> None:
     """Puts a file at a place where other programs may look at any time: it is there as a whole or not at all, and a
     file with the same bytes stays."""
-    made, target = pathlib.Path(made), pathlib.Path(target)
+    target = pathlib.Path(target)
     if target.exists() and target.read_bytes() == made.read_bytes():
         return
     unfinished = target.with_name(f".{target.name}.{os.getpid()}")
@@ -83,7 +86,7 @@ def place(made, target):
         unfinished.unlink(missing_ok=True)
 
 
-def place_extension():
+def place_extension() -> Optional[str]:
     """Builds the extension beside the module's files, unless it is newer than what it is built from. Gives why it
     cannot, or None."""
     target, folder = MODULE / EXTENSION, header_folder()
@@ -98,7 +101,7 @@ def place_extension():
         return problem
 
 
-def extension_files():
+def extension_files() -> Files:
     """The extension, as a name and its bytes, or nothing where it cannot be compiled."""
     with tempfile.TemporaryDirectory() as folder:
         target = pathlib.Path(folder, EXTENSION)
@@ -109,12 +112,12 @@ def extension_files():
         return [(f"sdtool/{EXTENSION}", target.read_bytes())]
 
 
-def extension_tag():
+def extension_tag() -> str:
     """A wheel with the extension is for each Python from 3.8 on, on this kind of system."""
     return f"cp38-abi3-{re.sub(r'[-.]', '_', sysconfig.get_platform())}"
 
 
-def write_wheel(folder, files, tag=ANY):
+def write_wheel(folder: Path, files: Files, tag: str = ANY) -> str:
     """A wheel of the files, each as a name and its bytes, for the systems of a tag."""
     purelib = "true" if tag == ANY else "false"
     wheel_file = f"Wheel-Version: 1.0\nGenerator: build_wheel.py\nRoot-Is-Purelib: {purelib}\nTag: {tag}\n"
@@ -132,24 +135,25 @@ def write_wheel(folder, files, tag=ANY):
     return wheel
 
 
-def build_wheel(wheel_directory, config_settings=None, metadata_directory=None):
+def build_wheel(wheel_directory: str, config_settings: Any = None, metadata_directory: Any = None) -> str:
     files = [(str(path.relative_to(HERE)), path.read_bytes()) for path in module_files()]
     extension = extension_files()
     return write_wheel(wheel_directory, files + extension, extension_tag() if extension else ANY)
 
 
-def build_editable(wheel_directory, config_settings=None, metadata_directory=None):
+def build_editable(wheel_directory: str, config_settings: Any = None, metadata_directory: Any = None) -> str:
     place_extension()
     return write_wheel(wheel_directory, [("sdtool.pth", f"{HERE}\n".encode())])
 
 
-def build_sdist(sdist_directory, config_settings=None):
+def build_sdist(sdist_directory: str, config_settings: Any = None) -> str:
     archive = f"{NAME}.tar.gz"
     with tarfile.open(pathlib.Path(sdist_directory, archive), "w:gz") as tar:
         for path in (HERE / "pyproject.toml", HERE / "build_wheel.py", *module_files(), SOURCE):
             tar.add(path, f"{NAME}/{path.relative_to(HERE)}")
-        if header_folder():
-            tar.add(header_folder() / "sdtool.h", f"{NAME}/sdtool.h")
+        folder = header_folder()
+        if folder:
+            tar.add(folder / "sdtool.h", f"{NAME}/sdtool.h")
     return archive
 
 
