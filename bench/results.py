@@ -44,15 +44,16 @@ def write(folder, head, text):
     path.write_text(f"# {head}\n{text}", encoding="utf-8")
 
 
-class Both(io.TextIOBase):
-    """Prints, and keeps what is printed."""
+class Both(io.StringIO):
+    """Keeps what is printed, and prints it."""
 
     def __init__(self, stdout):
-        self.stdout, self.said = stdout, io.StringIO()
+        super().__init__()
+        self.stdout = stdout
 
     def write(self, text):
-        self.said.write(text)
-        return self.stdout.write(text)
+        self.stdout.write(text)
+        return super().write(text)
 
     def flush(self):
         self.stdout.flush()
@@ -66,5 +67,5 @@ def kept(main):
     with contextlib.redirect_stdout(both):
         status = main()
     if not status:
-        write(FOLDER, f"{command()} at {commit_of(FOLDER.parent)}, on {machine()}", both.said.getvalue())
+        write(FOLDER, f"{command()} at {commit_of(FOLDER.parent)}, on {machine()}", both.getvalue())
     return status

@@ -1,5 +1,5 @@
-"""Checks the package sdtool.audit as software: no private name of another module, no option in a message that no command
-has, and runs as on Windows and macOS. It needs what tests/audit/audit.py needs; a line says what is missing.
+"""Checks the package sdtool.audit as software: no private name of another module, no option in a message that no
+command has, and runs as on Windows and macOS. It needs what tests/audit/audit.py needs; a line says what is missing.
 """
 import ast
 import os
