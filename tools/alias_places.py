@@ -11,6 +11,7 @@ import random
 import re
 import sys
 import textwrap
+from typing import List, Tuple
 
 sys.dont_write_bytecode = True
 sys.path.append(str(pathlib.Path(__file__).resolve().parent.parent / "tests/shared"))
@@ -49,7 +50,7 @@ pub const SID_PLACES: [u8; {sid_cells}] = [
 """
 
 
-def sid_places(known):
+def sid_places(known: List[Tuple[str, ...]]) -> Tuple[str, List[str]]:
     """A factor that gives each SID a cell of its own, and the cells."""
     keys = [int(row[2]) + 32 * int(row[4].split(",")[int(row[3]) - 1]) for row in known]
     if len(set(keys)) < len(keys):
@@ -66,11 +67,11 @@ def sid_places(known):
     return f"0x{spread:_x}", cells
 
 
-def filled(cells):
+def filled(cells: List[str]) -> str:
     return textwrap.fill(", ".join(cells) + ",", 99, initial_indent="    ", subsequent_indent="    ")
 
 
-def written():
+def written() -> str:
     """The file as it has to be."""
     text = TABLES.read_text(encoding="utf-8")
     known = KNOWN.findall(text)
@@ -81,7 +82,7 @@ def written():
     return HEAD + TABLE.format(cells=filled(cells), spread=spread, sid_cells=SID_CELLS, sids=filled(sids))
 
 
-def main():
+def main() -> int:
     parser = argparse.ArgumentParser(description="Writes the places of aliases from their tables.")
     parser.add_argument("--check", action="store_true", help="writes nothing, and fails if the places are stale")
     if not parser.parse_args().check:

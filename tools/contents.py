@@ -11,6 +11,7 @@ import ast
 import pathlib
 import re
 import sys
+from typing import Dict
 
 sys.dont_write_bytecode = True
 sys.path.append(str(pathlib.Path(__file__).resolve().parent.parent / "tests/shared"))
@@ -32,7 +33,7 @@ CUT = re.compile(r"[:,;] (?![^(]*\))")  # outside parentheses
 MAIN = re.compile(r"^def main\(", re.M)
 
 
-def sentence_of(text):
+def sentence_of(text: str) -> str:
     """The first sentence of a file's docstring, behind the line that says how to call it."""
     text = ast.get_docstring(ast.parse(text)) or ""
     if USAGE.match(text):
@@ -45,9 +46,9 @@ def sentence_of(text):
     return f"{fronts[0]}." if fronts else found[0]
 
 
-def sentences():
+def sentences() -> Dict[str, Dict[str, str]]:
     """The sentence of each test and tool by its name, for each folder."""
-    found = {}
+    found: Dict[str, Dict[str, str]] = {}
     for path in sorted([*preload.TOP.glob("tests/*/*.py"), *preload.TOP.glob("tools/*.py")]):
         text = path.read_text(encoding="utf-8")
         if MAIN.search(text):
@@ -56,14 +57,14 @@ def sentences():
     return found
 
 
-def page():
+def page() -> str:
     text = HEAD
     for folder, names in sentences().items():
         text += f"\n## {folder}\n\n" + "".join(f"- `{name}`: {sentence}\n" for name, sentence in names.items())
     return text
 
 
-def check():
+def check() -> int:
     count = preload.Count(most_shown=1000)
     for folder, names in sentences().items():
         for name, sentence in names.items():
@@ -74,7 +75,7 @@ def check():
     return count.end()
 
 
-def main():
+def main() -> int:
     parser = argparse.ArgumentParser(description="Writes tests/README.md from the docstrings of the tests.")
     parser.add_argument("--check", action="store_true", help="writes nothing, and fails where the page is stale")
     if parser.parse_args().check:

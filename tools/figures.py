@@ -8,6 +8,7 @@ types and the traits of the devices have to be read too.
 import pathlib
 import re
 import sys
+from typing import List
 
 TOP = pathlib.Path(__file__).resolve().parent.parent
 HEADS = ("crate", "functions", "src", "specs", "proofs", "edits in the gate", "further edits",
@@ -21,23 +22,23 @@ DEVICES = "sd_run/src/device.rt"
 TRAIT = re.compile(r"^pub trait \w+ \{$.*?^\}$", re.M | re.S)
 
 
-def subject_of(crate):
+def subject_of(crate: str) -> str:
     """What a crate contains, by the first sentence of its root file."""
     source = next((TOP / "crates" / crate / "src").glob("[lm][ia][bi]*.rt"))
     head = " ".join(re.findall(r"^//! ?(.*)", source.read_text(encoding="utf-8"), re.M))
     return re.split(r"(?<=\.)\s", head, 1)[0]
 
 
-def crates():
+def crates() -> List[str]:
     rows = (TOP / "crates.txt").read_text(encoding="utf-8").splitlines()
     return [row.partition(":")[0].split()[0] for row in rows if row.strip() and not row.startswith("#")]
 
 
-def texts(folder):
+def texts(folder: pathlib.Path) -> List[str]:
     return [path.read_text(encoding="utf-8") for path in sorted(folder.rglob("*")) if path.suffix in (".rt", ".antt")]
 
 
-def lines_of_definitions(crate):
+def lines_of_definitions(crate: str) -> List[int]:
     """How many lines of definitions a crate has, and how many of them are comments."""
     files = [path for path in (TOP / "crates" / crate / "specs").glob("*.antt") if path.name not in NO_DEFINITIONS]
     lines = [line.strip() for path in files for line in path.read_text(encoding="utf-8").splitlines()]
@@ -45,7 +46,7 @@ def lines_of_definitions(crate):
     return [len(lines), sum(line.startswith("--") for line in lines)]
 
 
-def lines_in_sources():
+def lines_in_sources() -> int:
     """How many lines of src a reader of the definitions needs."""
     files = {path.relative_to(TOP / "crates").as_posix(): path.read_text(encoding="utf-8")
              for path in sorted((TOP / "crates").glob("*/src/**/*.rt")) if path.parent.parent.name not in OF_TESTS}
@@ -54,7 +55,7 @@ def lines_in_sources():
     return sum(bool(line) and not line.startswith("//") for line in lines)
 
 
-def figures_of(crate):
+def figures_of(crate: str) -> List[int]:
     folder = TOP / "crates" / crate
     functions = sum(len(ITEM.findall(COMMENT.sub("", text))) for text in texts(folder / "src"))
     lines = [sum(text.count("\n") for text in texts(folder / part)) for part in ("src", "specs", "proofs")]
@@ -62,7 +63,7 @@ def figures_of(crate):
     return [functions, *lines, *edits, *lines_of_definitions(crate)]
 
 
-def main():
+def main() -> int:
     figures = {crate: figures_of(crate) for crate in crates()}
     figures["all"] = [sum(column) for column in zip(*figures.values())]
     rows = [HEADS, *((name, *(f"{number:,}" for number in numbers)) for name, numbers in figures.items())]

@@ -45,11 +45,11 @@ ALL = [Cells("sd_kinds", "flags.rt", "flag_cells.rt", "FLAG_CELLS", "flags"),
        Cells("sd_rights", "rights_table.rt", "right_cells.rt", "RIGHT_CELLS", "access rights")]
 
 
-def path_of(cells):
+def path_of(cells: Cells) -> pathlib.Path:
     return CRATES / cells.crate / "src" / cells.file
 
 
-def written(cells):
+def written(cells: Cells) -> str:
     """The file as it has to be. No name is in two rows."""
     text = (CRATES / cells.crate / "src" / cells.table).read_text(encoding="utf-8")
     constants = dict(CONSTANT.findall(text))
@@ -63,7 +63,7 @@ def written(cells):
     return TEXT.format(what=cells.what, table=cells.table, name=cells.name, cells=body)
 
 
-def main():
+def main() -> int:
     parser = argparse.ArgumentParser(description="Writes the cells of names from their tables.")
     parser.add_argument("--check", action="store_true", help="writes nothing, and fails if a file is stale")
     if not parser.parse_args().check:

@@ -10,7 +10,7 @@ import shutil
 import signal
 import subprocess
 import sys
-from typing import IO, Any, NamedTuple, Sequence
+from typing import IO, Any, List, NamedTuple, Optional, Sequence, Union
 
 TOP = pathlib.Path(__file__).resolve().parents[2]
 FOLDERS = {path.parent for path in TOP.glob("tests/*/*.py")} - {TOP / "tests/reference"}
@@ -18,8 +18,8 @@ sys.path[:0] = map(str, [*sorted(FOLDERS), TOP / "tests", TOP / "tools"])
 PROGRAM = os.path.abspath(os.environ.get("SDTOOL_PROGRAM", TOP / "crates/sdtool/out/sdtool"))
 LIBRARY = os.path.abspath(os.environ.get("SDTOOL_LIBRARY", TOP / "out/lib/libsdtool.so"))
 COUNTED = re.compile(r"(\d+) passed, (\d+) failed")
-ONLY: list[str] = []  # words of --only
-chosen: list[str] = []  # the parts that run
+ONLY: List[str] = []  # words of --only
+chosen: List[str] = []  # the parts that run
 
 
 def is_chosen(part: Any) -> bool:
@@ -39,7 +39,7 @@ def go_on_in(python: str) -> None:
         os.execv(python, [python, *sys.argv])
 
 
-def compiler() -> list[str]:
+def compiler() -> List[str]:
     for name in (os.environ.get("CC"), "cc", "gcc", "clang"):
         if name and shutil.which(name):
             return [name]
@@ -48,7 +48,7 @@ def compiler() -> list[str]:
     return [str(kit / "toolchain/bin/clang"), "-fuse-ld=lld"]
 
 
-def build(source: str, folder: str | os.PathLike[str]) -> str:
+def build(source: str, folder: Union[str, "os.PathLike[str]"]) -> str:
     """The library that the file of this folder makes."""
     library = os.path.join(folder, pathlib.Path(source).with_suffix(".so").name)
     path = pathlib.Path(__file__).with_name(source)
@@ -63,7 +63,7 @@ class Event(NamedTuple):
     moved: int   # bytes
 
 
-def events_in(file: IO[bytes]) -> list[Event]:
+def events_in(file: IO[bytes]) -> List[Event]:
     file.seek(0)
     return [Event(line[0], int(line[1:])) for line in file.read().decode().splitlines()]
 
@@ -107,11 +107,11 @@ class Count:
         self.passed, self.failed = self.passed + passed, self.failed + (failed or bool(status))
         return not failed and not status
 
-    def add_run(self, words: Sequence[str], no_such_part: int | None = None, before: str = "") -> int:
+    def add_run(self, words: Sequence[str], no_such_part: Optional[int] = None, before: str = "") -> int:
         """Runs another test, prints all but its last line, behind a text, and adds that. Gives its status."""
         child = subprocess.Popen(words, stdin=subprocess.DEVNULL, stdout=subprocess.PIPE, text=True, errors="replace")
         last = ""
-        for line in child.stdout:
+        for line in child.stdout or ():
             print(before + last if last else "", end="", flush=True)
             last = line
         if not COUNTED.fullmatch(last.strip()):
