@@ -184,12 +184,11 @@ def type_of(finding):
     return (found[1] or found[2]) if found else ""
 
 
-def expect_reasons(place, row, finding, ask, words, asked, what):
-    """A finding of rights: of those that were asked about each one that its row claims is granted, by what the
-    reference says, and by nothing else."""
+def expect_reasons(place, row, finding, ask, words, what):
+    """A finding of rights: each one that its row claims is granted, by what the reference says, and by nothing else."""
     claimed, said = words.mask(finding["rights"]), told(finding, words)
     granted = {key: mask for key, mask in said.items() if key[2]}
-    place.expect(granted, row.decided(ask, claimed & asked), f"{what}: {finding}")
+    place.expect(granted, row.decided(ask, claimed), f"{what}: {finding}")
     place.expect(finding.get("aces", []), numbers(granted), f"{what}, its ACEs: {finding}")
     return claimed, {key: mask for key, mask in said.items() if not key[2]}
 
@@ -219,7 +218,7 @@ def of_who(place, rows, words, source, kind):
                     expect_stopped(place, row, finding, [row.ask(sid, guid) for guid in ("", WRITE_PROPERTY, RESET)],
                                    words, what)
                     continue
-                claimed, _ = expect_reasons(place, row, finding, row.ask(sid, guid), words, asked, what)
+                claimed, _ = expect_reasons(place, row, finding, row.ask(sid, guid), words, what)
                 got = sum(mask for (_, _, grants), mask in row.decided(row.ask(sid, guid), asked).items() if grants)
                 place.expect(bool(guid) or claimed & asked == got, True, f"{what}, all that is asked for: {finding}")
 
@@ -236,7 +235,7 @@ def of_can(place, rows, words, source, kind):
                 if finding["rule"] == "stopped":
                     expect_stopped(place, row, finding, [ask], words, what)
                     continue
-                _, denied = expect_reasons(place, row, finding, ask, words, asked, what)
+                _, denied = expect_reasons(place, row, finding, ask, words, what)
                 place.expect(denied, missing, f"{what}, what an ACE denies: {finding}")
 
 
@@ -250,11 +249,8 @@ def of_risks(place, rows, words, source, kind):
                                                                                    finding["trustee"])[0]
             is_below = "in objects below" in finding["text"] or "in what is made in it" in finding["text"]
             claimed = words.mask(finding["rights"])
-            # Of the rights that a level of Windows' dialogs names, these count for the rule.
-            risky = {"takeover": 0xc0000, "no-dacl": claimed,
-                     "null-dacl": claimed}.get(finding["rule"], words.whole["every right to change"])
             if kind == "file" and not is_below:
-                expect_reasons(place, row, finding, row.ask(sid), words, risky, what)
+                expect_reasons(place, row, finding, row.ask(sid), words, what)
                 continue
             # A part of a list is asked about: what it says is checked with the ACEs by themselves.
             covered = 0
@@ -268,7 +264,7 @@ def of_risks(place, rows, words, source, kind):
                 place.expect((text, grants, mask & ~int(ace[3], 16),
                               whose in (sid, *ALSO.get(sid, ["S-1-1-0", "S-1-5-11"])), ("IO" in ace[2]) <= is_below),
                              (row.aces[number - 1], True, 0, True, True), f"{what}, an ACE: {finding}")
-            place.expect((claimed & risky & ~covered, finding.get("aces", [])), (0, numbers(said)),
+            place.expect((claimed & ~covered, finding.get("aces", [])), (0, numbers(said)),
                          f"{what}, its rights: {finding}")
 
 

@@ -95,7 +95,7 @@ def of_audit():
 
     # The names of rights are told by bits, whatever a mask as a whole is called.
     rights.short_text = rights.text
-    rights.level_text = lambda found, had, asked, kind: rights.text(found, kind)
+    rights.level_of = lambda found, had, asked, kind: (found, rights.text(found, kind))
     for row in rows():
         trust = Trust((), (row["domain"],) if "domain" in row else ())
         question = risks.Risks(Context("", Names()), risks.RiskOptions(trust))

@@ -193,6 +193,7 @@ class Share(NamedTuple):
     """Rights in words: those of an object itself, or those for one object type."""
 
     words: str
+    claimed: int  # the mask of these words, which may be a level that has more rights
     text: str
     mask: int
     object_type: str
@@ -200,11 +201,14 @@ class Share(NamedTuple):
 
 def shares_of(got: Got, kind: str, text: str, had: int = 0, asked: int = 0) -> List[Share]:
     """What somebody gets of the rights that were asked about, who had some more: those by object type say so."""
-    found = [Share(rights.level_text(got.mask, had or got.mask, asked or got.mask, kind), text, got.mask, "")] \
-        if got.mask else []
+    found = []
+    if got.mask:
+        claimed, words = rights.level_of(got.mask, had or got.mask, asked or got.mask, kind)
+        found.append(Share(words, claimed, text, got.mask, ""))
     for object_type, mask in got.by_type:
         bound = f"only for object type {sids.object_type(object_type)}"
-        found.append(Share(rights.short_text(mask, kind), f"{bound}; {text}" if text else bound, mask, object_type))
+        text_of_type = f"{bound}; {text}" if text else bound
+        found.append(Share(rights.short_text(mask, kind), mask, text_of_type, mask, object_type))
     return found
 
 

@@ -72,7 +72,7 @@ class Can:
             text += f"; the DACL is {descriptor.dacl}, so everybody gets everything"
         denied = checks.because(at, self._token, missing, descriptor.aces, "", False)
         for share in shares_of(got, kind, text, checks.mask(at, self._token), mask):
-            because = checks.because(at, self._token, share.mask, descriptor.aces, share.object_type) + denied
+            because = checks.because(at, self._token, share.claimed, descriptor.aces, share.object_type) + denied
             yield Finding("can", "", share.words, share.text, mask=share.mask,
                           mark=mark_of(because, descriptor.aces, kind), because=because)
         # The label that every object has without one of its own stops no object in particular.

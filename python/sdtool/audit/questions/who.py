@@ -131,7 +131,7 @@ class Who:
             kind: str, text: str, is_listed: bool) -> Iterator[Finding]:
         kept, aces = kept_of(got, self._wanted, kind), trustees.descriptor.aces
         for share in shares_of(kept, kind, text, checks.mask(at, token), self._wanted.all_of(kind)):
-            because = checks.because(at, token, share.mask, aces, share.object_type) if is_listed else ()
+            because = checks.because(at, token, share.claimed, aces, share.object_type) if is_listed else ()
             yield Finding("who", self._context.names.named(sid), share.words, share.text, sid=sid, mask=share.mask,
                           mark=mark_of(because, aces, kind), because=because)
 

@@ -133,13 +133,13 @@ def short_text(mask: int, kind: str) -> str:
 
 
 @functools.lru_cache(maxsize=_MOST_TEXTS)
-def level_text(found: int, had: int, asked: int, kind: str) -> str:
-    """The rights that were found of those asked about, in the words of Windows' dialogs where one of these is all of
-    them."""
+def level_of(found: int, had: int, asked: int, kind: str) -> Tuple[int, str]:
+    """The rights that were found of those asked about, in words, and the mask of these words: a level of Windows'
+    dialogs that somebody had as a whole, if of what it has the found rights alone were asked about."""
     for mask, name in _NAMED[kind]:
         if mask & had == mask and mask & asked == found:
-            return name
-    return short_text(found, kind)
+            return mask, name
+    return found, short_text(found, kind)
 
 
 def risk_of(kind: str, risks: Tuple[str, ...]) -> int:
