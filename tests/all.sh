@@ -203,7 +203,7 @@ if "${MAKE:-make}" --no-print-directory program; then
         build_extension
         start_lane c_library c_objects fault_places fault_words c_neighbours c_comparisons c_stacks c_reasons \
             c_origins c_install c_examples instructions bench_run
-        start_lane python_calls python_objects python_plain python_lies python_wheels
+        start_lane python_calls python_objects python_plain python_lies python_wheels page_growth
         start_lane audit audit_sources audit_directory audit_reports audit_stopping audit_reasons audit_inherited \
             audit_package
         start_lane audit_forms hostile_lists audit_terminal audit_growth risk_rows abilities severities many_types
@@ -212,7 +212,7 @@ if "${MAKE:-make}" --no-print-directory program; then
     else
         echo "the library is not built, so its tests have not run"
         ((failed += 1))
-        start_lane page_units systems
+        start_lane page_units page_growth systems
     fi
     add_lanes
 else

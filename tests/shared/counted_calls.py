@@ -1,4 +1,4 @@
-"""Calls in Python whose instructions are counted."""
+"""Calls in Python and in Node whose instructions are counted."""
 import functools
 import gc
 import json
@@ -12,27 +12,24 @@ import preload
 
 HERE = pathlib.Path(__file__).resolve().parent
 PACKAGES = str(preload.TOP / "python")
+# Node compiles no function, so that each is read in the same way, and collects no garbage.
+NODE = ["node", "--single-threaded", "--no-opt", "--no-sparkplug", "--no-regexp-tier-up", "--min-semi-space-size=64",
+        "--max-semi-space-size=64", "--liftoff-only", "--disable-wasm-trap-handler"]
 
 
-class CountedCalls:
+class _Counted:
     """
-    A process of Python that makes calls under valgrind, which counts the instructions of each. Other work of the
-    machine does not change them. code defines the function call, whose arguments and answer are values of JSON.
+    A process that makes calls under valgrind, which counts the instructions of each. Other work of the machine does not
+    change them. Arguments and answers are values of JSON. What marks a call are two functions of the C library that
+    nothing else calls.
     """
 
-    def __init__(self, python, code, folder):
+    def __init__(self, words, begin, end, folder, environment):
         self._folder, self._calls = pathlib.Path(folder), 0
-        # What marks a call are two functions of the C library that nothing else calls.
-        words = ["valgrind", "-q", "--tool=callgrind", f"--callgrind-out-file={self._folder}/counted",
-                 "--zero-before=*sched_get_priority_min", "--dump-before=*sched_get_priority_max"]
-        compiled = f"{self._folder}/compiled"
-        environment = {**os.environ, "SDTOOL_LIBRARY": preload.LIBRARY, "PYTHONPATH": f"{HERE}:{PACKAGES}",
-                       "PYTHONHASHSEED": "0", "PYTHONPYCACHEPREFIX": compiled, "PYTHONDONTWRITEBYTECODE": ""}
-        # Under valgrind it takes a minute to compile the modules.
-        subprocess.run([python, "-c", code], env=environment, check=True)
-        words += [python, "-c", f"import counted_calls; counted_calls.answer_calls({code!r})"]
+        valgrind = ["valgrind", "-q", "--tool=callgrind", f"--callgrind-out-file={self._folder}/counted",
+                    f"--zero-before={begin}", f"--dump-before={end}"]
         pipes = dict(stdin=subprocess.PIPE, stdout=subprocess.PIPE)
-        self._process = subprocess.Popen(words, **pipes, env=environment, text=True)
+        self._process = subprocess.Popen([*valgrind, *words], **pipes, env=environment, text=True)
 
     def __enter__(self):
         return self
@@ -49,6 +46,26 @@ class CountedCalls:
         total = int(re.search(r"^totals: (\d+)", written.read_text(), re.MULTILINE)[1])
         written.unlink()
         return total, answer
+
+
+class CountedCalls(_Counted):
+    """Calls of a function in Python: code defines it, and it has the name call."""
+
+    def __init__(self, python, code, folder):
+        environment = {**os.environ, "SDTOOL_LIBRARY": preload.LIBRARY, "PYTHONPATH": f"{HERE}:{PACKAGES}",
+                       "PYTHONHASHSEED": "0", "PYTHONPYCACHEPREFIX": f"{folder}/compiled",
+                       "PYTHONDONTWRITEBYTECODE": ""}
+        # Under valgrind it takes a minute to compile the modules.
+        subprocess.run([python, "-c", code], env=environment, check=True)
+        words = [python, "-c", f"import counted_calls; counted_calls.answer_calls({code!r})"]
+        super().__init__(words, "*sched_get_priority_min", "*sched_get_priority_max", folder, environment)
+
+
+class CountedScript(_Counted):
+    """Calls of a script in Node, which reads lines, and calls umask before and getpriority after each call."""
+
+    def __init__(self, words, folder):
+        super().__init__([*NODE, *words], "umask", "getpriority", folder, os.environ)
 
 
 def answer_calls(code):
