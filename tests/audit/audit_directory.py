@@ -181,6 +181,23 @@ def test_classes_of_tables(place: Place) -> None:
                  "names of a directory")
 
 
+def test_names_of_windows(place: Place) -> None:
+    """What a source or a file of groups calls Everyone is no name of it; what --sid-names calls it is."""
+    place.write("liar.ldif", entry("CN=x", "objectSid: S-1-1-0", "sAMAccountName: BUILTIN\\Administrators",
+                                   "nTSecurityDescriptor: O:BAD:(A;;GA;;;WD)") +
+                entry("CN=y", f"objectSid: {DOMAIN}-512", "sAMAccountName: Guests", "member: CN=z") +
+                entry("CN=z", f"objectSid: {ANN}", "sAMAccountName: ann"))
+    place.write("names.csv", "SID,Name\nS-1-1-0,Jeder\n")
+    named = f"O:BAD:(A;;FA;;;WD)(A;;FA;;;{DOMAIN}-512)"
+    source = place.table([("a", named)], "named.csv")
+    for words, expected in ((("risks", "liar.ldif"), {audit.EVERYONE}),
+                            (("risks", "liar.ldif", "--sid-names", "names.csv"), {"Jeder (S-1-1-0)"}),
+                            (("who", "change", source, "--groups", "liar.ldif", "--all-trustees"),
+                             {audit.EVERYONE, audit.ADMINISTRATORS, f"Domain Admins ({DOMAIN}-512)", f"ann ({ANN})"})):
+        got = {found["trustee"] for one in place.objects(*words) for found in one["findings"]}
+        place.expect(got, expected, f"names of Windows: {words}")
+
+
 def test_numbers_of_domains(place: Place) -> None:
     """With --forest-root the numbers of the forest's own groups are excused under its SID, and those of each domain
     under --domain."""
@@ -248,8 +265,8 @@ def test_kinds(place: Place) -> None:
                  ["nothing"], "a printer by its title")
 
 
-TESTS = (test_attributes, test_domain_of_the_source, test_classes_of_tables, test_numbers_of_domains,
-         test_enrolling, test_kinds)
+TESTS = (test_attributes, test_domain_of_the_source, test_names_of_windows, test_classes_of_tables,
+         test_numbers_of_domains, test_enrolling, test_kinds)
 
 
 def main(count: preload.Count) -> None:

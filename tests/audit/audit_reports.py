@@ -922,7 +922,7 @@ def test_said(place: Place) -> None:
     place.write("head.ldif",
                 f"dn: DC=x\nobjectClass: domainDNS\nobjectSid:: {head}\nnTSecurityDescriptor: O:BAD:(A;;GA;;;DA)\n")
     told = [f"the domain is {DOMAIN}, as head.ldif says: --domain names another one, and --forest-root that of "
-            "Enterprise Admins", "the names of 1 SIDs are those of head.ldif: those of --sid-names win"]
+            "Enterprise Admins", "the names of 1 SIDs are those of head.ldif: those of --sid-names and of Windows win"]
     for to, text in forms_of(place, "risks", "head.ldif"):
         place.expect(said_in(to, text), [] if to in ("csv", "jsonl") else told, f"what {to} says of its domain")
     for to, text in forms_of(place, "risks", "head.ldif", "--domain", DOMAIN):

@@ -130,7 +130,7 @@ def who(common: Common, words: Sequence[str], groups: Optional[str], most_member
     common = common.saying(*(f"--groups: {group} is not whole: the file has a range of its members"
                              for group in (known.cut if known else ())))
     if known:
-        named = Names({**known.names, **common.context.names.given}, common.context.names.all)
+        named = Names(common.context.names.given, {**common.context.names.of_sources, **known.names})
         common = common._replace(context=common.context._replace(names=named))
     listed = Listing(known, most_members, trust, all_trustees)
     if wanted is None:

@@ -70,8 +70,9 @@ def informed(common: Common, paths: Sequence[str]) -> Common:
     elif not domains and told.heads:
         common = common.saying(f"{source}: the heads of {len(told.heads):,} domains, {', '.join(sorted(told.heads))}: "
                                "name the one of aliases with --domain")
-    common = common.saying(f"the names of {len(told.names):,} SIDs are those of {source}: those of --sid-names win")
     names = Names(context.names.given, told.names)
+    common = common.saying(f"the names of {len(names.of_sources):,} SIDs are those of {source}: those of --sid-names "
+                           "and of Windows win")
     context = context._replace(domain=domains[0] if domains else "", names=names)
     return common._replace(context=context, domains=domains, accounts=told.accounts, machines=told.machines)
 

@@ -77,11 +77,13 @@ class Trust(NamedTuple):
 
 
 class Names:
-    """Names of SIDs: those that a file gives, then those of the sources, then those that every system has."""
+    """Names of SIDs: those that a file gives, then those that every system has, then those of the sources. No source
+    calls Everyone anything else."""
 
     def __init__(self, given: Optional[Dict[str, str]] = None, of_sources: Optional[Dict[str, str]] = None) -> None:
         self.given = given or {}
-        self.all = {**of_sources, **self.given} if of_sources else self.given
+        self.of_sources = {sid: name for sid, name in (of_sources or {}).items() if meaning_of(sid).name is None}
+        self.all = {**self.of_sources, **self.given}
 
     def knows(self, sid: str) -> bool:
         """Whether a SID has a name, or is of a family whose accounts have none."""
