@@ -35,7 +35,8 @@ export const READERS = {
     "a token": (text) => readToken(REFUSING, text, ""),
     "a token of SIDs": (text) => readToken(accepting(), text, ""),
     "a line of a report": (text) => new Report(text).take(0, text.length),
-    "names of a report": (text) => namesOfReport(text.split("\n").map((line) => [line, line])),
+    // A row of a report takes no fewer characters.
+    "names of a report": (text) => namesOfReport((text.match(/[^]{1,16}/g) ?? []).map((name) => [name, name])),
     "the place of a wrong shape": (text) => placeOf(REFUSING, "sddl", text, faultIn(20, text)),
     "what spells no hex": (text) => placeOf(REFUSING, "hex", text, {number: 2, part: null}),
     "what spells no base64": (text) => placeOf(REFUSING, "base64", text, {number: 4, part: null}),
