@@ -1,8 +1,8 @@
 """Tests how long descriptors with many trustees and object types take. Twice as many take at most 2.6 times the
 instructions, in the questions of sdtool-audit: valgrind counts what each of two steps adds, and what else the machine
-does changes nothing. On the page four times as many take about four times as long. Too many pairs of a trustee and an
-object type are said to be unknown. It needs what tests/audit/audit.py needs, Debian's valgrind, and for the page Node
-and the module that `make wasm` builds.
+does changes nothing. Nor do twice as many levels of a name take more. On the page four times as many take about four
+times as long. Too many pairs of a trustee and an object type are said to be unknown. It needs what tests/audit/audit.py
+needs, Debian's valgrind, and for the page Node and the module that `make wasm` builds.
 """
 import concurrent.futures
 import itertools
@@ -15,6 +15,7 @@ import counted_calls
 import preload
 
 TRUSTEES, MOST_FOR_EACH = (20, 40, 80), 2.6  # twice the trustees are linear, four times are quadratic
+LEVELS = (800, 1600, 3200)  # more than are looked at
 JOBS = 2  # side by side
 # On the page: four times the trustees take four times as long, and 16 times where every pair is asked.
 FEW, MANY, MOST_GROWTH, LEAST = 200, 800, 8.0, 0.05
@@ -43,6 +44,11 @@ def many(trustees, types=0, aces="(OA;;CC;{0};;{1})"):
     return f"O:BAG:BAD:{own}" + "".join(f"(OA;;RP;{guid};;WD)" for guid in guids[:types])
 
 
+def is_slow(counts):
+    """Whether the second step adds more than twice what the first one does."""
+    return counts[2] - counts[1] > MOST_FOR_EACH * (counts[1] - counts[0])
+
+
 def growth_of(place, python, share):
     """What is wrong with the growth of some questions: each with the ACEs of each trustee."""
     wrong = []
@@ -55,7 +61,7 @@ def growth_of(place, python, share):
             asked = [str(paths[0]) if word == "other.csv" else word for word in words]
             counts = [counted.call(*asked, str(path), "--jobs", "1", "--type", "ds")[0]
                       for path in (paths[0], *paths)][1:]
-            if counts[2] - counts[1] > MOST_FOR_EACH * (counts[1] - counts[0]):
+            if is_slow(counts):
                 wrong.append(f"{words} of {aces}: {', '.join(f'{one:,}' for one in counts)} instructions")
     return wrong
 
@@ -69,6 +75,22 @@ def test_growth(place):
     with concurrent.futures.ThreadPoolExecutor(JOBS) as pool:
         wrong = list(pool.map(lambda at: growth_of(place, place.python, pairs[at::JOBS]), range(JOBS)))
     place.expect(list(itertools.chain(*wrong)), [], "growth")
+
+
+def test_levels(place):
+    """Twice the levels of the name of an object that has inherited an ACE, of a folder or of a directory."""
+    if not shutil.which("valgrind"):
+        print("levels: skipped, there is no command valgrind")
+        return
+    made = {"deep.csv": "Path,Sddl\nC:{},O:BAD:(A;OICIID;FA;;;WD)\n",
+            "deep.ldif": "dn: CN=a{}\nobjectClass: user\nnTSecurityDescriptor: O:BAD:(A;CIID;GA;;;WD)\n"}
+    with tempfile.TemporaryDirectory() as folder, counted_calls.CountedCalls(place.python, ASK, folder) as counted:
+        for name, level in zip(made, ("\\a folder", ",OU=a unit")):
+            counts = []
+            for levels in (LEVELS[0], *LEVELS):
+                path = place.write(name, made[name].format(level * levels))
+                counts.append(counted.call("risks", str(place.folder / path), "--jobs", "1")[0])
+            place.expect(is_slow(counts[1:]), False, f"levels in {name}: {counts[1:]} instructions")
 
 
 def test_page(place):
@@ -112,4 +134,4 @@ def test_bound(place):
 
 
 def main(count: preload.Count) -> None:
-    abilities.run_tests(count, (test_growth, test_page, test_bound))
+    abilities.run_tests(count, (test_growth, test_levels, test_page, test_bound))

@@ -45,10 +45,8 @@ class Forest:
         """Counts the objects below each object that have inherited an ACE."""
         for item, found in zip(items, _explained(items, self._domain)):
             inherited = {(ace.sid, ace.object_type) for ace in found.aces if self._is_counted(ace)} if found else ()
-            above = ldif.parent_of(item.name) if inherited else ""
-            while above:
+            for above in ldif.objects_above(item.name) if inherited else ():
                 self._heirs.setdefault(above.casefold(), collections.Counter()).update(inherited)
-                above = ldif.parent_of(above)
 
     def _is_counted(self, ace: Ace) -> bool:
         return ace.kind in ALLOWS and bool(ace.flags & INHERITED) and not self._trust.has(ace.sid)

@@ -1,5 +1,6 @@
 """What the machines of a directory make for themselves: what is below their own objects, and their records of DNS."""
 import functools
+import itertools
 import re
 from typing import Tuple
 
@@ -43,12 +44,8 @@ class Machines:
 
     def _climbed(self, key: str) -> Tuple[str, ...]:
         """The SID of the machine at or above a name."""
-        while key:
-            found = self._sids("key = ?", stored(key))
-            if found:
-                return found
-            key = ldif.parent_of(key)
-        return ()
+        at_or_above = itertools.chain([key] if key else [], ldif.objects_above(key))
+        return next(filter(None, (self._sids("key = ?", stored(one)) for one in at_or_above)), ())
 
     def _recorded(self, name: str, owner: str) -> Tuple[str, ...]:
         """The SIDs of the machines that a record of DNS may be of."""

@@ -4,7 +4,7 @@ import collections
 import functools
 import re
 import struct
-from typing import Counter, Optional, Set
+from typing import Counter, Iterator, Optional, Set
 
 from sdtool.audit.sources.binary import end_of
 from sdtool.audit.sources.items import HEX, SDDL, UNREADABLE, Item
@@ -12,6 +12,8 @@ from sdtool.audit.sources.items import HEX, SDDL, UNREADABLE, Item
 # How names of Windows begin that are whole; in these either slash parts.
 _WHOLE = re.compile(r"[A-Za-z]:|\\\\|[\w.]+\\\w+::|HK(?:EY_|LM|CU)", re.I)
 _FIRST_PART = re.compile(r"(?:[^,\\]|\\.)*,", re.S)
+_MOST_KEPT = 1_000  # characters
+_MOST_LEVELS = 200  # of folders; most programs take no path of more than 260 characters
 _BACKSLASH, _SLASH, _EITHER = "\\", "/", "\\/"
 
 
@@ -24,9 +26,13 @@ def _parts_at(name: str, kind: str) -> str:
     return _SLASH if "/" in name else _BACKSLASH
 
 
-@functools.lru_cache(maxsize=10_000)
 def key_of(name: str, kind: str = "file") -> str:
     """The name by which a folder is looked up. Windows and directories don't tell upper from lower case."""
+    return _kept_key(name, kind) if len(name) <= _MOST_KEPT else _kept_key.__wrapped__(name, kind)
+
+
+@functools.lru_cache(maxsize=10_000)
+def _kept_key(name: str, kind: str) -> str:
     if kind == "ds":
         return name.casefold()
     marks = _parts_at(name, kind)
@@ -51,6 +57,15 @@ def folder_key(name: str, kind: str) -> str:
     """The key of the folder of a name."""
     folder = folder_of(name, kind)
     return key_of(folder, kind) if folder else ""
+
+
+def folders_above(key: str, kind: str) -> Iterator[str]:
+    """The keys of a folder and of those above it, the nearest first."""
+    for _ in range(_MOST_LEVELS):
+        if not key:
+            return
+        yield key
+        key = folder_key(key, kind)
 
 
 _REST = re.compile(r"(?:.*: )?the rest\b", re.S)

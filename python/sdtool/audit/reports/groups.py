@@ -3,7 +3,7 @@ it."""
 import collections
 from typing import Counter, Dict, List, Optional, Sequence, Tuple
 
-from sdtool.audit.directory.trees import folder_key, key_of
+from sdtool.audit.directory.trees import folder_key, folders_above, key_of
 from sdtool.audit.findings import SEVERITIES, TRUSTED_RULE, UNKNOWN, Answer, Finding, Mark, Rule
 from sdtool.audit.reports.group import ABOVE, BELOW, Group, Key, common_of
 from sdtool.audit.reports.owners import Owners
@@ -124,11 +124,10 @@ class Groups:
 
     def _above(self, name_key: str, mark_key: str, kind: str, before: Optional[int] = None) -> Optional[Group]:
         """The nearest place at or above a name that hands on an ACE, of those that came before."""
-        while name_key:
-            found = self._heads.get((name_key, mark_key))
+        for place in folders_above(name_key, kind):
+            found = self._heads.get((place, mark_key))
             if found and (before is None or found.order <= before):
                 return found
-            name_key = folder_key(name_key, kind)
         return None
 
     def _folder_key(self, name: str, kind: str) -> str:

@@ -3,7 +3,7 @@ trustee."""
 import collections
 from typing import Counter, Dict, Iterator, List, NamedTuple, Optional, Tuple
 
-from sdtool.audit.directory.trees import folder_key, key_of
+from sdtool.audit.directory.trees import folder_key, folders_above, key_of
 from sdtool.audit.findings import owner_key
 from sdtool.audit.reports.group import Group, Key, common_of
 
@@ -86,11 +86,10 @@ class Owners:
                before: Optional[int] = None) -> Optional[Group]:
         """The first object of the group that the nearest object at or above a folder is in, of those that came before
         and are accepted for the same reason."""
-        while folder:
-            found = self._told.get((folder, key))
+        for place in folders_above(folder, kind):
+            found = self._told.get((place, key))
             if found and (before is None or found.order <= before):
                 return found.head if accepted is None or accepted == _owner(found.head)[1] else None
-            folder = folder_key(folder, kind)
         return None
 
     def origin(self, name: str, kind: str, key: str, before: int) -> str:

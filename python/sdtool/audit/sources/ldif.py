@@ -280,12 +280,22 @@ def _as_lines(lines: Iterator[str]) -> Lines:
 
 _HEAD_OF_ZONES = re.compile(r"DC=(?:Domain|Forest)DnsZones,", re.I)
 _BELOW_A_HEAD = re.compile(f"DC=|CN=(?:{'|'.join(CONTAINERS)}),", re.I)
+_MOST_LEVELS = 100
 _FIRST_PART = re.compile(r"(?:[^,\\]|\\.)*", re.S)
 
 
 def parent_of(name: str) -> str:
     """The name of the object above, or nothing."""
     return name[_FIRST_PART.match(name).end():].lstrip(",").lstrip()  # type: ignore[union-attr]
+
+
+def objects_above(name: str) -> Iterator[str]:
+    """The names of the objects above, the nearest first. No directory has more levels."""
+    for _ in range(_MOST_LEVELS):
+        name = parent_of(name)
+        if not name:
+            return
+        yield name
 
 
 def _named_place(name: str) -> str:
