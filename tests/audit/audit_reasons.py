@@ -64,12 +64,12 @@ def test_random(place: Place) -> None:
     chance = random.Random(9)
     rows = [Row(chance) for _ in range(OBJECTS)]
     source = place.table([(f"object {at}", row.text) for at, row in enumerate(rows)])
-    seen = set()
+    words, seen = Words("file"), set()
     for _ in range(QUESTIONS):
         token, level = chance.sample(SIDS[:6], chance.randrange(1, 4)), chance.choice((None, 4096, 8192))
         asked = sum(chance.sample(RIGHTS, chance.randrange(1, 4)))
-        words = ["--level", str(level)] if level else []
-        told = place.objects("can", ",".join(token), hex(asked), source, "--exact", "--type", "file", *words)
+        of_level = ["--level", str(level)] if level else []
+        told = place.objects("can", ",".join(token), hex(asked), source, "--exact", "--type", "file", *of_level)
         place.expect(len(told), OBJECTS, f"objects of {token} {asked:#x}")
         for row, one in zip(rows, told):
             decided = row.decided(token, level, asked)
@@ -82,6 +82,10 @@ def test_random(place: Place) -> None:
             place.expect((one["answer"], {finding["rule"] for finding in one["findings"]}),
                          ("found" if is_granted else "nothing", {rule} if decided else set()),
                          f"{row.text}: {token} {asked:#x}")
+            # What is granted is all that the row claims, what is denied is of what was asked for.
+            claimed = sum(words.mask(finding["rights"]) for finding in one["findings"] if finding["rule"] == "can")
+            decided = {**{key: mask for key, mask in decided.items() if not key[2]},
+                       **{key: mask for key, mask in row.decided(token, level, claimed).items() if key[2]}}
             got = [why for finding in one["findings"] for why in because(finding)]
             place.expect(sorted((number or 0, text, grants) for number, text, _, grants in got),
                          sorted((number or 0, text, grants) for number, text, grants in decided),
@@ -340,7 +344,8 @@ ROWS: list = [
     (("risks",), f"O:{ANN}D:(A;;FR;;;S-1-1-0)",
      [("foreign-owner", ANN, [(None, "owner", "change permissions", True)])]),
     (("risks",), "O:BAD:(D;;0x2;;;S-1-5-7)(A;;FR;;;S-1-1-0)(A;;0x116;;;S-1-1-0)",
-     [("everyone-changes", EVERYONE, [(3, "(A;;0x116;;;S-1-1-0)", "write", True)])]),
+     [("everyone-changes", EVERYONE, [(2, "(A;;0x120089;;;S-1-1-0)", "read", True),
+                                      (3, "(A;;0x116;;;S-1-1-0)", "write", True)])]),
 ]
 
 
