@@ -188,11 +188,12 @@ def type_of(finding):
     return (found[1] or found[2]) if found else ""
 
 
-def expect_reasons(place, row, finding, ask, words, what):
-    """A finding of rights: each one that its row claims is granted, by what the reference says, and by nothing else."""
+def expect_reasons(place, row, finding, ask, words, what, counted=0x1ffffff):
+    """A finding of rights: each one that its row claims, of those that count for its rule, is granted by what the
+    reference says, and by nothing else."""
     claimed, said = words.mask(finding["rights"]), told(finding, words)
     granted = {key: mask for key, mask in said.items() if key[2]}
-    place.expect(granted, row.decided(ask, claimed), f"{what}: {finding}")
+    place.expect(granted, row.decided(ask, claimed & counted), f"{what}: {finding}")
     place.expect(finding.get("aces", []), numbers(granted), f"{what}, its ACEs: {finding}")
     return claimed, {key: mask for key, mask in said.items() if not key[2]}
 
@@ -253,8 +254,11 @@ def of_risks(place, rows, words, source, kind):
                                                                                    finding["trustee"])[0]
             is_below = "in objects below" in finding["text"] or "in what is made in it" in finding["text"]
             claimed = words.mask(finding["rights"])
+            # Of the rights that a level of Windows' dialogs names, these count for the rule.
+            risky = {"takeover": 0xc0000, "no-dacl": claimed,
+                     "null-dacl": claimed}.get(finding["rule"], words.whole["every right to change"])
             if kind == "file" and not is_below:
-                expect_reasons(place, row, finding, row.ask(sid), words, what)
+                expect_reasons(place, row, finding, row.ask(sid), words, what, risky)
                 continue
             # A part of a list is asked about: what it says is checked with the ACEs by themselves.
             covered = 0
@@ -268,7 +272,7 @@ def of_risks(place, rows, words, source, kind):
                 place.expect((text, grants, mask & ~int(ace[3], 16),
                               whose in (sid, *ALSO.get(sid, ["S-1-1-0", "S-1-5-11"])), ("IO" in ace[2]) <= is_below),
                              (row.aces[number - 1], True, 0, True, True), f"{what}, an ACE: {finding}")
-            place.expect((claimed & ~covered, finding.get("aces", [])), (0, numbers(said)),
+            place.expect((claimed & risky & ~covered, finding.get("aces", [])), (0, numbers(said)),
                          f"{what}, its rights: {finding}")
 
 
@@ -344,8 +348,7 @@ ROWS: list = [
     (("risks",), f"O:{ANN}D:(A;;FR;;;S-1-1-0)",
      [("foreign-owner", ANN, [(None, "owner", "change permissions", True)])]),
     (("risks",), "O:BAD:(D;;0x2;;;S-1-5-7)(A;;FR;;;S-1-1-0)(A;;0x116;;;S-1-1-0)",
-     [("everyone-changes", EVERYONE, [(2, "(A;;0x120089;;;S-1-1-0)", "read", True),
-                                      (3, "(A;;0x116;;;S-1-1-0)", "write", True)])]),
+     [("everyone-changes", EVERYONE, [(3, "(A;;0x116;;;S-1-1-0)", "write", True)])]),
 ]
 
 

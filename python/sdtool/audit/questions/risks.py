@@ -471,7 +471,7 @@ class Risks:
         for share in shares_of(got, kind, text, had, asked) if rule in self._on else ():
             severity = severity_of(rule, kind, sid)
             # A finding that is too slight is left out later.
-            because = why(share.claimed, share.object_type) if ORDER.index(severity) <= self._most_slight else ()
+            because = why(share.mask, share.object_type) if ORDER.index(severity) <= self._most_slight else ()
             yield from self._of(rule, sid, share.words, share.text, share.mask, because, severity)
 
     def _of(self, rule: str, sid: str, words: str, text: str = "", mask: int = 0, because: Tuple[Because, ...] = (),
