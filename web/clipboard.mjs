@@ -339,6 +339,8 @@ export function descriptorsIn(text, form) {
     const all = found.length ? found : [{name: "", form: "sddl", line: linesOf(given).join(" "), dropped: []}];
     const isListing = !found.length && ICACLS.test(given);
     const classes = classesIn(given);
-    return all.map(
-        (one) => ({...one, classes: classes.get(one.name) ?? NONE, isListing, dropped: [...lost, ...one.dropped]}));
+    return all.map((one) => {
+        one.dropped.unshift(...lost);
+        return Object.assign(one, {classes: classes.get(one.name) ?? NONE, isListing});
+    });
 }
