@@ -141,7 +141,8 @@ finished_after_a_failure = record {
   empty = λ unfailed. absurd (cc);
 }
 
-finished_with_a_rest : Finishes (printer false (told [] 5 10) (1 ∷ [])) (printer false (told [] 5 10) (1 ∷ [])) (Ok tt) → ⊥
+finished_with_a_rest :
+    Finishes (printer false (told [] 5 10) (1 ∷ [])) (printer false (told [] 5 10) (1 ∷ [])) (Ok tt) → ⊥
 unfolding printer
 finished_with_a_rest h = let empty = h.empty refl in cc
 

@@ -117,7 +117,8 @@ all-digits bs word size bytes is none =
     let a = (word + 0x4646464646464646) % 2 ^ 64 in
     let b = (word + (2 ^ 64 - 0x3030303030303030)) % 2 ^ 64 in
     let w : word ≡ word_of bs = is ∙ word_of_eight bs size in
-    each 8 bs a b ((word + 0x4646464646464646) / 2 ^ 64) (1 - (word + (2 ^ 64 - 0x3030303030303030)) / 2 ^ 64) size bytes
+    each 8 bs a b ((word + 0x4646464646464646) / 2 ^ 64)
+    (1 - (word + (2 ^ 64 - 0x3030303030303030)) / 2 ^ 64) size bytes
     (omega (arith, w)) (omega (arith, w)) (λ i h. (both a b i h none).0) (λ i h. (both a b i h none).1)
 
 -- what digits leave in the sum and in the difference, the first of them lowest
@@ -243,4 +244,5 @@ pub are-digits : (bs : List ℕ) (word : ℕ) → length bs ≡ 8 → ((i : ℕ)
     0x8080808080808080 == 0)
     ≡ list_all (λ c. is_digit c 10) bs
 are-digits bs word size bytes is =
-    same_test _ _ (λ e. all-digits bs word size bytes is (eqb-true _ 0 e)) (λ e. eq-eqb _ 0 (digits-clear bs word size is e))
+    same_test _ _ (λ e. all-digits bs word size bytes is (eqb-true _ 0 e))
+    (λ e. eq-eqb _ 0 (digits-clear bs word size is e))

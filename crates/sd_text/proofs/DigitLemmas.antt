@@ -111,20 +111,17 @@ two-cells cells at x y room =
     ∙ ap (λ (t : List ℕ). t ++ y ∷ []) (take_more_set cells at x (omega arith))
     ∙ append_assoc (take at cells) (x ∷ []) (y ∷ []))
 
--- one hex digit of k more
-pub hex_digits-step : (k i n : ℕ) → i < k → hex_digits (k - i) n ≡ hex_digits (k - (i + 1)) (n / 16)
-    ++ digit_glyph false (n % 16) ∷ []
-hex_digits-step k i n h = let more : k - i ≡ suc (k - (i + 1)) = omega arith in ap (λ (j : ℕ). hex_digits j n) more
-
 -- the table of hex pairs holds both digits of each byte
 are_hex_pairs : ℕ → Bool
 are_hex_pairs zero = true
 are_hex_pairs (suc p) =
-    (get_or HEX_PAIRS (2 * p) 0 == digit_glyph false (p / 16) && get_or HEX_PAIRS (2 * p + 1) 0 == digit_glyph false (p % 16))
+    (get_or HEX_PAIRS (2 * p) 0 == digit_glyph false (p / 16)
+    && get_or HEX_PAIRS (2 * p + 1) 0 == digit_glyph false (p % 16))
     && are_hex_pairs p
 
 hex-below : (n p : ℕ) → are_hex_pairs n ≡ true → p < n
-    → (get_or HEX_PAIRS (2 * p) 0 ≡ digit_glyph false (p / 16)) × (get_or HEX_PAIRS (2 * p + 1) 0 ≡ digit_glyph false (p % 16))
+    → (get_or HEX_PAIRS (2 * p) 0 ≡ digit_glyph false (p / 16))
+    × (get_or HEX_PAIRS (2 * p + 1) 0 ≡ digit_glyph false (p % 16))
 unfolding are_hex_pairs
 hex-below zero p all h = absurd (omega arith)
 hex-below (suc n) p all h =
@@ -136,7 +133,8 @@ hex-below (suc n) p all h =
     ]
 
 hex-at : (p : ℕ) → p < 256
-    → (get_or HEX_PAIRS (2 * p) 0 ≡ digit_glyph false (p / 16)) × (get_or HEX_PAIRS (2 * p + 1) 0 ≡ digit_glyph false (p % 16))
+    → (get_or HEX_PAIRS (2 * p) 0 ≡ digit_glyph false (p / 16))
+    × (get_or HEX_PAIRS (2 * p + 1) 0 ≡ digit_glyph false (p % 16))
 unfolding are_hex_pairs
 hex-at p small = hex-below 256 p refl small
 

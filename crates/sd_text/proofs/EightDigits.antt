@@ -45,7 +45,8 @@ combined : (p q r s x y z w pairs : ℕ) → p < 100 → q < 100 → r < 100 →
     → of_pairs pairs ≡ p * 1000000 + q * 10000 + r * 100 + s
 combined p q r s x y z w pairs P Q R S X Y Z W e =
     let high : pairs / 2 ^ 32 ≡ (z + 2 ^ 8 * s + 2 ^ 16 * w) * 256 + r = omega arith in
-    let low : pairs ≡ (x + 2 ^ 8 * q + 2 ^ 16 * y + 2 ^ 24 * r + 2 ^ 32 * z + 2 ^ 40 * s + 2 ^ 48 * w) * 256 + p = omega arith in
+    let low : pairs ≡ (x + 2 ^ 8 * q + 2 ^ 16 * y + 2 ^ 24 * r + 2 ^ 32 * z + 2 ^ 40 * s + 2 ^ 48 * w) * 256 + p =
+    omega arith in
     let down : pairs / 65536 ≡ (y + 2 ^ 8 * r + 2 ^ 16 * z + 2 ^ 24 * s + 2 ^ 32 * w) * 256 + q = omega arith in
     let top : pairs / 65536 / 2 ^ 32 ≡ w * 256 + s = omega arith in
     let a : pairs / 2 ^ 32 % 256 ≡ r = omega (arith, high) in
@@ -86,7 +87,8 @@ values a b c f g i j k word A B C F G I J K is =
     rw lanes (omega arith, tens, sums, number ∙ omega arith)
 
 digit : (b : ℕ) (bs : List ℕ) → list_all (λ c. is_digit c 10) (b ∷ bs) ≡ true
-    → (is_digit b 10 ≡ true) × (48 ≤ b) × (b ≤ 57) × (digit_value b ≡ b - 48) × (list_all (λ c. is_digit c 10) bs ≡ true)
+    → (is_digit b 10 ≡ true) × (48 ≤ b) × (b ≤ 57) × (digit_value b ≡ b - 48)
+    × (list_all (λ c. is_digit c 10) bs ≡ true)
 digit b bs e =
     let parts = and_parts (is_digit b 10) (list_all (λ c. is_digit c 10) bs) e in
     let range = digit_range b parts.0 in
@@ -113,7 +115,8 @@ reads (a ∷ b ∷ c ∷ f ∷ g ∷ i ∷ j ∷ k ∷ []) word h d e =
     let I = digit i (j ∷ k ∷ []) G.4 in
     let J = digit j (k ∷ []) I.4 in
     let K = digit k [] J.4 in
-    let sum : word ≡ a + 2 ^ 8 * b + 2 ^ 16 * c + 2 ^ 24 * f + 2 ^ 32 * g + 2 ^ 40 * i + 2 ^ 48 * j + 2 ^ 56 * k = e ∙ omega arith in
+    let sum : word ≡ a + 2 ^ 8 * b + 2 ^ 16 * c + 2 ^ 24 * f + 2 ^ 32 * g + 2 ^ 40 * i + 2 ^ 48 * j + 2 ^ 56 * k =
+    e ∙ omega arith in
     let is : word ≡ 0x3030303030303030
     + (a - 48 + 2 ^ 8 * (b - 48) + 2 ^ 16 * (c - 48) + 2 ^ 24 * (f - 48) + 2 ^ 32 * (g - 48) + 2 ^ 40 * (i - 48)
     + 2 ^ 48 * (j - 48) + 2 ^ 56 * (k - 48)) = omega (arith, sum, A.1, B.1, C.1, F.1, G.1, I.1, J.1, K.1) in

@@ -1,6 +1,6 @@
 -- The decimal number at the front of a text, digit by digit from the left.
-use Rattle.std.proofs.lemmas.Bool.{and_parts, true≢false}
-use Rattle.std.proofs.Common.{zero, suc, ap, ◌-◌, add-one, lt-ltb, ◌≡◌, ℕ, ◌+◌, ◌*◌, ◌^◌, ◌<◌, ◌≤◌, length, take}
+use Rattle.std.proofs.lemmas.Bool.{true≢false}
+use Rattle.std.proofs.Common.{ap, ◌-◌, add-one, lt-ltb, ◌≡◌, ℕ, ◌+◌, ◌*◌, ◌^◌, ◌<◌, ◌≤◌, length, take}
 use Rattle.std.proofs.Common.{take-add, get_or, Bool, true, false, List, [], ◌∷◌, ◌++◌, drop, Option, Some, None}
 use Rattle.std.proofs.Common.{refl, sym, ◌∙◌, arith}
 use Rattle.std.specs.Prelude.{if◌then◌else◌, nat_lt, ◌&&◌}
@@ -64,13 +64,6 @@ number-append n m (x ∷ xs) ys e = by_digit (is_digit x 10) (number-append (n *
         → (if d then number_after 10 (n * 10 + digit_value x) (xs ++ ys) else None) ≡ number_after 10 m ys
     by_digit true f e = f e
     by_digit false f e = absurd cc
-
--- a digit of a run of them
-pub digit_at : (text : List ℕ) (i : ℕ) → i < length text → list_all (λ b. is_digit b 10) text ≡ true
-    → is_digit (get_or text i 0) 10 ≡ true
-digit_at [] i h e = absurd (omega arith)
-digit_at (c ∷ cs) zero h e = (and_parts (is_digit c 10) _ e).0
-digit_at (c ∷ cs) (suc i) h e = digit_at cs i (omega arith) (and_parts (is_digit c 10) _ e).1
 
 pub digit_range : (b : ℕ) → is_digit b 10 ≡ true → (48 ≤ b) × (b ≤ 57)
 digit_range b e = let small : digit_value b < 10 = grind (arith, nat_tests) in (grind arith, grind arith)

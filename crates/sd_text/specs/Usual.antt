@@ -1,6 +1,6 @@
 -- Usual texts in a table: keys, which are words of their bytes, and sizes.
-use Rattle.std.specs.Prelude.{◌≡◌, ◌<◌, ◌≤◌, ℕ, ◌*◌, ◌-◌, ◌%◌, ◌^◌, Bool, true, false, ◌&&◌, ◌==◌, List, [], ◌∷◌, take, drop}
-use Rattle.std.specs.Prelude.{length, get_or, Option, Some, None, suc, nat_le}
+use Rattle.std.specs.Prelude.{◌≡◌, ◌<◌, ◌≤◌, ℕ, ◌*◌, ◌-◌, ◌%◌, ◌^◌, Bool, true, false, ◌&&◌, ◌==◌, List, [], ◌∷◌, take}
+use Rattle.std.specs.Prelude.{drop, length, get_or, Option, Some, None, suc, nat_le}
 use Rattle.std.specs.Int.{to_le_bytes, w64}
 use Rattle.std.specs.Str.{bytes_eq}
 

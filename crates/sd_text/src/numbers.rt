@@ -1,6 +1,7 @@
 //! The numbers that digits write, in rights and in SIDs.
 
-ghost use Rattle.std.specs.Prelude.{◌≡◌, ◌<◌, ◌≤◌, ◌+◌, ◌*◌, ◌/◌, ◌%◌, ◌^◌, length, take, get_or, true, false, IfSome, Some};
+ghost use Rattle.std.specs.Prelude.{◌≡◌, ◌<◌, ◌≤◌, ◌+◌, ◌*◌, ◌/◌, ◌%◌, ◌^◌, length, take, get_or, true, false, IfSome};
+ghost use Rattle.std.specs.Prelude.{Some};
 ghost use Rattle.std.specs.Char.{is_digit};
 ghost use Rattle.std.specs.Int.{from_le_bytes, w64};
 ghost use Rattle.std.specs.List.{list_all};

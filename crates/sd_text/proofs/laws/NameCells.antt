@@ -32,7 +32,8 @@ same-capitals [] a b x y first second = refl
 same-capitals (e ∷ es) a b x y first second = rw (first, second, same-capitals es a b x y first second) refl
 
 -- the cell at a place has the bits of its letters
-at-place : (place i : ℕ) (table : List NamedBits) (cells : List ℕ) → cells_from place table cells ≡ true → i < length cells
+at-place : (place i : ℕ) (table : List NamedBits) (cells : List ℕ) → cells_from place table cells ≡ true
+    → i < length cells
     → get_or cells i 0 ≡ unwrap_or (bits_named table (64 + (place + i) / 32) (64 + (place + i) % 32)) 0
 at-place place i table [] all h = absurd (omega arith)
 at-place place zero table (bits ∷ more) all h =
@@ -41,7 +42,8 @@ at-place place zero table (bits ∷ more) all h =
     ∙ ap (λ n. unwrap_or (bits_named table (64 + n / 32) (64 + n % 32)) 0) same
 at-place place (suc i) table (bits ∷ more) all h =
     let next : suc place + i ≡ place + suc i = omega arith in
-    let found = at-place (suc place) i table more (and_parts _ (cells_from (suc place) table more) all).1 (omega arith) in
+    let found =
+    at-place (suc place) i table more (and_parts _ (cells_from (suc place) table more) all).1 (omega arith) in
     found ∙ ap (λ n. unwrap_or (bits_named table (64 + n / 32) (64 + n % 32)) 0) next
 
 -- a capital is no other byte

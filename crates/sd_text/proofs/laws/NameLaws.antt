@@ -112,14 +112,6 @@ run-end table bits (a ∷ tail) e = absurd (omega arith)
 abbrev pub HasRun : List NamedBits → List ℕ → ℕ → Type 0
 HasRun table front bits = (rest : List ℕ) → run_of table (front ++ rest) ≡ joined (Some bits) (run_of table rest)
 
--- no name
-pub no-names : (table : List NamedBits) → HasRun table [] 0
-no-names table rest = none-before (run_of table rest)
-  where
-    none-before : (o : Option ℕ) → o ≡ joined (Some 0) o
-    none-before None = refl
-    none-before (Some n) = ap Some (sym (zero_or n))
-
 -- one name more behind it
 pub one-name : (table : List NamedBits) (bits more i : ℕ) (text : List ℕ) → i + 1 < length text
     → HasRun table (take i text) bits → Some more ≡ bits_named table (get_or text i 0) (get_or text (i + 1) 0)

@@ -2,7 +2,9 @@ use Rattle.std.proofs.Common.{◌∙◌, sym, arith}
 use Rattle.sd_text.proofs.laws.NameCells.{at-letters, found-bits, is-none, is-some, no-first, no-second}
 use Rattle.sd_text.proofs.names.bits_named.Goals as goal
 use Rattle.sd_text.proofs.names.bits_named.Goals.{then-not-is_ascii_alphabetic-via-then-not-is_ascii_alphabetic}
-use Rattle.sd_text.proofs.names.bits_named.Goals.{then-not-is_ascii_alphabetic-via-else-not-is_ascii_alphabetic+then-not-is_ascii_alphabetic-2}
+use Rattle.sd_text.proofs.names.bits_named.Goals.{
+  then-not-is_ascii_alphabetic-via-else-not-is_ascii_alphabetic+then-not-is_ascii_alphabetic-2,
+}
 
 pub returns-then-not-is_ascii_alphabetic : goal.returns-then-not-is_ascii_alphabetic
 returns-then-not-is_ascii_alphabetic g c =

@@ -16,7 +16,8 @@ returns c =
     let enough : 8 ≤ length text = chunk.enough in
     let whole : length block ≡ 8 = ap length first ∙ length-take-le 8 text enough in
     let bytes : (i : ℕ) → i < 8 → get_or block i 0 < 256 =
-    λ i h. subst (λ n. n < 256) (sym (ap (λ t. get_or t i 0) first ∙ get_or-take 8 text i 0 h)) (omega (arith, c.type_inv.text i)) in
+    λ i h. subst (λ n. n < 256) (sym (ap (λ t. get_or t i 0) first ∙ get_or-take 8 text i 0 h))
+    (omega (arith, c.type_inv.text i)) in
     let word : c.from_le_bytes-word.result ≡ from_le_bytes w64 block = c.from_le_bytes-word.ensures in
     let key = get_or c.args.keys.now c.row_of-row.result 0 in
     let found : take size block ≡ usual_text key size =
