@@ -97,8 +97,8 @@ relative-capitals : list_all (λ e. is_ascii_uppercase e.first && is_ascii_upper
 relative-capitals = refl
 
 -- what is looked up at the place of the capitals of two letters, and its test
-pub known-looked-up : (a b x y i : ℕ) (found : Option WellKnown) → IsSameCapital a x → IsSameCapital b y → i ≡ place_of a b
-    → found ≡ slice_get WELL_KNOWN i → passing (is_known a b) found ≡ find (is_known x y) WELL_KNOWN
+pub known-looked-up : (a b x y i : ℕ) (found : Option WellKnown) → IsSameCapital a x → IsSameCapital b y
+    → i ≡ place_of a b → found ≡ slice_get WELL_KNOWN i → passing (is_known a b) found ≡ find (is_known x y) WELL_KNOWN
 known-looked-up a b x y i found first second at e =
     ap (passing (is_known a b)) (e ∙ ap (slice_get WELL_KNOWN) at)
     ∙ sym (known-at a b)
@@ -176,7 +176,8 @@ pub known-sid-at : (authority last i : ℕ) (found : Option WellKnown) → i ≡
     → found ≡ slice_get WELL_KNOWN i → (subs : List ℕ) → last_of subs ≡ last
     → find (is_name_of authority subs) WELL_KNOWN ≡ passing (is_name_of authority subs) found
 known-sid-at authority last i found at e subs is =
-    find-placed (is_name_of authority subs) place_of_entry (sid_place authority (last_of subs)) (only_entry authority subs) 0
+    find-placed (is_name_of authority subs) place_of_entry (sid_place authority (last_of subs))
+    (only_entry authority subs) 0
     (sid_place authority (last_of subs)) WELL_KNOWN sids_placed (omega arith)
     ∙ ap (λ k. passing (is_name_of authority subs) (slice_get WELL_KNOWN (sid_place authority k))) is
     ∙ ap (λ k. passing (is_name_of authority subs) (slice_get WELL_KNOWN k)) (sym at)

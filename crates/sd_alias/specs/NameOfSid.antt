@@ -1,6 +1,7 @@
 -- Which entry names a SID everywhere. Only contracts between rooms cite this: `known_alias` of sd_sid says which name a
 -- SID has.
-use Rattle.std.specs.Prelude.{ℕ, ◌-◌, Bool, ◌==◌, ◌&&◌, if◌then◌else◌, List, length, take, slice_index, Option, Some, None}
+use Rattle.std.specs.Prelude.{ℕ, ◌-◌, Bool, ◌==◌, ◌&&◌, if◌then◌else◌, List, length, take, slice_index, Option, Some}
+use Rattle.std.specs.Prelude.{None}
 use Rattle.std.specs.Str.{bytes_eq}
 use Rattle.sd_alias.specs.declared.table.WellKnown.{WellKnown}
 

@@ -1,7 +1,7 @@
 -- The text of an account's SID, from the numbers in it.
 use Rattle.std.proofs.Common.{◌≡◌, ◌≤◌, ℕ, Bool, true, false, ◌&&◌, List, [], ◌∷◌, ◌++◌, length, drop}
-use Rattle.std.proofs.Common.{Option, Some, Ok, Err, slice_index, refl, ap, sym, ◌∙◌, arith, append-nil, append_assoc, length-append}
-use Rattle.std.proofs.Common.{◌+◌, ◌-◌, ◌⊎◌, inl, inr, take, subst}
+use Rattle.std.proofs.Common.{Option, Some, Ok, Err, slice_index, refl, ap, sym, ◌∙◌, arith, append-nil, append_assoc}
+use Rattle.std.proofs.Common.{length-append, ◌+◌, ◌-◌, ◌⊎◌, inl, inr, take, subst}
 use Rattle.std.proofs.Math.Seq.{take-append_seam}
 use Rattle.std.specs.Prelude.{◌==◌, nat_le, nat_lt, if◌then◌else◌}
 use Rattle.std.specs.Char.{is_digit, to_ascii_uppercase}

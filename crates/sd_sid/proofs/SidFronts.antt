@@ -1,7 +1,7 @@
 -- The letters, digits and dashes at the front of a text.
 use Rattle.std.proofs.Common.{◌≡◌, ℕ, ◌+◌, ◌≤◌, Bool, true, false, List, [], ◌∷◌, ◌++◌, length, take, drop}
-use Rattle.std.proofs.Common.{get_or, Option, None, Some, refl, ap, subst, take-append-drop, sym, ◌∙◌, arith, append-nil}
-use Rattle.std.proofs.Common.{length-append, slice_index}
+use Rattle.std.proofs.Common.{get_or, Option, None, Some, refl, ap, subst, take-append-drop, sym, ◌∙◌, arith}
+use Rattle.std.proofs.Common.{append-nil, length-append, slice_index}
 use Rattle.std.specs.Prelude.{◌==◌, nat_le, nat_lt, not}
 use Rattle.std.specs.Char.{is_ascii_alphabetic, is_digit, to_ascii_uppercase}
 use Rattle.std.specs.List.{list_all}

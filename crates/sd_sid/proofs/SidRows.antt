@@ -277,7 +277,8 @@ unfolding sid_reads has_form numbers_read
 zeros_of_184_bytes = refl
 
 -- a number of ten digits that has 33 bits, as authority and behind it
-ten_digits : map (λ text. sid_reads text None) (codes "S-1-4294967296" ∷ codes "S-1-0-4294967296" ∷ codes "S-1-9999999999" ∷ [])
+ten_digits : map (λ text. sid_reads text None)
+    (codes "S-1-4294967296" ∷ codes "S-1-0-4294967296" ∷ codes "S-1-9999999999" ∷ [])
     ≡ Err faults.Number ∷ Err faults.Number ∷ Err faults.Number ∷ []
 unfolding sid_reads has_form numbers_read
 ten_digits = refl
@@ -285,8 +286,9 @@ ten_digits = refl
 -- what has no form: another letter, dash, digit or revision at each place of the front, and what is empty
 no_forms : map (λ text. sid_reads text None)
     (codes "T-1-5" ∷ codes "S.1-5" ∷ codes "S-0-5" ∷ codes "S-1.5" ∷ codes "S-1-5-" ∷ codes "S-1--5" ∷ codes "S-1-5-1a"
-    ∷ codes "S-1-0x00000000000" ∷ codes "S-1-0y000000000005" ∷ codes "S-1-1x000000000005" ∷ codes "S-1-0x00000000000g" ∷ codes "S-1-0xg00000000000"
-    ∷ codes "S-1-5-0x000000000005" ∷ codes "B" ∷ codes "BAA" ∷ codes "B1" ∷ codes "1B" ∷ [])
+    ∷ codes "S-1-0x00000000000" ∷ codes "S-1-0y000000000005" ∷ codes "S-1-1x000000000005" ∷ codes "S-1-0x00000000000g"
+    ∷ codes "S-1-0xg00000000000" ∷ codes "S-1-5-0x000000000005" ∷ codes "B" ∷ codes "BAA" ∷ codes "B1"
+    ∷ codes "1B" ∷ [])
     ≡ replicate 17 (Err faults.SidForm)
 unfolding sid_reads letters_read has_form numbers_read
 no_forms = refl
@@ -297,5 +299,6 @@ fifteen_numbers : sid_reads (codes "s-1-0x00000000000f-1-2-3-4-5-6-7-8-9-10-11-1
 unfolding sid_reads has_form numbers_read
 fifteen_numbers = refl
 
-fronts : map sid_front (codes "S-1-5;x" ∷ codes "BA)" ∷ codes "S-1_5" ∷ []) ≡ codes "S-1-5" ∷ codes "BA" ∷ codes "S-1" ∷ []
+fronts : map sid_front (codes "S-1-5;x" ∷ codes "BA)" ∷ codes "S-1_5" ∷ [])
+    ≡ codes "S-1-5" ∷ codes "BA" ∷ codes "S-1" ∷ []
 fronts = refl

@@ -58,6 +58,7 @@ impl Account {
         sid.push(self.second);
         sid.push(self.third);
         sid.push(self.last);
+        // Its size shows that it keeps the limits.
         let _ = sid.size();
         sid
     }

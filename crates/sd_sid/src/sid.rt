@@ -132,8 +132,8 @@ impl Sid {
     pub fn size_at_front(bytes: &[u8]) -> Option<usize>
         ensures exact { result ≡ option_map (λ r. r.1) (sid_at bytes.now) }
         // Where there is one, it is the one that `at_front` gives.
-        ensures found { IfSome result (λ n. BeginsWithSid bytes.now (sid_of bytes.now) × (n ≡ sid_size (sid_of bytes.now))
-            × (sid_at bytes.now ≡ Some (sid_of bytes.now, n))) }
+        ensures found { IfSome result (λ n. BeginsWithSid bytes.now (sid_of bytes.now)
+            × (n ≡ sid_size (sid_of bytes.now)) × (sid_at bytes.now ≡ Some (sid_of bytes.now, n))) }
     {
         if bytes.len() < HEADER_SIZE || bytes[0] != 1 {
             return None;

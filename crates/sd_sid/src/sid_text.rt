@@ -1,6 +1,7 @@
 //! The texts of SIDs (MS-DTYP 2.4.2.1).
 ghost use Rattle.std.specs.Prelude.{◌≡◌, false, true, ◌+◌, ◌*◌, ◌<◌, ◌≤◌, ◌^◌, [], ◌∷◌, length, take, drop};
-ghost use Rattle.std.specs.Prelude.{slice_index, nat_lt, if◌then◌else◌, IfSome, MatchOption, MatchResult, Option, None, Ok, Err};
+ghost use Rattle.std.specs.Prelude.{slice_index, nat_lt, if◌then◌else◌, IfSome, MatchOption, MatchResult, Option, None};
+ghost use Rattle.std.specs.Prelude.{Ok, Err};
 ghost use Rattle.std.specs.Char.{is_digit};
 ghost use Rattle.std.specs.List.{list_all};
 ghost use Rattle.std.specs.Option.{option_copied, option_map};

@@ -138,7 +138,8 @@ sid_at-stands bytes h t = (
 
 -- as many sub-authorities as the bytes say
 pub subs-count : (bytes : List ℕ) (s : SecurityId) → sid_of bytes ≡ s → length s.subs ≡ slice_index bytes 1
-subs-count bytes s e = ap (λ (t : SecurityId). length t.subs) (sym e) ∙ length-words (slice_index bytes 1) (drop 8 bytes)
+subs-count bytes s e = ap (λ (t : SecurityId). length t.subs) (sym e)
+    ∙ length-words (slice_index bytes 1) (drop 8 bytes)
 
 -- what reads as a SID is its bytes
 pub sid_at-found : (bytes : List ℕ) (s : SecurityId) (n : ℕ) → AreBytes bytes → sid_at bytes ≡ Some (s, n)

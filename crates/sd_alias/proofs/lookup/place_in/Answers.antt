@@ -5,7 +5,8 @@ use Rattle.sd_alias.proofs.lookup.place_in.Goals as goal
 
 pub returns-in-Some : goal.returns-in-Some
 returns-in-Some c =
-    place-some c.args.cells.now c.args.cell _ _ (sym (ap option_copied c.in-Some.is) ∙ c.entry_at.ensures) c.from.ensures
+    place-some c.args.cells.now c.args.cell _ _
+    (sym (ap option_copied c.in-Some.is) ∙ c.entry_at.ensures) c.from.ensures
 
 pub returns-in-None : goal.returns-in-None
 returns-in-None c =

@@ -16,8 +16,8 @@ returns-clause-number c =
     rw (take_rest text count) at (c.ends_number.ensures.ends c.if-not-ends_number.false) in (
       take count text,
       decimal_is n (take count text) (omega arith) digits,
-      reads_is n (take count text) (omega (arith, c.front_decimal-number.ensures.few)) (omega (arith, c.if-number.false))
-          digits,
+      reads_is n (take count text) (omega (arith, c.front_decimal-number.ensures.few))
+          (omega (arith, c.if-number.false)) digits,
       rw (take_rest text count) (number-cut text count n digits ends),
     )
 

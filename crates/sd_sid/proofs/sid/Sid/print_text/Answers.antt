@@ -13,7 +13,8 @@ loop-sub-preserved g c =
 
 pub returns-clause-put : goal.returns-clause-put
 returns-clause-put g c =
-    let all = take_all c.loop-sub.sub-index c.subs-sub-items.result.now (omega arith) ∙ c.subs-sub-items.ensures.value in
+    let all = take_all c.loop-sub.sub-index c.subs-sub-items.result.now (omega arith)
+    ∙ c.subs-sub-items.ensures.value in
     prints_then c.put.ensures
     (prints_then (rw c.authority.ensures.value at c.print_authority.ensures)
     (prints_as (ap (flat_map sub_text) all) c.loop-sub.invariant))
