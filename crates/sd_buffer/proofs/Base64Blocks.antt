@@ -1,7 +1,8 @@
 -- Blocks of base64: what their values make, and what is spelled with a block more.
 use Rattle.std.proofs.Common.{◌≡◌, ◌≤◌, ◌<◌, ℕ, suc, ◌+◌, ◌*◌, ◌/◌, ◌%◌, ◌==◌, ◌&&◌, nat_lt, Bool, true}
 use Rattle.std.proofs.Common.{List, [], ◌∷◌, ◌++◌, length, take, drop, replicate, slice_index}
-use Rattle.std.proofs.Common.{Option, Some, None, Result, Ok, Err, refl, sym, subst, ap, ◌∙◌, inl, inr, ◌⊎◌, arith, length-append, length-drop}
+use Rattle.std.proofs.Common.{Option, Some, None, Result, Ok, Err, refl, sym, subst, ap, ◌∙◌, inl, inr, ◌⊎◌, arith}
+use Rattle.std.proofs.Common.{length-append, length-drop}
 use Rattle.std.specs.Prelude.{MatchResult}
 use Rattle.std.specs.Simd.Lanes.{Each1}
 use Rattle.std.proofs.Math.Seq.{take-add}
@@ -146,7 +147,8 @@ rest-spelled text bytes q are spelled =
     let is = (one_encoding text are bytes out).0 spelled in
     elim (cases_lt (length bytes) (3 * q)) [
       | inl few ↦
-          let none : drop (4 * q) text ≡ [] = drop_all (4 * q) text (omega (arith, ap length is, length-encoding bytes q few)) in
+          let none : drop (4 * q) text ≡ [] =
+          drop_all (4 * q) text (omega (arith, ap length is, length-encoding bytes q few)) in
           inr (rw none spells-nothing)
       | inr enough ↦
           let left = ap (λ (xs : List ℕ). drop (4 * q) xs) is ∙ drop-encoding bytes q enough in
@@ -171,7 +173,8 @@ both-wrong (Err other) s text fault q are wrong e =
 -- decoding that answers a count has left what the text spells
 abbrev pub Left : Result (List ℕ) TextFault → List ℕ → Result ℕ TextFault → Type 0
 Left spelled new result =
-    MatchResult spelled (λ bytes. (result ≡ Ok (length bytes)) × (take (length bytes) new ≡ bytes)) (λ fault. result ≡ Err fault)
+    MatchResult spelled (λ bytes. (result ≡ Ok (length bytes)) × (take (length bytes) new ≡ bytes))
+    (λ fault. result ≡ Err fault)
 
 left-ok : (spelled : Result (List ℕ) TextFault) (new : List ℕ) (n : ℕ) → Left spelled new (Ok n) → n ≤ length new
     → spelled ≡ Ok (take n new)
@@ -197,7 +200,8 @@ decoded-both text cells part k q n are new within few first rest =
     let both : IsBytes (take (3 * q) cells ++ take n part) = subst IsBytes front (IsBytes-take (3 * q + n) _ new) in
     let spelled = both-spelled text (take (3 * q) cells) (take n part) (4 * q) are both (omega (arith, whole)) first
     (left-ok _ part n rest few) in
-    let long : length (take (3 * q) cells ++ take n part) ≡ 3 * q + n = omega (arith, length-append (take (3 * q) cells) (take n part), whole, size) in
+    let long : length (take (3 * q) cells ++ take n part) ≡ 3 * q + n =
+    omega (arith, length-append (take (3 * q) cells) (take n part), whole, size) in
     rw (spelled, long) (refl, front)
 
 pub wrong-both : (text new other : List ℕ) (q : ℕ) (fault : TextFault) → IsBytes text

@@ -1,7 +1,7 @@
 -- Blocks of base64 by vectors: the values of symbols, and the bytes that they make.
-use Rattle.std.proofs.Common.{◌≡◌, ◌<◌, ℕ, zero, suc, ◌+◌, ◌-◌, ◌*◌, ◌/◌, ◌%◌, ◌^◌, ◌==◌, ◌&&◌, not, nat_lt, Bool, true, false, cond}
-use Rattle.std.proofs.Common.{if◌then◌else◌, List, [], ◌∷◌, length, map, take, replicate, Option, Some, None}
-use Rattle.std.proofs.Common.{refl, sym, subst, ap, ◌∙◌, arith, w8}
+use Rattle.std.proofs.Common.{◌≡◌, ◌<◌, ℕ, zero, suc, ◌+◌, ◌-◌, ◌*◌, ◌/◌, ◌%◌, ◌^◌, ◌==◌, ◌&&◌, not, nat_lt, Bool, true}
+use Rattle.std.proofs.Common.{false, cond, if◌then◌else◌, List, [], ◌∷◌, length, map, take, replicate, Option, Some}
+use Rattle.std.proofs.Common.{None, refl, sym, subst, ap, ◌∙◌, arith, w8}
 use Rattle.std.proofs.lemmas.List.{length-map}
 use Rattle.std.specs.Simd.Lanes.{Each1, digits_l, mask_l, number_l, pick_l, sel_l, top, zip2}
 use Rattle.std.proofs.lemmas.Bool.{and_parts, eqb-true}
@@ -23,7 +23,10 @@ shifts-in first count shift zero [] long = refl
 shifts-in first count shift zero (c ∷ symbols) long = absurd (omega arith)
 shifts-in first count shift (suc n) [] long = absurd (omega arith)
 shifts-in first count shift (suc n) (c ∷ symbols) long =
-    rw (top-mask (nat_lt ((c + (2 ^ 8 - first)) % 2 ^ 8) count), shifts-in first count shift n symbols (omega arith)) refl
+    rw (
+      top-mask (nat_lt ((c + (2 ^ 8 - first)) % 2 ^ 8) count),
+      shifts-in first count shift n symbols (omega arith),
+    ) refl
 
 pub shifts-at : (symbol shift n : ℕ) (symbols : List ℕ) → length symbols ≡ n
     → sel_l (map (top 7) (zip2 (λ (a b : ℕ). cond (a == b) 255 0) symbols (replicate n symbol)))
@@ -122,12 +125,14 @@ no_symbols shifts = mask_l (map (top 7) (zip2 (λ (a b : ℕ). cond (a == b) 255
 shifts-added : (text a b c d e : List ℕ) → a ≡ runs 65 26 191 text → b ≡ runs 97 26 185 text → c ≡ runs 48 10 4 text
     → d ≡ ones 43 19 text → e ≡ ones 47 16 text → added (added (added (added a b) c) d) e ≡ map shift_of text
 shifts-added text a b c d e is-a is-b is-c is-d is-e =
-    zip2_of_maps _ _ _ text (zip2_of_maps _ _ _ text (zip2_of_maps _ _ _ text (zip2_of_maps _ _ _ text is-a is-b) is-c) is-d)
+    zip2_of_maps _ _ _ text
+    (zip2_of_maps _ _ _ text (zip2_of_maps _ _ _ text (zip2_of_maps _ _ _ text is-a is-b) is-c) is-d)
     is-e
 
 test-shifts : (text shifts : List ℕ) → length text ≡ 16 → shifts ≡ map shift_of text → no_symbols shifts ≡ none_set text
 test-shifts text shifts long is =
-    rw is (bitmask_splat w8 (λ (a b : ℕ). a == b) (map shift_of text) 16 0 (length-map text shift_of ∙ long) (omega arith))
+    rw is
+    (bitmask_splat w8 (λ (a b : ℕ). a == b) (map shift_of text) 16 0 (length-map text shift_of ∙ long) (omega arith))
 
 pub values-read : (text whole a b c d e : List ℕ) → text ≡ whole → length text ≡ 16 → Each1 (λ (c : ℕ). c < 256) text
     → a ≡ runs 65 26 191 text → b ≡ runs 97 26 185 text → c ≡ runs 48 10 4 text
@@ -209,17 +214,20 @@ joined-words (suc n) (a ∷ b ∷ c ∷ d ∷ values) long small =
 abbrev pub positions : List ℕ
 positions = 2 ∷ 1 ∷ 0 ∷ 6 ∷ 5 ∷ 4 ∷ 10 ∷ 9 ∷ 8 ∷ 14 ∷ 13 ∷ 12 ∷ 3 ∷ 7 ∷ 11 ∷ 15 ∷ []
 
-forwards : (values : List ℕ) → length values ≡ 16 → take 12 (pick_l 0 (backwards values) positions) ≡ joined_groups values
+forwards : (values : List ℕ) → length values ≡ 16
+    → take 12 (pick_l 0 (backwards values) positions) ≡ joined_groups values
 forwards values long =
     subst (λ (xs : List ℕ). take 12 (pick_l 0 (backwards xs) positions) ≡ joined_groups xs)
     (pick_l_whole 0 values 16 long) refl
 
 -- what a block of values is joined to
 pub joined-block : (values : List ℕ) → length values ≡ 16 → Each1 (λ (v : ℕ). v < 64) values
-    → take 12 (pick_l 0 (digits_l 256 16 (number_l (2 ^ 32) (map joined_word (digits_l (2 ^ 32) 4 (number_l 256 values)))))
-    positions) ≡ joined_groups values
+    → take 12 (pick_l 0
+    (digits_l 256 16 (number_l (2 ^ 32) (map joined_word (digits_l (2 ^ 32) 4 (number_l 256 values))))) positions)
+    ≡ joined_groups values
 joined-block values long small =
-    let bytes : Each1 (λ (v : ℕ). v < 256) values = Each1-weaker (λ (v : ℕ). v < 64) (λ (v : ℕ). v < 256) (λ v less. omega (arith, less)) values small in
+    let bytes : Each1 (λ (v : ℕ). v < 256) values =
+    Each1-weaker (λ (v : ℕ). v < 64) (λ (v : ℕ). v < 256) (λ v less. omega (arith, less)) values small in
     ap (λ (xs : List ℕ). take 12 (pick_l 0 (digits_l 256 16 (number_l (2 ^ 32) (map joined_word xs))) positions))
     (words-of-bytes 4 values long bytes)
     ∙ ap (λ (xs : List ℕ). take 12 (pick_l 0 xs positions)) (joined-words 4 values long small)

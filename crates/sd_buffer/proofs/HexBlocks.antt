@@ -1,10 +1,12 @@
 -- Blocks of hex digits: what their values make, and what is spelled with a block more.
-use Rattle.std.proofs.Common.{◌≡◌, ◌≤◌, ◌<◌, ℕ, zero, suc, ◌+◌, ◌*◌, ◌%◌, ◌^◌, List, [], ◌∷◌, ◌++◌, length, take, drop, slice_index}
-use Rattle.std.proofs.Common.{Option, Some, None, Ok, Result, Err, refl, sym, ap, ◌∙◌, append_assoc, arith, length-drop}
+use Rattle.std.proofs.Common.{◌≡◌, ◌≤◌, ◌<◌, ℕ, zero, suc, ◌+◌, ◌*◌, ◌%◌, ◌^◌, List, [], ◌∷◌, ◌++◌, length, take, drop}
+use Rattle.std.proofs.Common.{slice_index, Option, Some, None, Ok, Result, Err, refl, sym, ap, ◌∙◌, append_assoc, arith}
+use Rattle.std.proofs.Common.{length-drop}
 use Rattle.std.specs.Prelude.{MatchResult, if◌then◌else◌, nat_lt, slice_set}
 use Rattle.std.proofs.lemmas.Bool.Decides.{nat_tests}
 use Rattle.std.proofs.Math.Seq.{take-add}
-use Rattle.std.proofs.lemmas.List.{length-take-le, map-append, take-append-drop, take-take, take_at, take_more, take_more_set}
+use Rattle.std.proofs.lemmas.List.{length-take-le, map-append, take-append-drop, take-take, take_at, take_more}
+use Rattle.std.proofs.lemmas.List.{take_more_set}
 use Rattle.hex.specs.Hex.{hex_digit_value}
 use Rattle.sd_buffer.specs.Text.{hex_spells}
 use Rattle.sd_buffer.specs.declared.buffer.TextFault.{TextFault}

@@ -1,7 +1,7 @@
 //! Base64 read in blocks, beside the crate `base64`, whose definition is their contract.
 
-ghost use Rattle.std.specs.Prelude.{◌≡◌, ◌≤◌, ◌<◌, ◌+◌, ◌-◌, ◌*◌, ◌%◌, ◌^◌, ◌==◌, ℕ, true, false, length, take, drop, map};
-ghost use Rattle.std.specs.Prelude.{if◌then◌else◌, nat_lt};
+ghost use Rattle.std.specs.Prelude.{◌≡◌, ◌≤◌, ◌<◌, ◌+◌, ◌-◌, ◌*◌, ◌%◌, ◌^◌, ◌==◌, ℕ, true, false, length, take, drop};
+ghost use Rattle.std.specs.Prelude.{map, if◌then◌else◌, nat_lt};
 ghost use Rattle.std.specs.Simd.Lanes.{Each1};
 ghost use Rattle.base64.specs.Decode.{decoded_estimate};
 ghost use Rattle.base64.specs.Engines.{standard};

@@ -1,7 +1,7 @@
 //! Hex digits read in blocks, beside the crate `hex`, whose definition is their contract.
 
-ghost use Rattle.std.specs.Prelude.{◌≡◌, ◌≤◌, ◌<◌, ◌*◌, ◌/◌, ◌%◌, true, false, length, take, MatchOption, Ok, Err, Some, None};
-ghost use Rattle.std.specs.Prelude.{if◌then◌else◌, nat_lt};
+ghost use Rattle.std.specs.Prelude.{◌≡◌, ◌≤◌, ◌<◌, ◌*◌, ◌/◌, ◌%◌, true, false, length, take, MatchOption, Ok, Err};
+ghost use Rattle.std.specs.Prelude.{Some, None, if◌then◌else◌, nat_lt};
 ghost use Rattle.hex.specs.Hex.{hex_digit_value};
 ghost use Rattle.sd_buffer.specs.declared.buffer.TextFault.TheVariants.{HexDigit};
 ghost use Rattle.sd_buffer.specs.Text.{hex_spells};

@@ -1,6 +1,6 @@
 -- Vectors of bytes, lane by lane and as words of 32 bits.
-use Rattle.std.proofs.Common.{◌≡◌, ◌<◌, ℕ, zero, suc, ◌+◌, ◌*◌, ◌/◌, ◌%◌, ◌^◌, Bool, true, false, cond, List, [], ◌∷◌, length}
-use Rattle.std.proofs.Common.{refl, arith}
+use Rattle.std.proofs.Common.{◌≡◌, ◌<◌, ℕ, zero, suc, ◌+◌, ◌*◌, ◌/◌, ◌%◌, ◌^◌, Bool, true, false, cond, List, [], ◌∷◌}
+use Rattle.std.proofs.Common.{length, refl, arith}
 use Rattle.std.specs.Simd.Lanes.{Each1, digits_l, number_l, top}
 
 -- what a lane of a comparison is read as
@@ -30,7 +30,8 @@ words-of-bytes (suc n) (a ∷ b ∷ c ∷ d ∷ xs) long small =
     let lb : b < 256 = small.1.0 in
     let lc : c < 256 = small.1.1.0 in
     let ld : d < 256 = small.1.1.1.0 in
-    let word : (a + 256 * (b + 256 * (c + 256 * (d + 256 * rest)))) % 2 ^ 32 ≡ a + 256 * (b + 256 * (c + 256 * d)) = omega arith in
+    let word : (a + 256 * (b + 256 * (c + 256 * (d + 256 * rest)))) % 2 ^ 32 ≡ a + 256 * (b + 256 * (c + 256 * d)) =
+    omega arith in
     let left : (a + 256 * (b + 256 * (c + 256 * (d + 256 * rest)))) / 2 ^ 32 ≡ rest = omega arith in
     rw (word, left, words-of-bytes n xs (omega arith) small.1.1.1.1) refl
 

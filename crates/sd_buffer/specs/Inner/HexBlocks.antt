@@ -1,6 +1,6 @@
 -- The values of digits, the bytes that pairs of them make, and blocks of digits.
-use Rattle.std.specs.Prelude.{◌≡◌, ◌<◌, ℕ, ◌+◌, ◌-◌, ◌*◌, ◌/◌, ◌%◌, ◌^◌, List, [], ◌∷◌, map, Some, None, length, drop, take}
-use Rattle.std.specs.Prelude.{min, slice_index}
+use Rattle.std.specs.Prelude.{◌≡◌, ◌<◌, ℕ, ◌+◌, ◌-◌, ◌*◌, ◌/◌, ◌%◌, ◌^◌, List, [], ◌∷◌, map, Some, None, length, drop}
+use Rattle.std.specs.Prelude.{take, min, slice_index}
 use Rattle.hex.specs.Hex.{hex_digit_value}
 
 -- each character is a digit with this value

@@ -28,7 +28,8 @@ loop-groups-preserved c =
     let long = length-take-le (from + 16 - from) (drop from text) (omega (arith, whole, length-drop from text)) in
     let are : IsBytes part = IsBytes-take (from + 16 - from) (drop from text)
     (IsBytes-drop from text (λ i. let fits = c.type_inv.text i in omega arith)) in
-    let joined = encoded-block part c.values_of-are_symbols.result.0 are (omega (arith, long)) (c.values_of-are_symbols.ensures.symbols c.if-not-are_symbols.false) in
+    let joined = encoded-block part c.values_of-are_symbols.result.0 are (omega (arith, long))
+    (c.values_of-are_symbols.ensures.symbols c.if-not-are_symbols.false) in
     let block : take 16 (drop from text) ≡ encode_of standard bytes =
     ap (λ (n : ℕ). take n (drop from text)) (sym n) ∙ rw c.join-bytes.ensures joined in
     let front = length-take-le to cells (omega (arith, room)) in
@@ -51,7 +52,8 @@ join-bytes-requires c =
     let from = 4 * c.loop-groups.groups in
     let text = c.args.text.now in
     values-small (take (from + 16 - from) (drop from text)) _
-    (IsBytes-take (from + 16 - from) (drop from text) (IsBytes-drop from text (λ i. let fits = c.type_inv.text i in omega arith)))
+    (IsBytes-take (from + 16 - from) (drop from text)
+    (IsBytes-drop from text (λ i. let fits = c.type_inv.text i in omega arith)))
     (c.values_of-are_symbols.ensures.symbols c.if-not-are_symbols.false)
 
 pub returns-then-not-are_symbols-clause-ended : goal.returns-then-not-are_symbols-clause-ended

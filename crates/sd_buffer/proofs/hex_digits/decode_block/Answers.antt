@@ -10,4 +10,5 @@ returns-then-are_digits c =
 
 pub returns-else-are_digits : goal.returns-else-are_digits
 returns-else-are_digits c =
-    spells-other c.args.digits.now (omega (arith, c.requires)) (c.values_of-are_digits.ensures.other c.if-are_digits.false)
+    spells-other c.args.digits.now (omega (arith, c.requires))
+    (c.values_of-are_digits.ensures.other c.if-are_digits.false)

@@ -29,9 +29,11 @@ loop-done-preserved c =
     let n : 2 * at + 32 - 2 * at ≡ 32 = omega arith in
     let block : hex_spells (take 32 (drop (2 * at) pairs)) ≡ Ok bytes =
     ap (λ (n : ℕ). hex_spells (take n (drop (2 * at) pairs))) (sym n) ∙ c.in-Some.ensures in
-    let front = spells-front pairs (take c.loop-done.done cells) at c.loop-done.done most before.within before.spelled in
+    let front =
+    spells-front pairs (take c.loop-done.done cells) at c.loop-done.done most before.within before.spelled in
     let shorter = take-take at c.loop-done.done cells most in
-    let more = spells-block pairs (take at cells) bytes (2 * at) 32 (omega arith) refl whole (rw shorter at front) block in
+    let more =
+    spells-block pairs (take at cells) bytes (2 * at) 32 (omega arith) refl whole (rw shorter at front) block in
     let twice : 2 * (at + 16) ≡ 2 * at + 32 = omega arith in
     let size-new : at + 16 ≡ at + length new =
     omega (arith, long, room, length-take-le (at + 16 - at) (drop at cells), length-drop at cells) in

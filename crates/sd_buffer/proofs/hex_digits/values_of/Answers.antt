@@ -17,6 +17,7 @@ loop-i-preserved c =
           (before.read (omega (arith, c.max-most.ensures, small)));
       other = λ most. elim (cases_lt value 16) [
         | inl digit ↦ before.other (omega (arith, c.max-most.ensures, most, digit))
-        | inr other ↦ (c.loop-i.i, within, no-digit (slice_index digits c.loop-i.i) value c.digit_value-value.ensures.value other)
+        | inr other ↦
+            (c.loop-i.i, within, no-digit (slice_index digits c.loop-i.i) value c.digit_value-value.ensures.value other)
       ];
     }
