@@ -1,6 +1,6 @@
 -- Which SIDs may have a name that stands everywhere, by the number of their sub-authorities.
-use Rattle.std.proofs.Common.{◌≡◌, Bool, true, false, ◌&&◌, ◌||◌, length, slice_index, Option, Some, None, refl, sym, ap}
-use Rattle.std.proofs.Common.{◌∙◌, true≢false}
+use Rattle.std.proofs.Common.{◌≡◌, Bool, true, false, ◌&&◌, ◌||◌, length, slice_index, Option, Some, None, refl, sym}
+use Rattle.std.proofs.Common.{ap, ◌∙◌, true≢false}
 use Rattle.std.specs.Prelude.{◌==◌}
 use Rattle.std.specs.List.{find, list_all}
 use Rattle.sd_text.proofs.laws.Tables.{find-passes}

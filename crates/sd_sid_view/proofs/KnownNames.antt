@@ -13,9 +13,10 @@ use Rattle.sd_sid.proofs.laws.AliasLaws.{same_sid_comm}
 abbrev letters : WellKnown → List ℕ
 letters e = e.first ∷ e.second ∷ []
 
--- A SID `s` is compared with the SID of the entry `e`, whose parts are `a` and `subs`, and `b` tells whether it is the same.
-pub named : (s : SecurityId) (e : WellKnown) (a : ℕ) (subs : List ℕ) (b r : Bool) (o : Option WellKnown) → a ≡ e.authority
-    → subs ≡ take e.count e.subs → o ≡ Some e
+-- A SID `s` is compared with the SID of the entry `e`, whose parts are `a` and `subs`, and `b` tells whether it is the
+-- same.
+pub named : (s : SecurityId) (e : WellKnown) (a : ℕ) (subs : List ℕ) (b r : Bool) (o : Option WellKnown)
+    → a ≡ e.authority → subs ≡ take e.count e.subs → o ≡ Some e
     → find (is_name_of s.authority s.subs) WELL_KNOWN ≡ passing (is_name_of s.authority s.subs) o
     → r ≡ same_sid s (record { authority = a; subs = subs }) → r ≡ b
     → known_alias s ≡ option_map letters (if b then Some e else None)

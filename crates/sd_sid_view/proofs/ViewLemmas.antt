@@ -109,7 +109,8 @@ window_decides n m xs ys other = by_test (bytes_eq xs ys) refl
         absurd (true≢false (sym window ∙ other))
 
 -- a front and the end behind it, which may begin in the front
-pub ends_decide : (n m p : ℕ) (xs ys : List ℕ) → length xs ≡ length ys → length ys ≡ p + m → p ≤ n → bytes_eq (take n xs) (take n ys) ≡ true
+pub ends_decide : (n m p : ℕ) (xs ys : List ℕ) → length xs ≡ length ys → length ys ≡ p + m → p ≤ n
+    → bytes_eq (take n xs) (take n ys) ≡ true
     → bytes_eq (take m (drop p xs)) (take m (drop p ys)) ≡ true → bytes_eq xs ys ≡ true
 ends_decide n m p xs ys long size before front window =
     let whole : (zs : List ℕ) → length zs ≡ p + m → take m (drop p zs) ≡ drop p zs =
@@ -122,7 +123,8 @@ ends_decide n m p xs ys long size before front window =
 pub block_decides : (n p : ℕ) (xs ys : List ℕ) → length xs ≡ length ys → length ys ≡ p + 4 → p ≤ n + 4
     → bytes_eq (take n xs) (take n ys) ≡ true → bytes_eq (take 4 (drop p xs)) (take 4 (drop p ys)) ≡ true
     → bytes_eq (take 4 (drop n xs)) (take 4 (drop n ys)) ≡ bytes_eq xs ys
-block_decides n p xs ys long size before front window = by_test (bytes_eq (take 4 (drop n xs)) (take 4 (drop n ys))) refl
+block_decides n p xs ys long size before front window =
+    by_test (bytes_eq (take 4 (drop n xs)) (take 4 (drop n ys))) refl
   where
     by_test : (b : Bool) → bytes_eq (take 4 (drop n xs)) (take 4 (drop n ys)) ≡ b
         → bytes_eq (take 4 (drop n xs)) (take 4 (drop n ys)) ≡ bytes_eq xs ys
