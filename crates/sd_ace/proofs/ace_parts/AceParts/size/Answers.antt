@@ -15,7 +15,8 @@ pub returns-then-not-is_object-clause-limits : goal.returns-then-not-is_object-c
 returns-then-not-is_object-clause-limits c =
     let h = c.self.invariant in
     let plain = sym c.is_object.ensures ∙ c.if-not-is_object.true in
-    let guids = no_guids (is_object c.self.inside.kind) c.self.inside.object.now c.self.inside.inherited.now plain h.3 in
+    let guids =
+    no_guids (is_object c.self.inside.kind) c.self.inside.object.now c.self.inside.inherited.now plain h.3 in
     rw (← c.self.view_is) (record {
       flags = h.0;
       clear = h.1;
