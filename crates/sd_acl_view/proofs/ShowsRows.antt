@@ -108,7 +108,8 @@ odd_size a h = let odd = h.aligned in cc
 
 -- the first object flag announces an object type, the second one an inherited one, and neither does in a plain kind
 
-announced : announces_object kinds.ObjectAllow (typed_front 40 1) ∷ announces_inherited kinds.ObjectAllow (typed_front 40 1)
+announced : announces_object kinds.ObjectAllow (typed_front 40 1)
+    ∷ announces_inherited kinds.ObjectAllow (typed_front 40 1)
     ∷ announces_object kinds.ObjectAllow (typed_front 40 2) ∷ announces_inherited kinds.ObjectAllow (typed_front 40 2)
     ∷ announces_object kinds.Allow (typed_front 40 3) ∷ announces_inherited kinds.Allow (typed_front 40 3) ∷ []
     ≡ true ∷ false ∷ false ∷ true ∷ false ∷ false ∷ []

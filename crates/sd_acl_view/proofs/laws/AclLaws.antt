@@ -25,8 +25,8 @@ use Rattle.sd_acl_view.specs.declared.fault.AclFault.{AclFault}
 use Rattle.sd_acl_view.specs.Ace.{ShowsAce, ShowsGuid, announces_inherited, announces_object}
 use Rattle.sd_acl_view.specs.Acl.{BeginsWithAcl, IsAcl, ShowsAces, ShowsAcl, acl_size, aces_size}
 use Rattle.std.specs.Option.{option_or}
-use Rattle.sd_acl_view.specs.AclReading.{ace_fault, ace_of, aces_fault, aces_of, acl_fault, acl_of, acl_at_front, guid_if}
-use Rattle.sd_acl_view.specs.AclReading.{inherited_in, kind_in, object_in, extent_fault, sid_offset_in}
+use Rattle.sd_acl_view.specs.AclReading.{ace_fault, ace_of, aces_fault, aces_of, acl_fault, acl_of, acl_at_front}
+use Rattle.sd_acl_view.specs.AclReading.{guid_if, inherited_in, kind_in, object_in, extent_fault, sid_offset_in}
 use Rattle.sd_acl_view.specs.AclChecks.{IsReadableAcl}
 use Rattle.sd_acl_view.proofs.laws.FirstFault.{first_none, went_on, passed}
 

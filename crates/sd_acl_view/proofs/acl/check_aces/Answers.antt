@@ -5,7 +5,8 @@ use Rattle.std.proofs.lemmas.Result.{err_from_is_err_and}
 use Rattle.sd_acl_view.specs.Acl.{aces_size, has_object}
 use Rattle.sd_acl_view.specs.AclReading.{aces_fault, aces_of}
 use Rattle.sd_acl_view.specs.Bytes.{u16_at}
-use Rattle.sd_acl_view.proofs.laws.AclLaws.{aces_fault-more, aces_fault-err, aces_fault-none, aces_of-more, aces_of-none}
+use Rattle.sd_acl_view.proofs.laws.AclLaws.{aces_fault-more, aces_fault-err, aces_fault-none, aces_of-more}
+use Rattle.sd_acl_view.proofs.laws.AclLaws.{aces_of-none}
 use Rattle.sd_acl_view.proofs.acl.check_aces.Goals.{then-object, else-object}
 use Rattle.sd_acl_view.proofs.acl.check_aces.Goals as goal
 
