@@ -43,7 +43,8 @@ marked_keys s deny key (k ∷ keys) words small is =
       marked_keys s deny key keys (drop 19 words) small is,
     ) refl
 
-drop_entries : (n : ℕ) (keys words : List ℕ) → drop n (entries_of keys words) ≡ entries_of (drop n keys) (drop (19 * n) words)
+drop_entries : (n : ℕ) (keys words : List ℕ)
+    → drop n (entries_of keys words) ≡ entries_of (drop n keys) (drop (19 * n) words)
 drop_entries zero keys words = refl
 drop_entries (suc n) [] words = refl
 drop_entries (suc n) (key ∷ keys) words =
@@ -54,15 +55,18 @@ drop_entries (suc n) (key ∷ keys) words =
 take_entries : (n : ℕ) (keys words : List ℕ) → take n (entries_of keys words) ≡ entries_of (take n keys) words
 take_entries zero keys words = refl
 take_entries (suc n) [] words = refl
-take_entries (suc n) (key ∷ keys) words = ap (λ (es : List Entry). keyed key (entry_of (take 19 words)) ∷ es) (take_entries n keys (drop 19 words))
+take_entries (suc n) (key ∷ keys) words = ap (λ (es : List Entry). keyed key (entry_of (take 19 words)) ∷ es)
+    (take_entries n keys (drop 19 words))
 
-pub block_met : (s : SecurityId) (deny : Bool) (key at : ℕ) (keys words : List ℕ) → s.authority < 2 ^ 48 → key ≡ sid_key s
+pub block_met : (s : SecurityId) (deny : Bool) (key at : ℕ) (keys words : List ℕ) → s.authority < 2 ^ 48
+    → key ≡ sid_key s
     → at + 16 ≤ length keys
     → marked_meets s deny 16 (same_bits keys key at 16) (drop (19 * at) words)
     ≡ meets s deny (take 16 (drop at (entries_of keys words)))
 block_met s deny key at keys words small is room =
     (rw (length-chunk at 16 keys room) at (marked_keys s deny key (chunk at 16 keys) (drop (19 * at) words) small is))
-    ∙ ap (meets s deny) (sym (ap (take 16) (drop_entries at keys words) ∙ take_entries 16 (drop at keys) (drop (19 * at) words)))
+    ∙ ap (meets s deny) (sym (ap (take 16) (drop_entries at keys words)
+    ∙ take_entries 16 (drop at keys) (drop (19 * at) words)))
 
 pub same_bits-lt : (keys : List ℕ) (key at : ℕ) → at + 16 ≤ length keys → same_bits keys key at 16 < 2 ^ 16
 same_bits-lt keys key at room =
@@ -88,7 +92,8 @@ pub lacks_more : (keys : List ℕ) (key from at : ℕ) → from ≤ at → at + 
 lacks_more keys key from at low room none before s deny words small is =
     let more : at + 16 - from ≡ (at - from) + 16 = omega (arith, low) in
     let here : drop (at - from) (drop from (entries_of keys words)) ≡ drop at (entries_of keys words) =
-    drop-drop (at - from) from (entries_of keys words) ∙ ap (λ (n : ℕ). drop n (entries_of keys words)) (omega (arith, low)) in
+    drop-drop (at - from) from (entries_of keys words)
+    ∙ ap (λ (n : ℕ). drop n (entries_of keys words)) (omega (arith, low)) in
     rw more
     (none_run s deny (drop from (entries_of keys words)) (at - from) 16 (before s deny words small is)
     (rw here (sym (block_met s deny key at keys words small is room)
@@ -112,7 +117,8 @@ unfolding marked_meets
 here s deny n bits words set =
     let low : (bits - 1) % 2 ≡ 0 = omega (arith, set) in
     let half : (bits - 1) / 2 ≡ bits / 2 = omega (arith, set) in
-    let rest : cleared bits ≡ bits / 2 * 2 = and_step bits (bits - 1) ∙ rw (half, set, low, and_self (bits / 2)) (omega arith) in
+    let rest : cleared bits ≡ bits / 2 * 2 = and_step bits (bits - 1)
+    ∙ rw (half, set, low, and_self (bits / 2)) (omega arith) in
     let even : cleared bits % 2 ≡ 0 = omega (arith, rest) in
     let more : cleared bits / 2 ≡ bits / 2 = omega (arith, rest) in
     record { within = omega arith; either = rw (set, even, more) refl }

@@ -1,6 +1,6 @@
 -- A search through entries: none before a place meets the SID, and then one there does, or the entries end.
-use Rattle.std.proofs.Common.{◌≡◌, ◌<◌, ◌≤◌, ◌+◌, ◌-◌, ◌*◌, ◌/◌, ◌%◌, ◌^◌, ◌||◌, ℕ, suc, zero, Bool, true, false, if◌then◌else◌, List, [], ◌∷◌}
-use Rattle.std.proofs.Common.{length, take, drop, get_or, ap, refl, sym, ◌∙◌, arith}
+use Rattle.std.proofs.Common.{◌≡◌, ◌<◌, ◌≤◌, ◌+◌, ◌-◌, ◌*◌, ◌/◌, ◌%◌, ◌^◌, ◌||◌, ℕ, suc, zero, Bool, true, false}
+use Rattle.std.proofs.Common.{if◌then◌else◌, List, [], ◌∷◌, length, take, drop, get_or, ap, refl, sym, ◌∙◌, arith}
 use Rattle.std.specs.Prelude.{nat_le}
 use Rattle.std.proofs.Math.Seq.{take-add}
 use Rattle.std.proofs.lemmas.Bool.{leb-false, leb-true}
@@ -24,7 +24,8 @@ pub found : (s : SecurityId) (deny : Bool) (entries : List Entry) (i : ℕ) (d :
 found s deny [] i d within none here = absurd (omega (arith, within))
 found s deny (e ∷ entries) zero d within none here = (rw here refl, rw here refl)
 found s deny (e ∷ entries) (suc i) d within none here =
-    found_later (entry_meets s deny e) (meets s deny entries) (meets s deny (take i entries)) (looks s deny entries) i none
+    found_later (entry_meets s deny e) (meets s deny entries) (meets s deny (take i entries)) (looks s deny entries) i
+    none
     (λ later. found s deny entries i d (omega (arith, within)) later here)
 
 all_later : (b none : Bool) (looked n : ℕ) → (b || none) ≡ false → (none ≡ false → looked ≡ n)
@@ -48,34 +49,14 @@ looks_at_most s deny [] = omega arith
 looks_at_most s deny (e ∷ entries) =
     most_later (entry_meets s deny e) (looks s deny entries) (length entries) (looks_at_most s deny entries)
 
-none_later : (b none more : Bool) → (b || none) ≡ false → (none ≡ false → more ≡ false) → (b || more) ≡ false
-none_later true none more e later = e
-none_later false none more e later = later e
-
--- one entry more that does not meet it
-none_next : (s : SecurityId) (deny : Bool) (entries : List Entry) (i : ℕ) (d : Entry)
-    → meets s deny (take i entries) ≡ false → entry_meets s deny (get_or entries i d) ≡ false
-    → i < length entries → meets s deny (take (suc i) entries) ≡ false
-none_next s deny [] i d none here within = absurd (omega (arith, within))
-none_next s deny (e ∷ entries) zero d none here within = rw here refl
-none_next s deny (e ∷ entries) (suc i) d none here within =
-    none_later (entry_meets s deny e) (meets s deny (take i entries)) (meets s deny (take (suc i) entries)) none
-    (λ later. none_next s deny entries i d later here (omega (arith, within)))
-
-pub none_more : (s : SecurityId) (deny : Bool) (entries : List Entry) (i : ℕ) (d : Entry)
-    → meets s deny (take i entries) ≡ false → entry_meets s deny (get_or entries i d) ≡ false
-    → i < length entries → meets s deny (take (i + 1) entries) ≡ false
-none_more s deny entries i d none here within =
-    let next : i + 1 ≡ suc i = omega arith in
-    rw next (none_next s deny entries i d none here within)
-
 -- In blocks: none before a place meets the SID, and then one of the next few does.
 
 neither : (first second : Bool) → first ≡ false → second ≡ false → (first || second) ≡ false
 neither true second one other = one
 neither false second one other = other
 
-pub none_run : (s : SecurityId) (deny : Bool) (entries : List Entry) (from n : ℕ) → meets s deny (take from entries) ≡ false
+pub none_run : (s : SecurityId) (deny : Bool) (entries : List Entry) (from n : ℕ)
+    → meets s deny (take from entries) ≡ false
     → meets s deny (take n (drop from entries)) ≡ false → meets s deny (take (from + n) entries) ≡ false
 none_run s deny entries from n none more =
     ap (meets s deny) (take-add from n entries)
@@ -83,14 +64,16 @@ none_run s deny entries from n none more =
     ∙ neither (meets s deny (take from entries)) (meets s deny (take n (drop from entries))) none more
 
 -- none before the last of some blocks, and none of that one
-pub none_before : (s : SecurityId) (deny : Bool) (entries : List Entry) (from to : ℕ) → AreBlocks from to (length entries)
+pub none_before : (s : SecurityId) (deny : Bool) (entries : List Entry) (from to : ℕ)
+    → AreBlocks from to (length entries)
     → meets s deny (take from entries) ≡ false → meets s deny (take (to - 16 - from) (drop from entries)) ≡ false
     → meets s deny (take (to - 16) entries) ≡ false
 none_before s deny entries from to blocks none more =
     let front : from + (to - 16 - from) ≡ to - 16 = omega (arith, blocks.some) in
     rw front at (none_run s deny entries from (to - 16 - from) none more)
 
-pub none_up_to : (s : SecurityId) (deny : Bool) (entries : List Entry) (from to : ℕ) → AreBlocks from to (length entries)
+pub none_up_to : (s : SecurityId) (deny : Bool) (entries : List Entry) (from to : ℕ)
+    → AreBlocks from to (length entries)
     → meets s deny (take (to - 16) entries) ≡ false → meets s deny (take 16 (drop (to - 16) entries)) ≡ false
     → meets s deny (take to entries) ≡ false
 none_up_to s deny entries from to blocks none last =
@@ -111,7 +94,8 @@ found_within s deny [] zero some = absurd cc
 found_within s deny [] (suc n) some = absurd cc
 found_within s deny (e ∷ entries) zero some = absurd cc
 found_within s deny (e ∷ entries) (suc n) some =
-    within_later (entry_meets s deny e) (meets s deny entries) (meets s deny (take n entries)) (looks s deny entries) n some
+    within_later (entry_meets s deny e) (meets s deny entries) (meets s deny (take n entries)) (looks s deny entries) n
+    some
     (found_within s deny entries n)
 
 abbrev Behind : Bool → Bool → ℕ → ℕ → ℕ → Type 0
@@ -125,11 +109,13 @@ behind_later false met none rest looked behind from clear later = let h = later 
 
 behind : (s : SecurityId) (deny : Bool) (entries : List Entry) (from : ℕ) → from ≤ length entries
     → meets s deny (take from entries) ≡ false
-    → Behind (meets s deny entries) (meets s deny (drop from entries)) (looks s deny entries) (looks s deny (drop from entries)) from
+    → Behind (meets s deny entries) (meets s deny (drop from entries)) (looks s deny entries)
+    (looks s deny (drop from entries)) from
 behind s deny entries zero within none = (refl, omega arith)
 behind s deny [] (suc from) within none = absurd (omega (arith, within))
 behind s deny (e ∷ entries) (suc from) within none =
-    behind_later (entry_meets s deny e) (meets s deny entries) (meets s deny (take from entries)) (meets s deny (drop from entries))
+    behind_later (entry_meets s deny e) (meets s deny entries) (meets s deny (take from entries))
+    (meets s deny (drop from entries))
     (looks s deny entries) (looks s deny (drop from entries)) from none
     (behind s deny entries from (omega (arith, within)))
 
@@ -138,7 +124,8 @@ behind s deny (e ∷ entries) (suc from) within none =
 as_searched : ℕ → ℕ → ℕ
 as_searched n all = if nat_le (in_blocks n) all then in_blocks n else n
 
-whole_blocks : (n all from : ℕ) → from % 16 ≡ 0 → from < n → n ≤ from + 16 → from + 16 ≤ all → as_searched n all ≡ from + 16
+whole_blocks : (n all from : ℕ) → from % 16 ≡ 0 → from < n → n ≤ from + 16 → from + 16 ≤ all
+    → as_searched n all ≡ from + 16
 unfolding as_searched
 whole_blocks n all from start low high room = by_test (nat_le (in_blocks n) all) refl
   where
@@ -157,7 +144,8 @@ one_by_one n all low high = by_test (nat_le (in_blocks n) all) refl
 abbrev pub Searched : SecurityId → Bool → List Entry → Bool → ℕ → Type 0
 Searched s deny entries met n = (met ≡ meets s deny entries) × (searched s deny entries ≡ n)
 
-pub searched_block : (s : SecurityId) (deny : Bool) (entries : List Entry) (from to : ℕ) → AreBlocks from to (length entries)
+pub searched_block : (s : SecurityId) (deny : Bool) (entries : List Entry) (from to : ℕ)
+    → AreBlocks from to (length entries)
     → from % 16 ≡ 0 → meets s deny (take (to - 16) entries) ≡ false
     → meets s deny (take 16 (drop (to - 16) entries)) ≡ true → Searched s deny entries true to
 unfolding as_searched
@@ -167,7 +155,8 @@ searched_block s deny entries from to blocks start none some =
     let all : to - 16 + 16 ≡ to = omega (arith, blocks.some) in (
       sym (rest.0 ∙ found.0),
       whole_blocks (looks s deny entries) (length entries) (to - 16) (omega (arith, start, blocks.whole, blocks.some))
-          (omega (arith, rest.1, found.1)) (omega (arith, rest.1, found.2)) (omega (arith, blocks.some, blocks.within)) ∙ all,
+          (omega (arith, rest.1, found.1)) (omega (arith, rest.1, found.2)) (omega (arith, blocks.some, blocks.within))
+          ∙ all,
     )
 
 pub searched_one : (s : SecurityId) (deny : Bool) (entries : List Entry) (i : ℕ) (d : Entry)

@@ -19,7 +19,8 @@ same_keys s t same = ap subs_key (same_text s.subs t.subs (sym (and_parts (s.aut
 met_if : (b : Bool) (s : SecurityId) (deny : Bool) (e : Entry) → s.authority < 2 ^ 48
     → entry_meets s deny (if b then e else nobody) ≡ (b && entry_meets s deny e)
 met_if true s deny e small = refl
-met_if false s deny e small = and_left _ _ (and_left _ _ (ne_eqb (2 ^ 48) s.authority (λ same. omega (arith, same, small))))
+met_if false s deny e small = and_left _ _
+    (and_left _ _ (ne_eqb (2 ^ 48) s.authority (λ same. omega (arith, same, small))))
 
 same_test : (a b met : Bool) → (met ≡ true → a ≡ b) → (a && met) ≡ (b && met)
 same_test a b true h = rw (h refl) refl

@@ -1,7 +1,7 @@
 //! Tokens (MS-DTYP 2.5.2).
 
-ghost use Rattle.std.specs.Prelude.{◌≡◌, ◌≤◌, ◌<◌, ◌*◌, ◌^◌, ◌↔◌, ◌++◌, [], ◌∷◌, None, length, slice_index_or, IfOk, OnOk};
-ghost use Rattle.std.specs.Prelude.{OnErr, IsErr};
+ghost use Rattle.std.specs.Prelude.{◌≡◌, ◌≤◌, ◌<◌, ◌*◌, ◌^◌, ◌↔◌, ◌++◌, [], ◌∷◌, None, length, slice_index_or, IfOk};
+ghost use Rattle.std.specs.Prelude.{OnOk, OnErr, IsErr};
 ghost use Rattle.sd_sink.specs.Counts.{counted};
 ghost use Rattle.sd_token.specs.Limits.{LimitValues, most_entries};
 ghost use Rattle.sd_token.specs.Token.{Asks, counted_by, entry_meets, meets, searched};

@@ -1,9 +1,10 @@
 -- Entries that are written as numbers, one after the other.
-use Rattle.std.proofs.Common.{◌≡◌, ◌<◌, ℕ, suc, zero, ◌+◌, ◌*◌, List, [], ◌∷◌, ◌++◌, length, take, drop, get_or, ap, refl, sym}
-use Rattle.std.proofs.Common.{◌∙◌, arith}
+use Rattle.std.proofs.Common.{◌≡◌, ◌<◌, ℕ, suc, zero, ◌+◌, ◌*◌, List, [], ◌∷◌, ◌++◌, length, take, drop, get_or, ap}
+use Rattle.std.proofs.Common.{refl, sym, ◌∙◌, arith}
 use Rattle.std.proofs.Math.ListN.{set}
 use Rattle.std.proofs.lemmas.Bool.{eq-eqb}
-use Rattle.std.proofs.lemmas.List.{drop-drop, drop-take, get_or-set_same, length-set, length-take-le, take-set, take-take}
+use Rattle.std.proofs.lemmas.List.{drop-drop, drop-take, get_or-set_same, length-set, length-take-le, take-set}
+use Rattle.std.proofs.lemmas.List.{take-take}
 use Rattle.sd_token.specs.Token.{Entry}
 use Rattle.sd_token.specs.TokenWords.{entries_of, entry_of, keyed, sid_key}
 

@@ -1,5 +1,6 @@
 -- A search through entries.
-use Rattle.std.specs.Prelude.{◌≡◌, ◌≤◌, ◌<◌, ℕ, zero, suc, ◌+◌, ◌-◌, ◌^◌, ◌/◌, ◌%◌, ◌==◌, ◌&&◌, ◌||◌, Bool, false, List, map, take, drop}
+use Rattle.std.specs.Prelude.{◌≡◌, ◌≤◌, ◌<◌, ℕ, zero, suc, ◌+◌, ◌-◌, ◌^◌, ◌/◌, ◌%◌, ◌==◌, ◌&&◌, ◌||◌, Bool, false, List}
+use Rattle.std.specs.Prelude.{map, take, drop}
 use Rattle.std.specs.Simd.Lanes.{chunk, mask_l}
 use Rattle.sd_sid.specs.Sid.{SecurityId}
 use Rattle.sd_token.specs.Token.{Entry, entry_meets, meets}

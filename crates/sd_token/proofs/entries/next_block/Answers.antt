@@ -19,5 +19,6 @@ loop-same-preserved c =
       high = omega (arith, c.if-at-last.true);
       whole = omega (arith, kept.whole, kept.low);
       same = c.same_keys-same-in-loop-same.ensures;
-      before = lacks_more c.args.keys.now c.args.key c.args.from c.loop-same.at kept.low kept.high (sym kept.same ∙ c.loop-same-test.true) kept.before;
+      before = lacks_more c.args.keys.now c.args.key c.args.from c.loop-same.at kept.low kept.high
+          (sym kept.same ∙ c.loop-same-test.true) kept.before;
     }

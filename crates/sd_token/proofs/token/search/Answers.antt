@@ -26,7 +26,8 @@ in_block g c none =
     (sym c.blocks_meet.ensures.value ∙ c.if-blocks_meet.true))
 
 pub returns-then-blocks_meet-clause-value : goal.returns-then-blocks_meet-clause-value
-returns-then-blocks_meet-clause-value g c = (in_block g (goal.at.returns-then-blocks_meet-clause-value g c).Then-blocks_meet
+returns-then-blocks_meet-clause-value g c =
+    (in_block g (goal.at.returns-then-blocks_meet-clause-value g c).Then-blocks_meet
     (before g (goal.at.returns-then-blocks_meet-clause-value g c).After-blocks_meet)).0
 
 pub returns-then-blocks_meet-clause-compared : goal.returns-then-blocks_meet-clause-compared
@@ -59,7 +60,8 @@ pub returns-then-next_meets-clause-compared : goal.returns-then-next_meets-claus
 returns-then-next_meets-clause-compared g c =
     let kept = c.loop-entries-2.invariant in
     let s = g.S.Sought.sid c.args.sid.now in
-    let found = rw kept.entries at (searched_one s c.args.deny c.loop-entries-2.entries.entries c.loop-entries-2.entries.place nobody
+    let found = rw kept.entries at
+    (searched_one s c.args.deny c.loop-entries-2.entries.entries c.loop-entries-2.entries.place nobody
     kept.behind (omega (arith, c.loop-entries-2-test.true, c.left-in-loop-entries-2.ensures.value)) kept.none
     (sym c.next_meets.ensures.value ∙ c.if-next_meets.true)).1 in
     let counts = ap (λ (e : EntriesShown). e.compared) c.next_meets.ensures.counts in
@@ -68,7 +70,9 @@ returns-then-next_meets-clause-compared g c =
 pub returns-clause-compared : goal.returns-clause-compared
 returns-clause-compared g c =
     let kept = c.loop-entries-2.invariant in
-    let end : c.loop-entries-2.entries.place ≡ length c.loop-entries-2.entries.entries = omega (arith, c.loop-entries-2-test.false, c.left-in-loop-entries-2.ensures.value, kept.within) in
-    let none = rw kept.entries at (searched_all (g.S.Sought.sid c.args.sid.now) c.args.deny c.loop-entries-2.entries.entries
+    let end : c.loop-entries-2.entries.place ≡ length c.loop-entries-2.entries.entries =
+    omega (arith, c.loop-entries-2-test.false, c.left-in-loop-entries-2.ensures.value, kept.within) in
+    let none = rw kept.entries at
+    (searched_all (g.S.Sought.sid c.args.sid.now) c.args.deny c.loop-entries-2.entries.entries
     c.loop-entries-2.entries.place end kept.none).1 in
     rw none kept.compared

@@ -8,7 +8,8 @@ use Rattle.sd_token.proofs.entries.Entries.blocks_meet.Goals.{After-keys, then-s
 use Rattle.sd_token.proofs.entries.Entries.blocks_meet.Given.{Over}
 
 -- there is a whole block
-within : (g : Over) (c : After-keys g) → c.self.inside.place + 16 ≤ length (g.M.Memory.numbers c.self.inside.memory).keys
+within : (g : Over) (c : After-keys g)
+    → c.self.inside.place + 16 ≤ length (g.M.Memory.numbers c.self.inside.memory).keys
 within g c =
     let numbers = g.M.Memory.numbers c.self.inside.memory in
     let place = ap (λ (e : EntriesShown). e.place) c.self.view_is in
@@ -29,7 +30,9 @@ pub returns-clause-blocks : goal.returns-clause-blocks
 returns-clause-blocks g c =
     let numbers = g.M.Memory.numbers c.self.inside.memory in
     let place = ap (λ (e : EntriesShown). e.place) c.self.view_is in
-    let many : length c.args.self.now.entries ≡ length numbers.keys = sym (ap (λ (e : EntriesShown). length e.entries) c.self.view_is) ∙ as_many numbers.keys numbers.words in
+    let many : length c.args.self.now.entries ≡ length numbers.keys =
+    sym (ap (λ (e : EntriesShown). length e.entries) c.self.view_is)
+    ∙ as_many numbers.keys numbers.words in
     rw (← place, many, ← c.keys.ensures) c.next_block-at.ensures.blocks
 
 pub returns-clause-value : goal.returns-clause-value
