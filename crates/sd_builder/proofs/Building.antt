@@ -1,7 +1,7 @@
 -- How each call of a builder goes on with what was built. A call's condition speaks of one draft; what the builder
 -- keeps shows that the condition then holds of each draft that it was given.
-use Rattle.std.proofs.Common.{◌≡◌, ◌≤◌, ◌<◌, ℕ, ◌+◌, ◌%◌, ◌^◌, ◌||◌, Bool, false, List, [], ◌∷◌, ◌++◌, length, take, drop}
-use Rattle.std.proofs.Common.{Option, Some, None, refl, sym, ap, subst, ◌∙◌, append_assoc, arith, length-append}
+use Rattle.std.proofs.Common.{◌≡◌, ◌≤◌, ◌<◌, ℕ, ◌+◌, ◌%◌, ◌^◌, ◌||◌, Bool, false, List, [], ◌∷◌, ◌++◌, length, take}
+use Rattle.std.proofs.Common.{drop, Option, Some, None, refl, sym, ap, subst, ◌∙◌, append_assoc, arith, length-append}
 use Rattle.std.specs.Prelude.{IsSome}
 use Rattle.std.specs.List.{flat_map}
 use Rattle.std.proofs.lemmas.Grind.{flat_map-append}
@@ -134,8 +134,10 @@ new-builds bytes long =
 pub sid-room : (b : Builder) (bytes : List ℕ) (t : Draft) (p : SidPart) → Builds b bytes t
     → given t.parts (sid_part_of p) ≡ nothing → t.parts.«open» ≡ None → length bytes + 68 ≤ 131226
 unfolding Builds
-sid-room b bytes t sids.Owner h free e = (room bytes b t.parts (closed-from b bytes t t h e h).parts).left part.Owner free
-sid-room b bytes t sids.Group h free e = (room bytes b t.parts (closed-from b bytes t t h e h).parts).left part.Group free
+sid-room b bytes t sids.Owner h free e =
+    (room bytes b t.parts (closed-from b bytes t t h e h).parts).left part.Owner free
+sid-room b bytes t sids.Group h free e =
+    (room bytes b t.parts (closed-from b bytes t t h e h).parts).left part.Group free
 
 -- one draft lacks a part, and so each does
 still-free : (b : Builder) (bytes : List ℕ) (t0 t : Draft) (p : Part) → IsClosed b bytes t0 → IsClosed b bytes t
@@ -169,7 +171,8 @@ sid-builds b bytes t0 t p s h0 free e limits h =
     let none = still-free b bytes t0 t (sid_part_of p) (closed-from b bytes t0 t0 h0 e h0) now free in
     let more = with-sid t.parts p s none.1 in
     let low = (room bytes b t.parts now.parts).low in
-    building _ _ _ (part-more bytes b t.parts _ (sid_part_of p) (sid s) more (limits, stands-last bytes _ low) now.parts)
+    building _ _ _
+    (part-more bytes b t.parts _ (sid_part_of p) (sid s) more (limits, stands-last bytes _ low) now.parts)
     (more-order bytes b t _ (sid_part_of p) (sid s) more none.0 low now.order)
     now.kept (sid-open t.parts p s ∙ now.given)
 

@@ -170,8 +170,16 @@ is-written b bytes t flags rm word h =
     let sids : given_size (given_sid t.owner) + given_size (given_sid t.group)
     ≡ sid_part_size t.owner + sid_part_size t.group = omega (arith, sid-size t.owner, sid-size t.group) in
     record {
-      size = omega
-          (arith, h.size, long, length-append header rest, length-drop 20 bytes, sids, acl-size t.sacl, acl-size t.dacl);
+      size = omega (
+        arith,
+        h.size,
+        long,
+        length-append header rest,
+        length-drop 20 bytes,
+        sids,
+        acl-size t.sacl,
+        acl-size t.dacl,
+      );
       sacl = acl-written new b.offsets.sacl (sacl_at new) t.sacl sacl (part-in b bytes header t part.Sacl h long);
       dacl = acl-written new b.offsets.dacl (dacl_at new) t.dacl dacl (part-in b bytes header t part.Dacl h long);
     }

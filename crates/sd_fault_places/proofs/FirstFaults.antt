@@ -1,6 +1,6 @@
 -- What is known of bytes with a fault: which part has it, and what holds there.
-use Rattle.std.proofs.Common.{◌≡◌, ◌≤◌, ◌<◌, ◌⊎◌, inl, inr, ℕ, zero, suc, ◌+◌, ◌||◌, Bool, true, false, not, cond, eqb, ltb, List}
-use Rattle.std.proofs.Common.{length, drop, slice_index, Option, Some, None, refl, sym, ap, ◌∙◌, arith}
+use Rattle.std.proofs.Common.{◌≡◌, ◌≤◌, ◌<◌, ◌⊎◌, inl, inr, ℕ, zero, suc, ◌+◌, ◌||◌, Bool, true, false, not, cond, eqb}
+use Rattle.std.proofs.Common.{ltb, List, length, drop, slice_index, Option, Some, None, refl, sym, ap, ◌∙◌, arith}
 use Rattle.std.specs.Prelude.{is_some}
 use Rattle.std.specs.Option.{option_map, option_or}
 use Rattle.std.proofs.lemmas.Bool.{ltb-false}
@@ -30,8 +30,8 @@ use Rattle.sd_fault_places.proofs.FaultyAces.{behind_sound, sound-more, sound-st
 
 -- 1. Chains of tests.
 
-pub chosen : {F : Type 0} {P : Type 0} (b : Bool) (x : F) (y : Option F) (f : F) → cond b (Some x) y ≡ Some f → (x ≡ f → P)
-    → (b ≡ false → y ≡ Some f → P) → P
+pub chosen : {F : Type 0} {P : Type 0} (b : Bool) (x : F) (y : Option F) (f : F) → cond b (Some x) y ≡ Some f
+    → (x ≡ f → P) → (b ≡ false → y ≡ Some f → P) → P
 chosen true x y f e here on = here (cc)
 chosen false x y f e here on = on refl e
 
@@ -44,7 +44,8 @@ either : {F : Type 0} {P : Type 0} (x y : Option F) (f : F) → option_or x y �
 either None y f e here on = on refl e
 either (Some x) y f e here on = here e
 
-mapped : {A B : Type 0} (h : A → B) (o : Option A) (f : B) → option_map h o ≡ Some f → (g : A) × (o ≡ Some g) × (f ≡ h g)
+mapped : {A B : Type 0} (h : A → B) (o : Option A) (f : B) → option_map h o ≡ Some f
+    → (g : A) × (o ≡ Some g) × (f ≡ h g)
 mapped h None f e = absurd (cc)
 mapped h (Some g) f e = (g, refl, cc)
 
@@ -192,7 +193,8 @@ unfolding acl_fault
 in_aces bytes g e other =
     let aces : Option AclFault = aces_fault (u16_at 4 bytes) (drop 8 (acl_at_front bytes)) in
     let size : Bool = ltb (u16_at 2 bytes) 8 || ltb (length bytes) (u16_at 2 bytes) in
-    chosen (not (eqb (slice_index bytes 0) 2 || eqb (slice_index bytes 0) 4)) lists.Acl (cond size (Some lists.Acl) aces) g e
+    chosen (not (eqb (slice_index bytes 0) 2 || eqb (slice_index bytes 0) 4)) lists.Acl
+    (cond size (Some lists.Acl) aces) g e
     (λ same. absurd (other same))
     (λ miss rest. chosen size lists.Acl aces g rest (λ same. absurd (other same)) (λ miss more. more))
 
@@ -211,7 +213,8 @@ first_of w lists.AceFlags bytes e = first_in (part_of w) bytes lists.AceFlags e 
 first_of acls.Sacl lists.Sid bytes e = first_in Sacl bytes lists.Sid e (λ other. cc)
 first_of acls.Dacl lists.Sid bytes e = first_in Dacl bytes lists.Sid e (λ other. cc)
 
-in_no_ace : (bytes : List ℕ) (p : SidPart) → IsInFirst bytes (faults.Sid (sid_part_of p)) (place_of bytes (faults.Sid (sid_part_of p)))
+in_no_ace : (bytes : List ℕ) (p : SidPart)
+    → IsInFirst bytes (faults.Sid (sid_part_of p)) (place_of bytes (faults.Sid (sid_part_of p)))
 in_no_ace bytes sids.Owner = tt
 in_no_ace bytes sids.Group = tt
 

@@ -1,6 +1,6 @@
 -- The range of each place is in the bytes.
-use Rattle.std.proofs.Common.{◌≡◌, ◌≤◌, inl, inr, ℕ, zero, suc, ◌+◌, ◌-◌, ◌*◌, ◌||◌, ◌/◌, ◌%◌, Bool, true, false, not, cond}
-use Rattle.std.proofs.Common.{eqb, ltb, List, length, drop, slice_index, Option, Some, None, refl, arith}
+use Rattle.std.proofs.Common.{◌≡◌, ◌≤◌, inl, inr, ℕ, zero, suc, ◌+◌, ◌-◌, ◌*◌, ◌||◌, ◌/◌, ◌%◌, Bool, true, false, not}
+use Rattle.std.proofs.Common.{cond, eqb, ltb, List, length, drop, slice_index, Option, Some, None, refl, arith}
 use Rattle.std.proofs.Common.{length-drop}
 use Rattle.std.specs.Prelude.{is_some}
 use Rattle.std.specs.Option.{option_map, option_or}
@@ -19,7 +19,8 @@ use Rattle.sd_parts.specs.declared.part.SidPart.{SidPart}
 use Rattle.sd_parts.specs.declared.part.SidPart.TheVariants as sids
 use Rattle.sd_parts.specs.declared.part.Which.{Which}
 use Rattle.sd_parts.specs.declared.part.Which.TheVariants as acls
-use Rattle.sd_acl_view.specs.AclReading.{ace_fault, aces_fault, acl_at_front, acl_fault, acl_of, extent_fault, sid_offset_in}
+use Rattle.sd_acl_view.specs.AclReading.{ace_fault, aces_fault, acl_at_front, acl_fault, acl_of, extent_fault}
+use Rattle.sd_acl_view.specs.AclReading.{sid_offset_in}
 use Rattle.sd_acl_view.specs.Bytes.{u16_at}
 use Rattle.sd_acl_view.specs.declared.fault.AclFault.{AclFault}
 use Rattle.sd_acl_view.specs.declared.fault.AclFault.TheVariants as lists
@@ -52,7 +53,14 @@ left_within part bytes room =
     let acl = acl_in part bytes in
     let shorter : length (left_at_fault part bytes) ≤ length (aces_in part bytes)
     = behind_shorter (faulty_ace part bytes) (aces_in part bytes) in
-    omega (arith, shorter, length-drop 8 acl, length-take (u16_at 2 front) front, length-drop (part_at part bytes) bytes, room)
+    omega (
+      arith,
+      shorter,
+      length-drop 8 acl,
+      length-take (u16_at 2 front) front,
+      length-drop (part_at part bytes) bytes,
+      room,
+    )
 
 header_within : (part : Part) (name : Field) (bytes : List ℕ) → part_at part bytes + 8 ≤ length bytes
     → IsWithin bytes (at_ace_header part name bytes)
@@ -137,7 +145,8 @@ offset_within Dacl bytes long = omega (arith, long)
 
 -- 3. Whole parts.
 
-sid_extent_within : (q : Part) (o : ℕ) (bytes : List ℕ) → IsWithin bytes (at_extent q (sid_extent o (sid_shown bytes o)))
+sid_extent_within : (q : Part) (o : ℕ) (bytes : List ℕ)
+    → IsWithin bytes (at_extent q (sid_extent o (sid_shown bytes o)))
 unfolding sid_shown sid_at
 sid_extent_within q o bytes = by_tests (eqb o 0) (sid_stands (drop o bytes)) refl
   where
@@ -156,7 +165,8 @@ map_none h (Some x) e = absurd (cc)
 
 acl_cases : (q : Part) (o : ℕ) (bytes : List ℕ) (here null : Bool) (list : List AccessControlEntry)
     → (here ≡ true → null ≡ false → o + u16_at 2 (drop o bytes) ≤ length bytes)
-    → IsWithin bytes (at_extent q (acl_extent bytes o (cond (not here) acl.Absent (cond null acl.Null (acl.List list)))))
+    → IsWithin bytes
+    (at_extent q (acl_extent bytes o (cond (not here) acl.Absent (cond null acl.Null (acl.List list)))))
 acl_cases q o bytes false null list h = omega arith
 acl_cases q o bytes true true list h = omega arith
 acl_cases q o bytes true false list h = let room = h refl refl in omega (arith, room)
@@ -173,11 +183,13 @@ acl_room p o present bytes e here null =
     let list : Option AclFault = cond revision (Some lists.Acl) (cond size (Some lists.Acl) aces) in
     let past : Option SdFault = cond low (Some (faults.Offset p)) (option_map (fault_in p) list) in
     let absent : not present ≡ false = rw here refl in
-    let inner : past ≡ None = otherwise (eqb o 0) None past null (otherwise (not present) None (cond (eqb o 0) None past) absent e) in
+    let inner : past ≡ None =
+    otherwise (eqb o 0) None past null (otherwise (not present) None (cond (eqb o 0) None past) absent e) in
     let range = went_on low (faults.Offset p) (option_map (fault_in p) list) inner in
     let first = went_on revision lists.Acl (cond size (Some lists.Acl) aces) (map_none (fault_in p) list range.1) in
     let second = went_on size lists.Acl aces first.1 in
-    let fits = ltb-false (length front) (u16_at 2 front) (or_right (ltb (u16_at 2 front) 8) (ltb (length front) (u16_at 2 front)) second.0) in
+    let fits = ltb-false (length front) (u16_at 2 front)
+    (or_right (ltb (u16_at 2 front) 8) (ltb (length front) (u16_at 2 front)) second.0) in
     let room = ltb-false (length bytes) (o + 8) (or_right (ltb o 20) (ltb (length bytes) (o + 8)) range.0) in
     omega (arith, fits, room, length-drop o bytes)
 

@@ -20,8 +20,8 @@ use Rattle.sd_fault_places.specs.declared.place.Field.TheVariants as field
 
 -- `unfolding computed` lets `refl` compute a row
 computed : Unit {0}
-unfolding fault header_fault parts_fault sid_fault sid_shown sid_at acl_part_fault acl_shown acl_fault aces_fault aces_of
-    ace_fault extent_fault overlaps_fault overlap_fault u16_at u32_at kind_in kind_of sid_offset_in object_in
+unfolding fault header_fault parts_fault sid_fault sid_shown sid_at acl_part_fault acl_shown acl_fault aces_fault
+    aces_of ace_fault extent_fault overlaps_fault overlap_fault u16_at u32_at kind_in kind_of sid_offset_in object_in
     inherited_in guid_if announces_object announces_inherited
 computed = tt
 

@@ -95,7 +95,8 @@ module _ (f : AccessControlEntry → Aces) (ys : Aces) (a : AccessControlEntry) 
     pub full_one : (t : Draft) → HasOpen t → FailsFor true (with_aces (flat_map f ys) t) (f a)
         → FailsFor true t (flat_map f aces)
     full_one t h full =
-        rw all_one (full_before t (flat_map f ys ++ f a) (flat_map f rest) (full_after t (flat_map f ys) (f a) true h full))
+        rw all_one
+        (full_before t (flat_map f ys ++ f a) (flat_map f rest) (full_after t (flat_map f ys) (f a) true h full))
 
 pub all_yielded : (ys left aces : Aces) → aces ≡ ys ++ left → left ≡ [] → aces ≡ ys
 all_yielded ys left aces parts none = parts ∙ ap (λ (zs : Aces). ys ++ zs) none ∙ append-nil ys

@@ -85,7 +85,8 @@ module _ (g : Giver) (plan : Plan) where
       ∙ sym (append_assoc (map (origin_of g n) (gives g plan y)) (origins_from g plan (1 + n) ys)
       (origins_from g plan (n + length (y ∷ ys)) zs))
 
-  pub origins_count : (n : ℕ) (aces : Aces) → length (origins_from g plan n aces) ≡ length (flat_map (gives g plan) aces)
+  pub origins_count : (n : ℕ) (aces : Aces)
+      → length (origins_from g plan n aces) ≡ length (flat_map (gives g plan) aces)
   origins_count n [] = refl
   origins_count n (a ∷ others) =
       let here = length-map (gives g plan a) (origin_of g n) in

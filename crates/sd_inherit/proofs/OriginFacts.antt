@@ -1,7 +1,7 @@
 -- What holds of the origins of a new ACL's ACEs.
 use Rattle.std.proofs.Common.{◌≡◌, ◌≤◌, ℕ, zero, suc, ◌+◌, ◌/◌, ◌%◌, ◌==◌, Bool, true, false, cond, not, ◌&&◌}
-use Rattle.std.proofs.Common.{List, [], ◌∷◌, ◌++◌, length, map, count_by, slice_get, Option, Some, None, refl, ap, sym, ◌∙◌}
-use Rattle.std.proofs.Common.{inl, inr, arith, append_assoc, length-append}
+use Rattle.std.proofs.Common.{List, [], ◌∷◌, ◌++◌, length, map, count_by, slice_get, Option, Some, None, refl, ap, sym}
+use Rattle.std.proofs.Common.{◌∙◌, inl, inr, arith, append_assoc, length-append}
 use Rattle.std.specs.List.{AllByRecursion, find, flat_map}
 use Rattle.std.proofs.lemmas.Bool.{eq-eqb, eqb-false, eqb-true}
 use Rattle.std.proofs.lemmas.List.{length-map, map-append}
@@ -127,7 +127,8 @@ module _ (g : Giver) (plan : Plan) (whole : Aces) (f : AceOrigin → Option Acce
       ∙ ap (λ (o : Option AccessControlEntry). map (found_in (given_at g plan o)) (gives g plan a)) there
       ∙ found g plan a in
       let longer : 1 + n ≡ length (front ++ a ∷ []) = let l = length_more front a in omega (arith, l, e) in
-      let rest = finds_from (front ++ a ∷ []) others (1 + n) longer (parts ∙ sym (append_assoc front (a ∷ []) others)) in
+      let rest =
+      finds_from (front ++ a ∷ []) others (1 + n) longer (parts ∙ sym (append_assoc front (a ∷ []) others)) in
       let left = map-append f (map (origin_of g n) (gives g plan a)) (origins_from g plan (1 + n) others) in
       let right = map-append (λ (x : AccessControlEntry). Some x) (gives g plan a) (flat_map (gives g plan) others) in
       left ∙ ap (λ (xs : List (Option AccessControlEntry)). xs ++ map f (origins_from g plan (1 + n) others)) here
@@ -191,14 +192,17 @@ pub counts_are : (d : Descriptor) (creator : Option Descriptor) (plan : Plan) (m
     → m ≡ length (new_aces Sacl d creator plan) → n ≡ length (new_aces Dacl d creator plan)
     → let counts : AceCounts = record { sacl = m; dacl = n } in counts ≡ ace_counts (derived d creator plan)
 counts_are d creator plan m n e f =
-    let sacl : m ≡ length (aces_in (derived d creator plan).sacl) = e ∙ ap length (sym (in_derived Sacl d creator plan)) in
-    let dacl : n ≡ length (aces_in (derived d creator plan).dacl) = f ∙ ap length (sym (in_derived Dacl d creator plan)) in
+    let sacl : m ≡ length (aces_in (derived d creator plan).sacl) =
+    e ∙ ap length (sym (in_derived Sacl d creator plan)) in
+    let dacl : n ≡ length (aces_in (derived d creator plan).dacl) =
+    f ∙ ap length (sym (in_derived Dacl d creator plan)) in
     cc
 
 -- 4. What holds of all, one list after the other.
 
 module _ {X : Type 0} where
-  all_append : (P : X → Type 0) (xs ys : List X) → AllByRecursion P xs → AllByRecursion P ys → AllByRecursion P (xs ++ ys)
+  all_append : (P : X → Type 0) (xs ys : List X) → AllByRecursion P xs → AllByRecursion P ys
+      → AllByRecursion P (xs ++ ys)
   all_append P [] ys p q = q
   all_append P (x ∷ xs) ys p q = (p.0, all_append P xs ys p.1 q)
 
@@ -248,7 +252,8 @@ rise_from g plan n (a ∷ others) =
 
 -- 6. Each place has its own.
 
-count_cons : (p : AceOrigin → Bool) (x : AceOrigin) (xs : Origins) → count_by p (x ∷ xs) ≡ cond (p x) 1 0 + count_by p xs
+count_cons : (p : AceOrigin → Bool) (x : AceOrigin) (xs : Origins)
+    → count_by p (x ∷ xs) ≡ cond (p x) 1 0 + count_by p xs
 count_cons p x xs =
     let split = sum_by-append (λ (o : AceOrigin). cond (p o) 1 0) (x ∷ []) xs in
     split ∙ ap (λ (n : ℕ). n + count_by p xs) (omega arith)

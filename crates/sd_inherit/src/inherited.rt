@@ -60,7 +60,8 @@ impl<'a> AclSources<'a> {
     fn put_copied_sacl(&self, builder: &mut Builder, buf: &mut SdBuf) -> Result<bool, AclTooLarge>
         requires { (t : Draft) × Builds builder.old buf.old t × CanBegin which.Sacl t.parts }
         ensures ok { (t : Draft) → Builds builder.old buf.old t → CanBegin which.Sacl t.parts
-            → OnOk result (Builds builder.new buf.new (with_part which.Sacl (sacl_of (given giver.Parent self.now)) t)) }
+            → OnOk result
+            (Builds builder.new buf.new (with_part which.Sacl (sacl_of (given giver.Parent self.now)) t)) }
         ensures stands { IfOk result (λ stands. stands ≡ is_present (sacl_of (given giver.Parent self.now))) }
         ensures full { IsErr result ↔ (2 ^ 16 ≤ acl_size (given giver.Parent self.now)) }
     {

@@ -111,8 +111,8 @@ mask-at [] count n some zero-is x-is few within other number small = absurd (ome
 are-letters : list_all (λ e. nat_lt 57 e.first) all_rights ≡ true
 are-letters = refl
 
-no-digit : (table : List NamedBits) (a b : ℕ) → list_all (λ e. nat_lt 57 e.first) table ≡ true → to_ascii_uppercase a ≤ 57
-    → bits_named table a b ≡ None
+no-digit : (table : List NamedBits) (a b : ℕ) → list_all (λ e. nat_lt 57 e.first) table ≡ true
+    → to_ascii_uppercase a ≤ 57 → bits_named table a b ≡ None
 no-digit [] a b letters digit = refl
 no-digit (e ∷ es) a b letters digit =
     let parts = and_parts (nat_lt 57 e.first) (list_all (λ e. nat_lt 57 e.first) es) letters in
@@ -143,7 +143,7 @@ names-at text size mask within some fits run = by_text (take size text) (length-
         ap (λ (x : Bool). if x then None else short_rights_reads (a ∷ more)) short ∙ by_digit (is_digit a 10) refl
       where
         by_digit : (d : Bool) → is_digit a 10 ≡ d
-            → (if d then (if a == 48 then after_zero more else mask_reads 10 (a ∷ more)) else run_of all_rights (a ∷ more))
-            ≡ Some mask
+            → (if d then (if a == 48 then after_zero more else mask_reads 10 (a ∷ more))
+            else run_of all_rights (a ∷ more)) ≡ Some mask
         by_digit true e = let none = sym (no-digit-run a more e) ∙ read in absurd cc
         by_digit false e = read

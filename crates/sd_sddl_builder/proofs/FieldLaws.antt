@@ -152,9 +152,8 @@ sound-inherited f text object s e = record { clear = s.clear; fit = by_object ob
     by_object (Some g) e = any (is_object f.kind) f.object (Some g) (guid_stands f.kind text g e)
 
 -- an ACL begins
-pub front-taken : (w : Which) (has_aces : Bool) (t : FieldsRead) (f : AclFront) (found : Option AclFront) → found ≡ Some f
-    → (f.null && has_aces) ≡ false
-    → take_front w has_aces t found ≡ Ok
+pub front-taken : (w : Which) (has_aces : Bool) (t : FieldsRead) (f : AclFront) (found : Option AclFront)
+    → found ≡ Some f → (f.null && has_aces) ≡ false → take_front w has_aces t found ≡ Ok
     (with_flags w f.flags (record t { parts = begun_or_null w f.null (closed t.parts) }))
 unfolding take_front
 front-taken w has_aces t f found is e = rw (is, e) refl

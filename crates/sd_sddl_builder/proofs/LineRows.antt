@@ -308,7 +308,8 @@ unfolding read without_a_domain
 no_blanks = refl
 
 -- each part twice, in either case, and two parts that differ
-twice : map without_a_domain (codes "O:BAo:BA" ∷ codes "G:SYO:BAG:SY" ∷ codes "D:d:" ∷ codes "S:O:BAS:" ∷ codes "O:BAG:SYG:SY" ∷ [])
+twice : map without_a_domain
+    (codes "O:BAo:BA" ∷ codes "G:SYO:BAG:SY" ∷ codes "D:d:" ∷ codes "S:O:BAS:" ∷ codes "O:BAG:SYG:SY" ∷ [])
     ≡ replicate 5 (Err fault.PartTwice)
 unfolding read without_a_domain
 twice = refl

@@ -41,7 +41,8 @@ no_fronts : map front_reads
 unfolding computed
 no_fronts = refl
 
-kinds_read : map kind_reads (codes "oa" ∷ codes "ML" ∷ codes "OAA" ∷ []) ≡ Some kinds.ObjectAllow ∷ Some kinds.Label ∷ None ∷ []
+kinds_read : map kind_reads (codes "oa" ∷ codes "ML" ∷ codes "OAA" ∷ [])
+    ≡ Some kinds.ObjectAllow ∷ Some kinds.Label ∷ None ∷ []
 unfolding computed
 kinds_read = refl
 
@@ -52,10 +53,12 @@ unfolding computed
 no_objects = refl
 
 -- what is no plain byte inside parentheses, and outside
-inside : map is_plain_inside (codes "();: \tA*<'") ≡ false ∷ false ∷ false ∷ true ∷ false ∷ false ∷ true ∷ true ∷ true ∷ true ∷ []
+inside : map is_plain_inside (codes "();: \tA*<'")
+    ≡ false ∷ false ∷ false ∷ true ∷ false ∷ false ∷ true ∷ true ∷ true ∷ true ∷ []
 inside = refl
 
-outside : map is_plain_text (codes "();: \tA*<'") ≡ false ∷ false ∷ false ∷ false ∷ false ∷ false ∷ true ∷ true ∷ true ∷ true ∷ []
+outside : map is_plain_text (codes "();: \tA*<'")
+    ≡ false ∷ false ∷ false ∷ false ∷ false ∷ false ∷ true ∷ true ∷ true ∷ true ∷ []
 outside = refl
 
 -- blanks at the ends do not count outside parentheses, and no text with one between reads; inside none does
@@ -68,12 +71,14 @@ outer : fed outer_with no_text (codes " \tBA \t") ≡ record { text = codes "BA"
 unfolding fed
 outer = refl
 
-outer_gap : map (λ text. held_text (fed outer_with no_text text)) (codes " B" ∷ codes "B A" ∷ codes "B A C" ∷ codes "B " ∷ [] ∷ [])
+outer_gap : map (λ text. held_text (fed outer_with no_text text))
+    (codes " B" ∷ codes "B A" ∷ codes "B A C" ∷ codes "B " ∷ [] ∷ [])
     ≡ codes "B" ∷ codes " " ∷ codes " " ∷ codes "B" ∷ [] ∷ []
 unfolding fed
 outer_gap = refl
 
-within : map (λ text. held_text (fed within_with no_text text)) (codes "BA" ∷ codes " BA" ∷ codes "BA " ∷ codes "B\tA" ∷ [] ∷ [])
+within : map (λ text. held_text (fed within_with no_text text))
+    (codes "BA" ∷ codes " BA" ∷ codes "BA " ∷ codes "B\tA" ∷ [] ∷ [])
     ≡ codes "BA" ∷ codes " " ∷ codes " " ∷ codes " " ∷ [] ∷ []
 unfolding fed
 within = refl

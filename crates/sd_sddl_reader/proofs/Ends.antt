@@ -1,6 +1,7 @@
 -- Where a run of bytes of one kind ends: there is one place.
 use Rattle.std.proofs.Common.{◌≡◌, ◌<◌, ◌≤◌, ℕ, zero, suc, ◌+◌, Bool, true, false, List, [], ◌∷◌, ◌++◌, length, take}
-use Rattle.std.proofs.Common.{get_or, refl, sym, ap, eqb-true, ◌∙◌, arith, true≢false, append_assoc, length-append, Some, None}
+use Rattle.std.proofs.Common.{get_or, refl, sym, ap, eqb-true, ◌∙◌, arith, true≢false, append_assoc, length-append}
+use Rattle.std.proofs.Common.{Some, None}
 use Rattle.std.specs.Prelude.{◌==◌}
 use Rattle.std.specs.List.{list_all}
 use Rattle.std.proofs.lemmas.Bool.{and_parts}

@@ -23,7 +23,8 @@ use Rattle.sd_sddl_builder.specs.Line.{begins_with_colon, byte, head_at, head_of
 use Rattle.sd_sddl_fields.specs.FieldTexts.{is_blank}
 use Rattle.sd_sddl_builder.specs.FoldedReading.{FieldsRead}
 use Rattle.sd_text.specs.Chains.{unless}
-use Rattle.sd_sddl_reader.specs.Inner.Progress.{Seen, inner_with, is_in_field, is_inside, judged, rest_answer, text_with}
+use Rattle.sd_sddl_reader.specs.Inner.Progress.{Seen, inner_with, is_in_field, is_inside, judged, rest_answer}
+use Rattle.sd_sddl_reader.specs.Inner.Progress.{text_with}
 use Rattle.sd_sddl_reader.specs.Inner.Reads.{IsReader, Reads, answer_at}
 use Rattle.sd_sddl_reader.specs.declared.reader.SddlReader.{SddlReader}
 use Rattle.sd_sddl_reader.proofs.FieldTexts.{Same, append_nothing, same_blank, same_inner, same_refl, same_text}

@@ -286,8 +286,9 @@ steps-sid s e n before after t rest text p head here f h w notes =
       pending = ap (λ (x : SddlReader). x.pending) notes.same ∙ (ap (λ (x : SddlReader). x.pending) w.same ∙ f.none);
     }
 
-pub steps-flags : (s e : SddlReader) (before after t rest text : List ℕ) (which : Which) → s.state ≡ state.AclFlags which
-    → IsFresh s → IsPlainText t → text ≡ t ++ 40 ∷ rest → TakesWhole s before (slot.AclFlags which true) t e after
+pub steps-flags : (s e : SddlReader) (before after t rest text : List ℕ) (which : Which)
+    → s.state ≡ state.AclFlags which → IsFresh s → IsPlainText t → text ≡ t ++ 40 ∷ rest
+    → TakesWhole s before (slot.AclFlags which true) t e after
     → StepsTo s before text (record e { state = state.Ace field.Kind }) after rest
 steps-flags s e before after t rest text which here f plain stands w =
     let held = whole-held t (text-inside t plain.plain) plain.fits in
@@ -301,7 +302,8 @@ steps-flags s e before after t rest text which here f plain stands w =
             record {
               fields = x.1;
               fits = λ none. rw seen
-                  (fits-first s.fields.domain which s.seen r x.0 t (sym (rw none at x.2)) (rw here at (k.fits f.clear)));
+                  (fits-first s.fields.domain which s.seen r x.0 t (sym (rw none at x.2))
+                  (rw here at (k.fits f.clear)));
             },
             λ more. rw (
               w.domain,

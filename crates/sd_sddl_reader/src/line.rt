@@ -1,13 +1,14 @@
 //! What the reader of a line looks for in its bytes, and the states of the reader.
 
-ghost use Rattle.std.specs.Prelude.{◌≡◌, ◌≤◌, ◌<◌, ◌∷◌, ◌++◌, ℕ, List, length, take, slice_index, IfSome, Some, None, true, false};
+ghost use Rattle.std.specs.Prelude.{◌≡◌, ◌≤◌, ◌<◌, ◌∷◌, ◌++◌, ℕ, List, length, take, slice_index, IfSome, Some, None};
+ghost use Rattle.std.specs.Prelude.{true, false};
 ghost use Rattle.std.specs.Str.{byte as char};
 ghost use Rattle.std.specs.List.{list_all};
 ghost use Rattle.sd_sddl_fields.specs.Held.{is_plain_text};
 ghost use Rattle.sd_sddl_reader.specs.Inner.Progress.{is_in_field, is_plain_outside};
 ghost use Rattle.sd_sddl_fields.specs.FieldTexts.{is_blank};
-ghost use Rattle.sd_sddl_reader.specs.Inner.WholePart.{AccountBefore, FrontBefore, HeadAfter, IsBehindBlanks, IsPlainText};
-ghost use Rattle.sd_sddl_reader.specs.Inner.WholePart.{NamedBefore};
+ghost use Rattle.sd_sddl_reader.specs.Inner.WholePart.{AccountBefore, FrontBefore, HeadAfter, IsBehindBlanks};
+ghost use Rattle.sd_sddl_reader.specs.Inner.WholePart.{IsPlainText, NamedBefore};
 ghost use Rattle.sd_sddl_builder.specs.Line.{head_of};
 ghost use Rattle.sd_sddl_builder.specs.FoldedReading.{next_field};
 ghost use Rattle.sd_sddl_reader.specs.Inner.Heads.{have_heads};
@@ -191,7 +192,8 @@ pub fn behind_blanks(text: &[u8]) -> &[u8]
 fn plain_front(text: &[u8]) -> usize
     ensures within { result ≤ length text.now }
     ensures plain { list_all is_plain_text (take result text.now) ≡ true }
-    ensures ends { result < length text.now → result ≤ most_field → is_plain_text (slice_index text.now result) ≡ false }
+    ensures ends { result < length text.now → result ≤ most_field
+        → is_plain_text (slice_index text.now result) ≡ false }
 {
     if text.len() > MOST_FIELD_SIZE {
         plain_text(&text[..MOST_FIELD_SIZE + 1])

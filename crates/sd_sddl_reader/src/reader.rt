@@ -345,8 +345,8 @@ impl SddlReader {
         }
     }
 
-    // Takes what is whole at the front of the text, and answers what follows. If a field comes next that isn't whole, or
-    // if nothing was taken, it also takes the first byte, so that the field isn't tried again.
+    // Takes what is whole at the front of the text, and answers what follows. If a field comes next that isn't whole,
+    // or if nothing was taken, it also takes the first byte, so that the field isn't tried again.
     #[inline(always)]
     fn feed_next<'a>(&mut self, buf: &mut SdBuf, text: &'a [u8]) -> &'a [u8]
         requires { IsReader self.old buf.old }

@@ -18,8 +18,8 @@ use Rattle.sd_view.specs.Descriptor.{Apart, AreApart, Descriptor, Extent, IsAclP
 use Rattle.sd_view.specs.Descriptor.{ShowsAclPart, ShowsSid, acl_extent, control_at, dacl_at, extents_of, group_at}
 use Rattle.sd_view.specs.Descriptor.{owner_at, sacl_at}
 use Rattle.sd_view.specs.Layout.{acl_part, layout, offsets, parts_bytes, size}
-use Rattle.sd_view.specs.Reading.{acl_part_fault, acl_shown, fault, fault_in, header_fault, overlap_fault, overlaps_fault}
-use Rattle.sd_view.specs.Reading.{parts_fault, reading, sid_fault, sid_shown}
+use Rattle.sd_view.specs.Reading.{acl_part_fault, acl_shown, fault, fault_in, header_fault, overlap_fault}
+use Rattle.sd_view.specs.Reading.{overlaps_fault, parts_fault, reading, sid_fault, sid_shown}
 use Rattle.sd_view.proofs.laws.ApartLaws.{six-apart}
 use Rattle.sd_view.specs.WrittenForm.{AclIsWritten, IsWritten}
 use Rattle.sd_acl_view.specs.declared.fault.AclFault.TheVariants as lists
@@ -341,7 +341,8 @@ unfolding read written_parts
 whole_is_read = refl
 
 -- each ACL under its own bit and at its own offset
-others_are_read : reading owned_bytes ∷ reading audited_bytes ∷ reading bare_bytes ∷ [] ≡ Ok owned ∷ Ok audited ∷ Ok bare ∷ []
+others_are_read : reading owned_bytes ∷ reading audited_bytes ∷ reading bare_bytes ∷ []
+    ≡ Ok owned ∷ Ok audited ∷ Ok bare ∷ []
 unfolding read owned_bytes owned audited_bytes audited bare_bytes bare everyones_bytes everyone no_ace_bytes
 others_are_read = refl
 

@@ -43,7 +43,8 @@ abbrev pub all_origins : AceSource → List AceOrigin
 all_origins s = origins_from s.giver s.plan.now 0 s.aces
 
 -- the origins follow those that are at the front of the cells
-pub record Writes (origins : List AceOrigin) (at : ℕ) (old : List AceOrigin) (end : ℕ) (new : List AceOrigin) : Type 0 where
+pub record Writes (origins : List AceOrigin) (at : ℕ) (old : List AceOrigin) (end : ℕ)
+    (new : List AceOrigin) : Type 0 where
   pub end_is : end ≡ at + length origins
   pub front : take end new ≡ take at old ++ origins
   pub same : length new ≡ length old

@@ -19,12 +19,12 @@ use Rattle.std.specs.Option.{option_or}
 use Rattle.sd_sddl_fields.specs.FieldTexts.{front_reads}
 use Rattle.sd_sddl_builder.specs.FoldedReading.{FieldsRead, described, fields_of, finished, folded, large_in}
 use Rattle.sd_sddl_builder.specs.FoldedReading.{nothing_read, read_fields, reads_as, if_shaped}
-use Rattle.sd_sddl_builder.specs.Line.{Piece, Section, are_shaped, front, has_head, has_twice, is_blank_piece, is_paired}
-use Rattle.sd_sddl_builder.specs.Line.{is_shaped, sections_of, same_head, trim}
+use Rattle.sd_sddl_builder.specs.Line.{Piece, Section, are_shaped, front, has_head, has_twice, is_blank_piece}
+use Rattle.sd_sddl_builder.specs.Line.{is_paired, is_shaped, sections_of, same_head, trim}
 use Rattle.sd_text.specs.Chains.{and_then}
-use Rattle.sd_sddl_builder.specs.Meaning.{Said, acl_said, body_reads, control_flags, descriptor_of, each, acl_part_reads}
-use Rattle.sd_sddl_builder.specs.Meaning.{field_reads, first_large, means, section_reads, sections_mean, sid_field_reads}
-use Rattle.sd_sddl_builder.specs.Meaning.{sid_said, unless_large, picked_acl, picked_flags, picked_sid}
+use Rattle.sd_sddl_builder.specs.Meaning.{Said, acl_said, body_reads, control_flags, descriptor_of, each}
+use Rattle.sd_sddl_builder.specs.Meaning.{acl_part_reads, field_reads, first_large, means, section_reads, sections_mean}
+use Rattle.sd_sddl_builder.specs.Meaning.{sid_field_reads, sid_said, unless_large, picked_acl, picked_flags, picked_sid}
 use Rattle.sd_parts.specs.Control.{bit_if}
 use Rattle.sd_parts.specs.declared.control.AclFlags.{AclFlags}
 use Rattle.sd_sddl_builder.specs.declared.fault.SddlFault.TheVariants as fault

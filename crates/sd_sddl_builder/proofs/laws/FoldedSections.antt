@@ -18,10 +18,10 @@ use Rattle.sd_view.specs.declared.acl_part.AclPart.{AclPart}
 use Rattle.sd_view.specs.declared.acl_part.AclPart.TheVariants as acl
 use Rattle.sd_parts.specs.declared.part.Which.{Which}
 use Rattle.sd_sddl_fields.specs.FieldTexts.{front_reads, kind_reads, object_reads}
-use Rattle.sd_sddl_builder.specs.FoldedReading.{Field, FieldsRead, ace_fields, ace_fields_from, ace_of_fields, fields_in}
-use Rattle.sd_sddl_builder.specs.FoldedReading.{fields_of, grown, no_fields, read_fields, take_ace_field, take_field}
-use Rattle.sd_sddl_builder.specs.FoldedReading.{take_front, with_flags, with_owner_or_group, with_sid, with_trustee}
-use Rattle.sd_sddl_builder.specs.FoldedReading.{with_value}
+use Rattle.sd_sddl_builder.specs.FoldedReading.{Field, FieldsRead, ace_fields, ace_fields_from, ace_of_fields}
+use Rattle.sd_sddl_builder.specs.FoldedReading.{fields_in, fields_of, grown, no_fields, read_fields, take_ace_field}
+use Rattle.sd_sddl_builder.specs.FoldedReading.{take_field, take_front, with_flags, with_owner_or_group, with_sid}
+use Rattle.sd_sddl_builder.specs.FoldedReading.{with_trustee, with_value}
 use Rattle.sd_sddl_builder.specs.Line.{Piece, Section, ace, ace_cuts, aces, are_aces, are_shaped, byte}
 use Rattle.sd_sddl_builder.specs.Line.{cut_at_semicolons, front, has_aces, has_six_fields, is_acl_body, is_body, trim}
 use Rattle.sd_sddl_fields.specs.FieldTexts.{is_blank}

@@ -9,8 +9,8 @@ use Rattle.sd_sddl_fields.specs.Held.{Held, held_text, is_plain_text}
 use Rattle.sd_sddl_builder.specs.FoldedReading.{Field, FieldsRead, ace_fields, ace_fields_from, fields_of, read_fields}
 use Rattle.sd_sddl_builder.specs.FoldedReading.{take_field, if_shaped}
 use Rattle.sd_sddl_builder.specs.Line.{Piece, Section, Sections, aces, are_aces, are_shaped, cut_at_semicolons, front}
-use Rattle.sd_sddl_builder.specs.Line.{has_aces, has_twice, head_of, is_acl_body, is_blank_piece, is_paired, is_sid_body}
-use Rattle.sd_sddl_builder.specs.Line.{part_of_head, pieces_from, sections, trim}
+use Rattle.sd_sddl_builder.specs.Line.{has_aces, has_twice, head_of, is_acl_body, is_blank_piece, is_paired}
+use Rattle.sd_sddl_builder.specs.Line.{is_sid_body, part_of_head, pieces_from, sections, trim}
 use Rattle.sd_sddl_fields.specs.FieldTexts.{is_blank}
 use Rattle.sd_text.specs.Chains.{and_then}
 use Rattle.sd_sddl_builder.specs.declared.fault.SddlFault.{SddlFault}

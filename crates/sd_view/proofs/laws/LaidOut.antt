@@ -1,6 +1,6 @@
 -- Bytes whose parts follow the header and each other are the layout of what they show.
-use Rattle.std.proofs.Common.{◌≡◌, ◌≤◌, ◌+◌, ℕ, List, [], ◌∷◌, ◌++◌, length, take, drop, slice_index, Option, Some, None}
-use Rattle.std.proofs.Common.{sym, ap, ◌∙◌, arith}
+use Rattle.std.proofs.Common.{◌≡◌, ◌≤◌, ◌+◌, ℕ, List, [], ◌∷◌, ◌++◌, length, take, drop, slice_index, Option, Some}
+use Rattle.std.proofs.Common.{None, sym, ap, ◌∙◌, arith}
 use Rattle.std.proofs.lemmas.List.{append-nil, drop_all, take-append-drop}
 use Rattle.byteorder.specs.Endian.{little_bytes, little_number}
 use Rattle.sd_sid.specs.Sid.{SecurityId, sid_bytes, sid_size}
@@ -44,9 +44,12 @@ fields revision rm rest b room e =
     ap (λ (x : ℕ). x ∷ rm ∷ take 18 rest) e
     ∙ ap (λ (xs : List ℕ). 1 ∷ rm ∷ xs) (number-first 2 16 0 rest b (omega arith)
     ∙ ap (λ (xs : List ℕ). little_bytes 2 (little_number 2 rest) ++ xs) (number-first 4 12 2 rest b (omega arith)
-    ∙ ap (λ (xs : List ℕ). little_bytes 4 (little_number 4 (drop 2 rest)) ++ xs) (number-first 4 8 6 rest b (omega arith)
-    ∙ ap (λ (xs : List ℕ). little_bytes 4 (little_number 4 (drop 6 rest)) ++ xs) (number-first 4 4 10 rest b (omega arith)
-    ∙ ap (λ (xs : List ℕ). little_bytes 4 (little_number 4 (drop 10 rest)) ++ xs) (sym (number 4 14 rest b (omega arith)))))))
+    ∙ ap (λ (xs : List ℕ). little_bytes 4 (little_number 4 (drop 2 rest)) ++ xs)
+    (number-first 4 8 6 rest b (omega arith)
+    ∙ ap (λ (xs : List ℕ). little_bytes 4 (little_number 4 (drop 6 rest)) ++ xs)
+    (number-first 4 4 10 rest b (omega arith)
+    ∙ ap (λ (xs : List ℕ). little_bytes 4 (little_number 4 (drop 10 rest)) ++ xs)
+    (sym (number 4 14 rest b (omega arith)))))))
 
 header-fields : (bytes : List ℕ) → AreBytes bytes → 20 ≤ length bytes → slice_index bytes 0 ≡ 1
     → take 20 bytes ≡ header_bytes (slice_index bytes 1) (control_at bytes) (offsets_in bytes)

@@ -14,13 +14,16 @@ overflow_mul-number c =
 
 pub overflow_add-number : goal.overflow_add-number
 overflow_add-number c =
-    let few = below-16 (get_or c.args.text.now c.loop-i.i 0) c.value_in-value.result c.value_in-value.ensures c.if-value-eq-NO_DIGIT.false in
-    let small = below-word c.loop-i.i c.loop-i.number c.value_in-value.result (omega arith) c.loop-i.invariant.small few in
+    let few = below-16 (get_or c.args.text.now c.loop-i.i 0) c.value_in-value.result c.value_in-value.ensures
+    c.if-value-eq-NO_DIGIT.false in
+    let small =
+    below-word c.loop-i.i c.loop-i.number c.value_in-value.result (omega arith) c.loop-i.invariant.small few in
     omega (arith, small, c.from.ensures)
 
 pub loop-i-preserved : goal.loop-i-preserved
 loop-i-preserved c =
-    let few = below-16 (get_or c.args.text.now c.loop-i.i 0) c.value_in-value.result c.value_in-value.ensures c.if-value-eq-NO_DIGIT.false in
+    let few = below-16 (get_or c.args.text.now c.loop-i.i 0) c.value_in-value.result c.value_in-value.ensures
+    c.if-value-eq-NO_DIGIT.false in
     let same = c.from.ensures in
     record {
       small =

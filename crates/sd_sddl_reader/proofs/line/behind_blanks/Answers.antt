@@ -1,5 +1,5 @@
-use Rattle.std.proofs.Common.{◌≡◌, ◌<◌, ◌++◌, ◌∷◌, [], ℕ, zero, suc, List, length, slice_index, take, drop, sym, ap, ◌∙◌}
-use Rattle.std.proofs.Common.{arith, take-append-drop, false}
+use Rattle.std.proofs.Common.{◌≡◌, ◌<◌, ◌++◌, ◌∷◌, [], ℕ, zero, suc, List, length, slice_index, take, drop, sym, ap}
+use Rattle.std.proofs.Common.{◌∙◌, arith, take-append-drop, false}
 use Rattle.std.proofs.lemmas.List.{take_rest}
 use Rattle.sd_sddl_fields.specs.FieldTexts.{is_blank}
 use Rattle.sd_sddl_reader.proofs.line.behind_blanks.Goals as goal

@@ -2,9 +2,11 @@ use Rattle.std.proofs.Common.{◌≡◌, ◌+◌, ◌∷◌, length, get_or, ref
 use Rattle.sd_sddl_fields.specs.Held.{is_plain_text}
 use Rattle.sd_sddl_reader.proofs.Ends.{byte-behind, run-at}
 use Rattle.sd_sddl_reader.proofs.line.first_parenthesis.Goals as goal
-use Rattle.sd_sddl_reader.proofs.line.first_parenthesis.Goals.{then-end-gt-MOST_FIELD_SIZE-via-then-end-gt-MOST_FIELD_SIZE}
-use Rattle.sd_sddl_reader.proofs.line.first_parenthesis.Goals.{then-end-gt-MOST_FIELD_SIZE-via-else-end-gt-MOST_FIELD_SIZE+then-end-text}
-use Rattle.sd_sddl_reader.proofs.line.first_parenthesis.Goals.{then-end-gt-MOST_FIELD_SIZE-via-else-end-gt-MOST_FIELD_SIZE+else-end-text+then-text-end-ne40}
+use Rattle.sd_sddl_reader.proofs.line.first_parenthesis.Goals.{
+  then-end-gt-MOST_FIELD_SIZE-via-then-end-gt-MOST_FIELD_SIZE,
+  then-end-gt-MOST_FIELD_SIZE-via-else-end-gt-MOST_FIELD_SIZE+then-end-text,
+  then-end-gt-MOST_FIELD_SIZE-via-else-end-gt-MOST_FIELD_SIZE+else-end-text+then-text-end-ne40,
+}
 
 pub returns-then-end-gt-MOST_FIELD_SIZE-clause-only : goal.returns-then-end-gt-MOST_FIELD_SIZE-clause-only
 returns-then-end-gt-MOST_FIELD_SIZE-clause-only c =

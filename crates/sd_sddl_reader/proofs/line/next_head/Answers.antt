@@ -1,4 +1,5 @@
-use Rattle.std.proofs.Common.{◌≡◌, ℕ, ◌+◌, ◌-◌, List, ◌∷◌, length, get_or, Some, None, sym, ap, ◌∙◌, arith, length-append}
+use Rattle.std.proofs.Common.{◌≡◌, ℕ, ◌+◌, ◌-◌, List, ◌∷◌, length, get_or, Some, None, sym, ap, ◌∙◌, arith}
+use Rattle.std.proofs.Common.{length-append}
 use Rattle.sd_sddl_builder.specs.Line.{head_of}
 use Rattle.sd_sddl_builder.specs.declared.slot.Head.{Head}
 use Rattle.sd_sddl_reader.specs.Inner.WholePart.{HeadAfter}
@@ -6,8 +7,10 @@ use Rattle.sd_sddl_reader.proofs.Ends.{byte-behind, head-at}
 use Rattle.sd_sddl_reader.proofs.line.next_head.Goals as goal
 use Rattle.sd_sddl_reader.proofs.line.next_head.Goals.{then-end-eq0-via-then-end-eq0}
 use Rattle.sd_sddl_reader.proofs.line.next_head.Goals.{then-end-eq0-via-else-end-eq0+then-end-gt-MOST_FIELD_SIZE}
-use Rattle.sd_sddl_reader.proofs.line.next_head.Goals.{then-end-eq0-via-else-end-eq0+else-end-gt-MOST_FIELD_SIZE+then-end-text}
-use Rattle.sd_sddl_reader.proofs.line.next_head.Goals.{then-end-eq0-via-else-end-eq0+else-end-gt-MOST_FIELD_SIZE+else-end-text+then-text-end-ne58}
+use Rattle.sd_sddl_reader.proofs.line.next_head.Goals.{
+  then-end-eq0-via-else-end-eq0+else-end-gt-MOST_FIELD_SIZE+then-end-text,
+  then-end-eq0-via-else-end-eq0+else-end-gt-MOST_FIELD_SIZE+else-end-text+then-text-end-ne58,
+}
 
 -- the bytes of a head, and how long the text is
 around : (text field rest : List ℕ) (head : Head) (n : ℕ) (h : HeadAfter field head rest text) → n ≡ length field + 1

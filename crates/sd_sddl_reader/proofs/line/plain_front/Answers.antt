@@ -1,4 +1,5 @@
-use Rattle.std.proofs.Common.{◌≡◌, ◌≤◌, take, false, get_or, arith, ap, ◌∙◌, sym, length-take-le, take-take, get_or-take}
+use Rattle.std.proofs.Common.{◌≡◌, ◌≤◌, take, false, get_or, arith, ap, ◌∙◌, sym, length-take-le, take-take}
+use Rattle.std.proofs.Common.{get_or-take}
 use Rattle.sd_sddl_fields.specs.Held.{is_plain_text}
 use Rattle.sd_sddl_reader.proofs.line.plain_front.Goals as goal
 
@@ -21,5 +22,6 @@ returns-then-text-gt-MOST_FIELD_SIZE-clause-ends c = λ behind field.
     let text = c.args.text.now in
     let n = c.plain_text.result in
     let size = length-take-le 184 text c.if-text-gt-MOST_FIELD_SIZE.true in
-    let other : is_plain_text (get_or (take 184 text) n 0) ≡ false = c.plain_text.ensures.ends (omega (arith, size, field)) in
+    let other : is_plain_text (get_or (take 184 text) n 0) ≡ false =
+    c.plain_text.ensures.ends (omega (arith, size, field)) in
     ap is_plain_text (sym (get_or-take 184 text n 0 (omega (arith, field)))) ∙ other

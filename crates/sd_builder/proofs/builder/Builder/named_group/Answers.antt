@@ -15,5 +15,6 @@ returns c = record {
       λ t h.
       let held = c.requires.held in
       rw (c.keep.ensures, c.append_named_sid_at-start.ensures.value, c.append_named_sid_at-start.ensures.offset)
-      (sid-builds _ _ held.0 t Group _ held.1 (ap given_sid held.2) held.3 c.append_named_sid_at-start.ensures.limits h);
+      (sid-builds _ _ held.0 t Group _ held.1 (ap given_sid held.2) held.3
+      c.append_named_sid_at-start.ensures.limits h);
 }

@@ -18,7 +18,8 @@ from_the_first c = sym c.loop-ace.invariant.aces
 pub returns-then-not-is_empty-clause-ok : goal.returns-then-not-is_empty-clause-ok
 returns-then-not-is_empty-clause-ok c = λ t h begin.
     let is = from_the_first (goal.at.returns-then-not-is_empty-clause-ok c).After-is_empty in
-    let stands = sacl-stands (listed c.inherited_from-first.result) (flat_map (copies c.args.self.now.plan.now) c.next.new.self)
+    let stands =
+    sacl-stands (listed c.inherited_from-first.result) (flat_map (copies c.args.self.now.plan.now) c.next.new.self)
     (sym c.is_empty.ensures ∙ c.if-not-is_empty.true) in
     rw (is, stands)
     (c.in_ok-put_sacl_after.ensures.ok t (rw (c.loop-ace.invariant.builder, c.loop-ace.invariant.buf) h) begin)

@@ -1,4 +1,5 @@
-use Rattle.std.proofs.Common.{◌≡◌, ◌<◌, ℕ, zero, suc, List, [], ◌∷◌, length, get_or, replicate, refl, ap, ◌∙◌, arith, of_calls}
+use Rattle.std.proofs.Common.{◌≡◌, ◌<◌, ℕ, zero, suc, List, [], ◌∷◌, length, get_or, replicate, refl, ap, ◌∙◌, arith}
+use Rattle.std.proofs.Common.{of_calls}
 use Rattle.sd_sid.specs.KeptDomain.{DomainOf, no_domain}
 use Rattle.sd_sddl_builder.proofs.kept.KeptDomains.none.Goals as goal
 

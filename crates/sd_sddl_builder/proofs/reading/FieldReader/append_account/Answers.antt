@@ -12,8 +12,11 @@ put_account-requires-clause-held c =
     let h = c.requires.held in
     let fields : AceFields = record no_fields { kind = c.args.kind; flags = c.args.flags; mask = c.args.mask } in
     let sound : AreAceFields fields =
-    sound-mask _ c.args.mask (sound-flags _ c.args.flags (sound-kind c.args.kind) c.requires.clear) in
-    (record h.0 { ace = fields }, rw (c.no_fields.ensures) (holds-ace _ _ _ (holds-kept _ _ _ h.1 c.note.new.self) fields sound), h.2)
+    sound-mask _ c.args.mask (sound-flags _ c.args.flags (sound-kind c.args.kind) c.requires.clear) in (
+      record h.0 { ace = fields },
+      rw (c.no_fields.ensures) (holds-ace _ _ _ (holds-kept _ _ _ h.1 c.note.new.self) fields sound),
+      h.2,
+    )
 
 pub returns-clause-read : goal.returns-clause-read
 returns-clause-read c =
@@ -29,5 +32,6 @@ returns-clause-read c =
         stands = at.stands ∙ ap (λ t. at.field ++ t) c.in_ok-rest.ensures;
         reads = at.reads c.args.self.now.domain;
       };
-      held = λ t h. c.put_account.ensures.held _ (rw (c.no_fields.ensures) (holds-ace _ _ _ (holds-kept _ _ _ h c.note.new.self) fields sound));
+      held = λ t h. c.put_account.ensures.held _
+          (rw (c.no_fields.ensures) (holds-ace _ _ _ (holds-kept _ _ _ h c.note.new.self) fields sound));
     }

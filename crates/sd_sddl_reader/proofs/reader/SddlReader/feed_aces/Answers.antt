@@ -16,7 +16,8 @@ returns-in_default-split_first c =
     between.blanks c.behind_blanks-behind.result.now ace between.blank between.stands in
     let e = over.steps i.reader.read i.reader.held in
     record {
-      shorter = omega (arith, length-append over.bytes c.behind_blanks-behind.result.now, ap length over.stands, i.shorter);
+      shorter =
+          omega (arith, length-append over.bytes c.behind_blanks-behind.result.now, ap length over.stands, i.shorter);
       reader = reader-at _ _ over.field (over.pending ∙ none) e.0 e.1;
       read = λ domain before h.
           fed-on s t c.loop-after.buf c.take_ace.new.buf domain over.bytes _ _ _ none (over.pending ∙ none) over.steps
@@ -36,7 +37,8 @@ returns-in_default-split_first-2 c =
     between.blanks c.behind_blanks-behind.result.now ace between.blank between.stands in
     let e = over.steps i.reader.read i.reader.held in
     record {
-      shorter = omega (arith, length-append over.bytes c.behind_blanks-behind.result.now, ap length over.stands, i.shorter);
+      shorter =
+          omega (arith, length-append over.bytes c.behind_blanks-behind.result.now, ap length over.stands, i.shorter);
       reader = reader-at _ _ over.field (over.pending ∙ none) e.0 e.1;
       read = λ domain before h.
           fed-on s t c.loop-after.buf c.take_ace.new.buf domain over.bytes _ _ _ none (over.pending ∙ none) over.steps

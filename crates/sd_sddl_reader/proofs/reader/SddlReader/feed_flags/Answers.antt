@@ -12,14 +12,16 @@ use Rattle.sd_sddl_reader.proofs.reader.SddlReader.feed_flags.Goals as goal
 pub take_whole-requires-clause-held : goal.take_whole-requires-clause-held
 take_whole-requires-clause-held c =
     let reader = c.requires.reader in
-    let may = can-take-front c.args.self.now c.args.buf.now c.args.which true c.requires.here (reader.read, reader.held) in
+    let may =
+    can-take-front c.args.self.now c.args.buf.now c.args.which true c.requires.here (reader.read, reader.held) in
     let front = may.1 c.requires.fresh.clear in
     (may.0, front.0, front.1)
 
 pub put_front-requires : goal.put_front-requires
 put_front-requires c =
     let reader = c.requires.reader in
-    let may = can-take-front c.args.self.now c.args.buf.now c.args.which true c.requires.here (reader.read, reader.held) in
+    let may =
+    can-take-front c.args.self.now c.args.buf.now c.args.which true c.requires.here (reader.read, reader.held) in
     let front = may.1 c.requires.fresh.clear in
     (may.0, front.0, front.1)
 
@@ -35,7 +37,8 @@ returns-in-Some c =
     c.args.which c.requires.here c.requires.fresh at.whole at.stands
     (record {
       read = λ t k. (
-        with_flags c.args.which front.flags (record t { parts = begun_or_null c.args.which front.null (closed t.parts) }),
+        with_flags c.args.which front.flags
+            (record t { parts = begun_or_null c.args.which front.null (closed t.parts) }),
         λ none. c.put_front.ensures.held t k,
         rw (c.requires.fresh.clear, readable, at.reads, at.list) refl,
       );
@@ -48,8 +51,11 @@ returns-in-Some c =
 pub returns-in-Some-first_parenthesis : goal.returns-in-Some-first_parenthesis
 returns-in-Some-first_parenthesis c =
     let taken = c.take_whole.ensures in
-    let over = steps-flags c.args.self.now c.take_whole.new.self c.args.buf.now c.take_whole.new.buf c.in-Some-first_parenthesis.field.now
-    c.in-Some-first_parenthesis.rest.now c.args.text.now c.args.which c.requires.here c.requires.fresh c.in-Some-first_parenthesis.ensures.found.0
-    c.in-Some-first_parenthesis.ensures.found.1 (record { read = taken.read; domain = taken.domain; same = taken.same }) in
-    feeds-to c.args.self.now (record c.take_whole.new.self { state = state.Ace field.Kind }) c.args.buf.now c.args.text.now
+    let over = steps-flags c.args.self.now c.take_whole.new.self c.args.buf.now c.take_whole.new.buf
+    c.in-Some-first_parenthesis.field.now c.in-Some-first_parenthesis.rest.now c.args.text.now c.args.which
+    c.requires.here c.requires.fresh
+    c.in-Some-first_parenthesis.ensures.found.0 c.in-Some-first_parenthesis.ensures.found.1
+    (record { read = taken.read; domain = taken.domain; same = taken.same }) in
+    feeds-to c.args.self.now (record c.take_whole.new.self { state = state.Ace field.Kind })
+    c.args.buf.now c.args.text.now
     c.take_whole.new.buf c.in-Some-first_parenthesis.rest.now c.requires.fresh.none c.requires.reader over

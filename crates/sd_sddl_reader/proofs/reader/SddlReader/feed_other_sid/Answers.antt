@@ -7,7 +7,8 @@ returns-in-Some c =
     let noted = c.note_head.ensures in
     let over = steps-sid c.args.self.now c.take_whole.new.self c.note_head.new.self c.args.buf.now c.take_whole.new.buf
     c.in-Some.field.now c.in-Some.rest.now c.args.text.now c.args.part c.in-Some.head c.requires.here c.requires.fresh
-    (behind-none _ _ _ _ c.in-Some.ensures.found) (record { read = taken.read; domain = taken.domain; same = taken.same })
+    (behind-none _ _ _ _ c.in-Some.ensures.found)
+    (record { read = taken.read; domain = taken.domain; same = taken.same })
     (record {
       state = noted.state;
       twice = noted.twice;

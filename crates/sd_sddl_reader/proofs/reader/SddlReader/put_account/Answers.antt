@@ -15,7 +15,8 @@ returns c =
     let noted = c.note_head.ensures in
     let taken : SddlReader = record s { fields = c.put_account_sid.new.self } in
     let readable = whole-readable at.field (text-inside at.field plain.plain) plain.fits in
-    let over = steps-sid s taken c.note_head.new.self c.args.buf.now c.put_account_sid.new.buf at.field c.in_ok-account.rest.now
+    let over =
+    steps-sid s taken c.note_head.new.self c.args.buf.now c.put_account_sid.new.buf at.field c.in_ok-account.rest.now
     c.args.text.now c.args.part c.in_ok-account.head c.requires.here c.requires.fresh at.before
     (record {
       read = λ t k. (
