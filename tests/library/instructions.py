@@ -79,7 +79,7 @@ PATHS = {
     **{f"an ACE with flags {flags}": aces(f"(A;{flags};FA;;;BU)")
        for flags in ("ID", "OICI", "CIID", "OICIID", "OICIIO", "OICIIOID", "SAFA", "OICIIDSA")},
     **{f"an ACE with rights {rights}": aces(f"(A;;{rights};;;BU)")
-       for rights in ("FA", "GRGX", "0x1301bf", "0x1200a8", "0x3", "")},
+       for rights in ("FA", "GRGX", "0x1301bf", "0x1200a8", "0x3", "0x80000001", "")},
     "an ACL with flags PAI": (TO_HEX, "D:PAI(A;;FA;;;BU)"),
     "an ACE with one GUID": aces(f"(OA;CI;RPWP;{GUID};;AU)"),
     "an ACE with an inherited GUID": aces(f"(OA;CIIO;RPWP;;{GUID};AU)"),
@@ -159,11 +159,23 @@ def benched():
 
 
 def checks():
-    """Checks for tokens of few, many and most SIDs."""
+    """Checks for tokens of few, many and most SIDs, and for tokens whose first SIDs are those that ACEs name, so that
+    whole blocks of entries follow the one that is met. Checks of an owner, for whom the DACL is searched for OWNER
+    RIGHTS."""
     lines = lines_of("hex", None)
     for count in (20, 300, 1_024):
         yield Job(f"check, a token of {count:,}", "sdtool",
                   ["check", "--want", "FR", "--token", make_inputs.token(count)], lines)
+    for count in (300, 1_000):
+        sids = reversed(make_inputs.token(count).split(","))
+        yield Job(f"check, a token of {count:,}, usual SIDs first", "sdtool",
+                  ["check", "--want", "FR", "--token", ",".join(sids)], lines)
+    shapes = make_inputs.Shapes(1)
+    owner = generate.sid(*make_inputs.DOMAIN, int(make_inputs.USER.rpartition("-")[2]))
+    acl = shapes.generator.acl([shapes.file_ace() for _ in range(1_000)])
+    line = shapes.generator.laid_out(owner, owner, b"", acl).hex()
+    yield Job("check, an owner and 1,000 ACEs", "sdtool",
+              ["check", "--want", "WD", "--token", make_inputs.USER], joined([line] * LONG_LINES))
 
 
 def paths():
@@ -173,13 +185,20 @@ def paths():
 
 
 def calls():
-    """Calls of the library that check an ACL of 1,000 ACEs for 1,000 SIDs, of which none is met."""
+    """Calls of the library for 1,000 SIDs, of which none is met: checks of an ACL of 1,000 ACEs, and reasons where no
+    DACL is, so that the owner decides nothing."""
     shapes = make_inputs.Shapes(1)
-    descriptor = shapes.descriptor(shapes.file_ace, 1_000)
     sids = [generate.sid(*make_inputs.DOMAIN, 200_000 + number) for number in range(1_000)]
-    given = struct.pack("=4I", len(sids), sum(map(len, sids)), len(descriptor), 0x120089) + b"".join(sids) + descriptor
+
+    def given(descriptor):
+        sizes = len(sids), sum(map(len, sids)), len(descriptor), 0x120089
+        return struct.pack("=4I", *sizes) + b"".join(sids) + descriptor
+
+    descriptor = shapes.descriptor(shapes.file_ace, 1_000)
     for call, rounds in (("check", 8), ("with", 8), ("many", 1)):
-        yield Job(f"library {call}, 1,000 ACEs and 1,000 SIDs", CHECKER, [call, str(rounds)], given)
+        yield Job(f"library {call}, 1,000 ACEs and 1,000 SIDs", CHECKER, [call, str(rounds)], given(descriptor))
+    owned = shapes.generator.laid_out(shapes.account(), shapes.some_sid(), b"", b"")
+    yield Job("library reasons, no DACL and 1,000 SIDs", CHECKER, ["reasons", "2000"], given(owned))
 
 
 def all_jobs():

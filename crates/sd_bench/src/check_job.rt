@@ -5,7 +5,7 @@ use crate::numbers::Numbers;
 use crate::pattern::BytePattern;
 use crate::section::{Job, invalid};
 use sd_call_check::{
-    AskInput, AskerInput, Request, VerdictOutcome, check_with_token, read_token, told,
+    AskInput, AskerInput, Request, VerdictOutcome, check_with_token, read_token, token_held, told,
 };
 use sd_call_many::{Bytes, check_many};
 use sd_check::Verdict;
@@ -66,7 +66,10 @@ pub fn check_each(job: &Job<'_, '_, '_>) -> io::Result<Digest> {
         }
         let descriptor = descriptors.get_mut(current).ok_or(invalid())?;
         descriptor.renew(&mut numbers);
-        let verdict = check_with_token(descriptor.bytes(), &token, &ask(&request));
+        let verdict = match token_held(&token, &request) {
+            Ok(mut held) => check_with_token(descriptor.bytes(), &mut held, &ask(&request)),
+            Err(fault) => told(Err(fault)),
+        };
         add(&mut digest, &verdict);
         current = current.saturating_add(1);
     }

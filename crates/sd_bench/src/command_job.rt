@@ -4,7 +4,8 @@ use crate::digest::Digest;
 use crate::numbers::Numbers;
 use crate::pattern::LinePattern;
 use crate::section::Job;
-use sd_filter::{FromRead, ToWrite, command};
+use sd_command::command;
+use sd_run::{FromRead, ToWrite};
 use std::alloc::{AllocError, Global};
 use std::io::{self, BufWriter, Read};
 

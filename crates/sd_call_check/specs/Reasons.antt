@@ -41,12 +41,17 @@ explained bytes asker = do
   found ← asker
   reasons_on bytes found.0 found.1
 
--- the same for a token that memory holds
+-- the same for a token that was read before
+abbrev pub explained_by : List ℕ → Holder → List ℕ → List ℕ → Request → Result (List Reason) CallFault
+explained_by bytes holder object principal_self request = do
+  ask ← ask_in request object principal_self
+  reasons_on bytes holder ask
+
+-- the same for the token that memory holds
 abbrev pub explained_held : List ℕ → List ℕ → List ℕ → List ℕ → Request → Result (List Reason) CallFault
 explained_held bytes memory object principal_self request = do
   holder ← holder_held memory (level_of request)
-  ask ← ask_in request object principal_self
-  reasons_on bytes holder ask
+  explained_by bytes holder object principal_self request
 
 -- 3. What is told.
 

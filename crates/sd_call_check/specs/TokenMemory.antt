@@ -68,8 +68,14 @@ ReadsToken sids kinds old new outcome =
 
 -- 2. A check with the token.
 
+-- for a token that was read before
+abbrev pub checked_by : List ℕ → Holder → List ℕ → List ℕ → Request → Result Verdict CallFault
+checked_by bytes holder object principal_self request = do
+  ask ← ask_in request object principal_self
+  verdict_on bytes holder ask
+
+-- for the token that memory holds
 abbrev pub checked_held : List ℕ → List ℕ → List ℕ → List ℕ → Request → Result Verdict CallFault
 checked_held bytes memory object principal_self request = do
   holder ← holder_held memory (level_of request)
-  ask ← ask_in request object principal_self
-  verdict_on bytes holder ask
+  checked_by bytes holder object principal_self request

@@ -1,8 +1,9 @@
-//! The call that checks access.
+//! The calls that check access with a new token.
 
-ghost use Rattle.std.specs.Prelude.{◌≡◌, [], length, IfOk, MatchResult};
+ghost use Rattle.std.specs.Prelude.{◌≡◌, [], length, IfOk};
 ghost use Rattle.sd_token.specs.Token.{Compares};
-ghost use Rattle.sd_call_check.specs.Checks.{Tells, call_bound, checked_for, fault_of, told, told_without_memory, verdict_on};
+ghost use Rattle.sd_call_check.specs.Checks.{asker_of, call_bound, checked_for, fault_of, told, told_without_memory};
+ghost use Rattle.sd_call_check.specs.Checks.{verdict_on};
 
 use crate::asker::{AskerInput, asker_in, check_asker};
 use crate::verdict::{VerdictOutcome, told, untold};
@@ -10,32 +11,29 @@ use sd_call::{CallFault, descriptor_in};
 use sd_check::{Ask, Verdict, check};
 use sd_memory::NoMemory;
 use sd_token::{Memory, Token, TokenIn};
-use std::alloc::Global;
 
-/// Says whether a descriptor grants a token what is asked for.
-pub fn check_access(alloc: Global, bytes: &[u8], input: &AskerInput<'_>) -> VerdictOutcome
-    ensures { Tells (checked_for bytes.now input.now) result }
+/// Says whether a descriptor grants a new token, which gets the SIDs, what is asked for.
+pub fn check_access(token: &mut Token, bytes: &[u8], input: &AskerInput<'_>) -> VerdictOutcome
+    requires { token.old.holder.entries ≡ [] }
+    ensures verdict { result ≡ told (checked_for bytes.now input.now) }
+    ensures holder { IfOk (asker_of input.now) (λ asker. token.new.holder ≡ asker.0) }
+    // No entry is compared more often than by the program.
+    ensures bound { Compares token.old token.new (call_bound bytes.now (length token.new.holder.entries)) }
 {
-    check_in_new_token(Token::new(alloc), bytes, input)
+    told(check_by(token, bytes, input))
 }
 
-// The same with a new token. Where memory was refused for one, a fault of the arguments is told all the same.
-fn check_in_new_token(
-    token: Result<Token, NoMemory>,
+/// The same where memory was refused for a token: a fault of the arguments is told all the same.
+pub fn check_without_token(
+    refused: NoMemory,
     bytes: &[u8],
     input: &AskerInput<'_>,
 ) -> VerdictOutcome
-    requires { IfOk token (λ t. t.holder.entries ≡ []) }
-    ensures { MatchResult token
-        (λ _. result ≡ told (checked_for bytes.now input.now))
-        (λ _. result ≡ told_without_memory (checked_for bytes.now input.now)) }
+    ensures { result ≡ told_without_memory (checked_for bytes.now input.now) }
 {
-    match token {
-        Ok(mut token) => told(check_by(&mut token, bytes, input)),
-        Err(refused) => match check_arguments(bytes, input) {
-            Ok(()) => untold(refused),
-            Err(fault) => told(Err(fault)),
-        },
+    match check_arguments(bytes, input) {
+        Ok(()) => untold(refused),
+        Err(fault) => told(Err(fault)),
     }
 }
 
@@ -53,6 +51,7 @@ pub(crate) fn check_arguments(bytes: &[u8], input: &AskerInput<'_>) -> Result<()
 fn check_by(token: &mut Token, bytes: &[u8], input: &AskerInput<'_>) -> Result<Verdict, CallFault>
     requires { token.old.holder.entries ≡ [] }
     ensures verdict { result ≡ checked_for bytes.now input.now }
+    ensures holder { IfOk (asker_of input.now) (λ asker. token.new.holder ≡ asker.0) }
     ensures bound { Compares token.old token.new (call_bound bytes.now (length token.new.holder.entries)) }
 {
     let ask = asker_in(token, input)?;

@@ -10,10 +10,13 @@ mod token_memory;
 mod verdict;
 mod with_token;
 
-pub use access::{check_access, verdict_on};
+pub use access::{check_access, check_without_token, verdict_on};
 pub use asker::{AskInput, AskerInput, asker_in, check_asker};
-pub use reason::{Asker, ReasonTold, explain_access, explain_with_token, request_of};
+pub use reason::{
+    Asker, ReasonTold, explain_access, explain_with_token, explain_without_token, request_of,
+    tell_none,
+};
 pub use request::Request;
-pub use token_memory::read_token;
+pub use token_memory::{read_token, token_held};
 pub use verdict::{VerdictOutcome, told, untold};
 pub use with_token::check_with_token;

@@ -1,20 +1,18 @@
 //! The calls that say why each right is granted or denied.
 
-ghost use Rattle.std.specs.Prelude.{◌≡◌, ◌⊎◌, [], length, map, IfOk, MatchResult};
+ghost use Rattle.std.specs.Prelude.{◌≡◌, [], length, map, IfOk};
 ghost use Rattle.sd_token.specs.Token.{Compares};
 ghost use Rattle.sd_call_check.specs.Checks.{asker_of, call_bound};
-ghost use Rattle.sd_call_check.specs.Reasons.{TellsNoReasons, TellsReasons, explained, explained_held, no_reasons};
+ghost use Rattle.sd_call_check.specs.Reasons.{TellsNoReasons, TellsReasons, explained, explained_by, no_reasons};
 ghost use Rattle.sd_call_check.specs.Reasons.{kind_of, outcome_without, place_of, reason_told, reasons_on, request_of};
 
 use crate::access::check_arguments;
 use crate::asker::{AskInput, AskerInput, ask_in, asker_in};
-use crate::request::{Request, level_of};
-use crate::token_memory::{holds_token, token_in};
-use sd_call::{Argument, CallFault, Outcome, descriptor_in, done, failed, no_memory};
+use crate::request::Request;
+use sd_call::{CallFault, Outcome, descriptor_in, done, failed, no_memory};
 use sd_check::{Ask, Reason, reasons};
 use sd_memory::NoMemory;
-use sd_token::{Memory, Token, TokenIn};
-use std::alloc::Global;
+use sd_token::{LentToken, Memory, Token, TokenIn};
 
 /// `struct sdtool_asker` of the header: who asks, apart from the SIDs.
 #[repr(C)]
@@ -47,30 +45,48 @@ const RIGHTS: usize = 25;
 /// No place of an ACE.
 const NO_PLACE: u16 = 0xffff;
 
-/// Why each right is granted or denied to a new token.
+/// Why each right is granted or denied to a new token, which gets the SIDs.
 pub fn explain_access(
-    alloc: Global,
+    token: &mut Token,
     bytes: &[u8],
     input: &AskerInput<'_>,
     told: &mut [ReasonTold; RIGHTS],
 ) -> Outcome
-    ensures { TellsReasons (explained bytes.now (asker_of input.now)) told.new result
-        ⊎ TellsNoReasons (explained bytes.now (asker_of input.now)) told.new result }
+    requires { token.old.holder.entries ≡ [] }
+    ensures reasons { TellsReasons (explained bytes.now (asker_of input.now)) told.new result }
+    ensures holder { IfOk (asker_of input.now) (λ asker. token.new.holder ≡ asker.0) }
+    // No entry is compared more often than by the check.
+    ensures bound { Compares token.old token.new (call_bound bytes.now (length token.new.holder.entries)) }
 {
-    explain_in_new_token(Token::new(alloc), bytes, input, told)
+    tell(reasons_by(token, bytes, input), told)
 }
 
-/// The same for a token that memory holds.
+/// The same where memory was refused for a token: a fault of the arguments is told all the same.
+pub fn explain_without_token(
+    refused: NoMemory,
+    bytes: &[u8],
+    input: &AskerInput<'_>,
+    told: &mut [ReasonTold; RIGHTS],
+) -> Outcome
+    ensures { TellsNoReasons (explained bytes.now (asker_of input.now)) told.new result }
+{
+    tell_none(outcome_without(refused, bytes, input), told)
+}
+
+/// The same for a token that was read before.
 pub fn explain_with_token(
     bytes: &[u8],
-    memory: &[u32],
+    token: &mut LentToken<'_>,
     input: &AskInput<'_>,
     told: &mut [ReasonTold; RIGHTS],
 ) -> Outcome
-    ensures { TellsReasons (explained_held bytes.now memory.now input.now.object.now input.now.principal_self.now
-        input.now.request.now) told.new result }
+    ensures reasons { TellsReasons (explained_by bytes.now token.old.holder input.now.object.now
+        input.now.principal_self.now input.now.request.now) told.new result }
+    ensures holder { token.new.holder ≡ token.old.holder }
+    // No entry is compared more often than by the check.
+    ensures bound { Compares token.old token.new (call_bound bytes.now (length token.old.holder.entries)) }
 {
-    tell(reasons_held(bytes, memory, input), told)
+    tell(reasons_held(bytes, token, input), told)
 }
 
 /// The request of somebody who asks for reasons: for all that is granted.
@@ -85,24 +101,6 @@ pub fn request_of(asker: &Asker) -> Request
         maximum: true,
         security: asker.security,
         take_ownership: asker.take_ownership,
-    }
-}
-
-// With a new token. Where memory was refused for one, a fault of the arguments is told all the same.
-fn explain_in_new_token(
-    token: Result<Token, NoMemory>,
-    bytes: &[u8],
-    input: &AskerInput<'_>,
-    told: &mut [ReasonTold; RIGHTS],
-) -> Outcome
-    requires { IfOk token (λ t. t.holder.entries ≡ []) }
-    ensures { MatchResult token
-        (λ _. TellsReasons (explained bytes.now (asker_of input.now)) told.new result)
-        (λ _. TellsNoReasons (explained bytes.now (asker_of input.now)) told.new result) }
-{
-    match token {
-        Ok(mut token) => tell(reasons_by(&mut token, bytes, input), told),
-        Err(refused) => tell_none(outcome_without(refused, bytes, input), told),
     }
 }
 
@@ -124,27 +122,26 @@ fn reasons_by(
 ) -> Result<[Reason; RIGHTS], CallFault>
     requires { token.old.holder.entries ≡ [] }
     ensures reasons { result ≡ explained bytes.now (asker_of input.now) }
+    ensures holder { IfOk (asker_of input.now) (λ asker. token.new.holder ≡ asker.0) }
     ensures bound { Compares token.old token.new (call_bound bytes.now (length token.new.holder.entries)) }
 {
     let ask = asker_in(token, input)?;
     reasons_on(bytes, token, &ask)
 }
 
-#[tactic(auto, unfolding(crate::specs::TokenMemory::entries_held))]
+// The reasons, for a token that was read before.
 fn reasons_held(
     bytes: &[u8],
-    memory: &[u32],
+    token: &mut LentToken<'_>,
     input: &AskInput<'_>,
 ) -> Result<[Reason; RIGHTS], CallFault>
-    ensures { result ≡ explained_held bytes.now memory.now input.now.object.now input.now.principal_self.now
-        input.now.request.now }
+    ensures reasons { result ≡ explained_by bytes.now token.old.holder input.now.object.now
+        input.now.principal_self.now input.now.request.now }
+    ensures holder { token.new.holder ≡ token.old.holder }
+    ensures bound { Compares token.old token.new (call_bound bytes.now (length token.old.holder.entries)) }
 {
-    if !holds_token(memory) {
-        return Err(CallFault::Argument(Argument::Token, 0));
-    }
     let ask = ask_in(input)?;
-    let mut token = token_in(memory, level_of(input.request));
-    reasons_on(bytes, &mut token, &ask)
+    reasons_on(bytes, token, &ask)
 }
 
 // The reasons on the descriptor that some bytes show.
@@ -183,8 +180,8 @@ fn tell_each(reasons: &[Reason; RIGHTS], told: &mut [ReasonTold; RIGHTS])
     }
 }
 
-// The outcome, and no reason.
-fn tell_none(outcome: Outcome, told: &mut [ReasonTold; RIGHTS]) -> Outcome
+/// The outcome, and no reason.
+pub fn tell_none(outcome: Outcome, told: &mut [ReasonTold; RIGHTS]) -> Outcome
     ensures outcome { result ≡ outcome }
     ensures told { told.new ≡ no_reasons }
 {

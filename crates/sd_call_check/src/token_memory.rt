@@ -1,12 +1,14 @@
 //! A token in memory of the caller.
 
-ghost use Rattle.std.specs.Prelude.{◌≡◌, ◌≤◌, ◌<◌, ◌+◌, ◌*◌, ℕ, [], ◌∷◌, ◌++◌, length, take, drop, slice_index, slice_range};
-ghost use Rattle.std.specs.Prelude.{MatchResult, IsTrue, Ok, Err};
+ghost use Rattle.std.specs.Prelude.{◌≡◌, ◌≤◌, ◌<◌, ◌+◌, ◌*◌, ℕ, [], ◌∷◌, ◌++◌, length, take, drop, slice_index};
+ghost use Rattle.std.specs.Prelude.{slice_range, MatchResult, IsTrue, Ok, Err};
 ghost use Rattle.sd_token.specs.Limits.{most_entries};
 ghost use Rattle.sd_token.specs.TokenWords.{entries_of, entry_words};
-ghost use Rattle.sd_call_check.specs.Checks.{entries_from};
-ghost use Rattle.sd_call_check.specs.TokenMemory.{ReadsToken, entries_at, entries_held, holder_held, holds_token, token_size};
+ghost use Rattle.sd_call_check.specs.Checks.{entries_from, level_of};
+ghost use Rattle.sd_call_check.specs.TokenMemory.{ReadsToken, entries_at, entries_held, holder_held, holds_token};
+ghost use Rattle.sd_call_check.specs.TokenMemory.{token_size};
 
+use crate::request::{Request, level_of};
 use crate::token::{entry_at, nothing_behind};
 use sd_call::{Argument, CallFault, Outcome, done, failed, too_small};
 use sd_sid::Sid;
@@ -141,8 +143,21 @@ fn write_entry(keys: &mut [u32], words: &mut [u32], n: usize, sid: &Sid, kind: E
     words[ENTRY_WORDS * n..ENTRY_WORDS * (n + 1)].copy_from_slice(&words_of(sid, kind));
 }
 
-/// Whether memory holds a token.
-pub(crate) fn holds_token(memory: &[u32]) -> bool
+/// The token that memory holds, at the level of a request.
+#[tactic(auto, unfolding(crate::specs::TokenMemory::entries_held))]
+pub fn token_held<'a>(memory: &'a [u32], request: &Request) -> Result<LentToken<'a>, CallFault>
+    ensures { MatchResult result
+        (λ token. holder_held memory.now (level_of request.now) ≡ Ok token.holder)
+        (λ fault. holder_held memory.now (level_of request.now) ≡ Err fault) }
+{
+    if !holds_token(memory) {
+        return Err(CallFault::Argument(Argument::Token, 0));
+    }
+    Ok(token_in(memory, level_of(request)))
+}
+
+// Whether memory holds a token.
+fn holds_token(memory: &[u32]) -> bool
     ensures { result ≡ holds_token memory.now }
 {
     if memory.len() < KEYS || memory[0] != MARK {
@@ -152,9 +167,9 @@ pub(crate) fn holds_token(memory: &[u32]) -> bool
     count <= MOST_ENTRIES && token_size(count) <= memory.len()
 }
 
-/// The token that memory holds.
+// The token that memory holds.
 #[tactic(auto, unfolding(crate::specs::TokenMemory::entries_held))]
-pub(crate) fn token_in(memory: &[u32], level: Option<u32>) -> LentToken<'_>
+fn token_in(memory: &[u32], level: Option<u32>) -> LentToken<'_>
     requires { IsTrue (holds_token memory.now) }
     ensures { Ok result.holder ≡ holder_held memory.now level }
 {

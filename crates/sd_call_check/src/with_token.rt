@@ -1,34 +1,42 @@
 //! The call that checks access with a token that was read before.
 
-ghost use Rattle.std.specs.Prelude.{◌≡◌};
-ghost use Rattle.sd_call_check.specs.Checks.{told};
-ghost use Rattle.sd_call_check.specs.TokenMemory.{checked_held};
+ghost use Rattle.std.specs.Prelude.{◌≡◌, length};
+ghost use Rattle.sd_token.specs.Token.{Compares};
+ghost use Rattle.sd_call_check.specs.Checks.{call_bound, told};
+ghost use Rattle.sd_call_check.specs.TokenMemory.{checked_by};
 
 use crate::access::verdict_on;
 use crate::asker::{AskInput, ask_at_once};
-use crate::request::level_of;
-use crate::token_memory::{holds_token, token_in};
 use crate::verdict::{VerdictOutcome, told};
-use sd_call::{Argument, CallFault};
+use sd_call::CallFault;
 use sd_check::Verdict;
+use sd_token::LentToken;
 
-/// Says whether a descriptor grants what is asked for to the token that memory holds.
-pub fn check_with_token(bytes: &[u8], memory: &[u32], input: &AskInput<'_>) -> VerdictOutcome
-    ensures { result ≡ told (checked_held bytes.now memory.now input.now.object.now input.now.principal_self.now
-        input.now.request.now) }
+/// Says whether a descriptor grants a token what is asked for.
+pub fn check_with_token(
+    bytes: &[u8],
+    token: &mut LentToken<'_>,
+    input: &AskInput<'_>,
+) -> VerdictOutcome
+    ensures verdict { result ≡ told (checked_by bytes.now token.old.holder input.now.object.now
+        input.now.principal_self.now input.now.request.now) }
+    ensures holder { token.new.holder ≡ token.old.holder }
+    // No entry is compared more often than by the program.
+    ensures bound { Compares token.old token.new (call_bound bytes.now (length token.old.holder.entries)) }
 {
-    told(verdict_of(bytes, memory, input))
+    told(verdict_of(bytes, token, input))
 }
 
-#[tactic(auto, unfolding(crate::specs::TokenMemory::entries_held))]
-fn verdict_of(bytes: &[u8], memory: &[u32], input: &AskInput<'_>) -> Result<Verdict, CallFault>
-    ensures { result ≡ checked_held bytes.now memory.now input.now.object.now input.now.principal_self.now
-        input.now.request.now }
+fn verdict_of(
+    bytes: &[u8],
+    token: &mut LentToken<'_>,
+    input: &AskInput<'_>,
+) -> Result<Verdict, CallFault>
+    ensures verdict { result ≡ checked_by bytes.now token.old.holder input.now.object.now
+        input.now.principal_self.now input.now.request.now }
+    ensures holder { token.new.holder ≡ token.old.holder }
+    ensures bound { Compares token.old token.new (call_bound bytes.now (length token.old.holder.entries)) }
 {
-    if !holds_token(memory) {
-        return Err(CallFault::Argument(Argument::Token, 0));
-    }
     let ask = ask_at_once(input)?;
-    let mut token = token_in(memory, level_of(input.request));
-    verdict_on(bytes, &mut token, &ask)
+    verdict_on(bytes, token, &ask)
 }

@@ -1,6 +1,6 @@
 //! Input that is read ahead.
 
-ghost use Rattle.std.specs.Prelude.{◌≡◌};
+ghost use Rattle.std.specs.Prelude.{◌≡◌, ◌↔◌, take, Contains, IsTrue};
 ghost use Rattle.std.specs.Io.Buffered.{reader_remaining};
 
 use std::cell::Cell;
@@ -31,9 +31,15 @@ impl<'a, R: Read + Drop> Read for InputAhead<'a, R> {
 
     fn read(&mut self, buf: &mut [u8]) -> Result<usize> {
         let given = self.reader.read(buf)?;
-        let ahead = self.reader.buffer();
-        let next = &ahead[..ahead.len().min(buf.len())];
-        self.line_follows.set(next.contains(&b'\n'));
+        self.line_follows
+            .set(ends_in(self.reader.buffer(), buf.len()));
         Ok(given)
     }
+}
+
+// Whether a line ends in the first bytes, of which there are at most so many.
+fn ends_in(ahead: &[u8], most: usize) -> bool
+    ensures { IsTrue result ↔ Contains (take most ahead.now) 10 }
+{
+    ahead[..ahead.len().min(most)].contains(&b'\n')
 }

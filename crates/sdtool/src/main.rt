@@ -6,8 +6,9 @@ ghost use Rattle.std.specs.Prelude.{◌≡◌, ◌⊎◌, ◌==◌, codes, if◌
 ghost use Rattle.std.specs.Process.{exit_status};
 ghost use Rattle.sd_command_line.specs.FaultLines.{fault_line};
 
+use sd_command::command;
 use sd_command_line::{NO_MEMORY_LINE, NO_MEMORY_STATUS, USAGE_LINE, USAGE_STATUS};
-use sd_filter::{FromRead, ToWrite, command};
+use sd_run::{FromRead, ToWrite};
 use sd_streams::{HeldAnswers, InputAhead};
 use std::cell::Cell;
 use std::env::{self, Env};

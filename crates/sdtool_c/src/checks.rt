@@ -2,7 +2,10 @@
 
 ghost use Rattle.sd_call_check.specs.Checks.{Tells, checked};
 
-use sd_call_check::{AskInput, AskerInput, Request, VerdictOutcome, check_access};
+use sd_call_check::{
+    AskInput, AskerInput, Request, VerdictOutcome, check_access, check_without_token,
+};
+use sd_token::Token;
 use std::alloc::Global;
 
 /// Says whether a descriptor grants a token what is asked for.
@@ -23,5 +26,9 @@ pub extern "C" fn sdtool_check(
         principal_self,
         request,
     };
-    check_access(alloc, bytes, &AskerInput { sids, kinds, ask })
+    let input = AskerInput { sids, kinds, ask };
+    match Token::new(alloc) {
+        Ok(mut token) => check_access(&mut token, bytes, &input),
+        Err(refused) => check_without_token(refused, bytes, &input),
+    }
 }

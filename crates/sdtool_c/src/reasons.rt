@@ -4,10 +4,12 @@ ghost use Rattle.std.specs.Prelude.{◌⊎◌};
 ghost use Rattle.sd_call_check.specs.Checks.{asker_in};
 ghost use Rattle.sd_call_check.specs.Reasons.{TellsNoReasons, TellsReasons, explained, explained_held, request_of};
 
-use sd_call::Outcome;
+use sd_call::{Outcome, failed};
 use sd_call_check::{
-    AskInput, Asker, AskerInput, ReasonTold, explain_access, explain_with_token, request_of,
+    AskInput, Asker, AskerInput, ReasonTold, explain_access, explain_with_token,
+    explain_without_token, request_of, tell_none, token_held,
 };
+use sd_token::Token;
 use std::alloc::Global;
 
 /// Says why each right is granted or denied to a token.
@@ -32,7 +34,11 @@ pub extern "C" fn sdtool_reasons<'a>(
         principal_self,
         request: &request_of(asker),
     };
-    explain_access(alloc, bytes, &AskerInput { sids, kinds, ask }, reasons)
+    let input = AskerInput { sids, kinds, ask };
+    match Token::new(alloc) {
+        Ok(mut token) => explain_access(&mut token, bytes, &input, reasons),
+        Err(refused) => explain_without_token(refused, bytes, &input, reasons),
+    }
 }
 
 /// The same for a token that was read.
@@ -53,5 +59,8 @@ pub extern "C" fn sdtool_reasons_with<'a>(
         principal_self,
         request: &request_of(asker),
     };
-    explain_with_token(bytes, memory, &ask, reasons)
+    match token_held(memory, ask.request) {
+        Ok(mut token) => explain_with_token(bytes, &mut token, &ask, reasons),
+        Err(fault) => tell_none(failed(fault), reasons),
+    }
 }

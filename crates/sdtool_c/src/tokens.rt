@@ -5,7 +5,9 @@ ghost use Rattle.sd_call_check.specs.Checks.{told};
 ghost use Rattle.sd_call_check.specs.TokenMemory.{ReadsToken, checked_held, token_size};
 
 use sd_call::Outcome;
-use sd_call_check::{AskInput, Request, VerdictOutcome, check_with_token, read_token};
+use sd_call_check::{
+    AskInput, Request, VerdictOutcome, check_with_token, read_token, token_held, told,
+};
 
 /// Reads a token into memory.
 #[unsafe(no_mangle)]
@@ -32,5 +34,8 @@ pub extern "C" fn sdtool_check_with(
         principal_self,
         request,
     };
-    check_with_token(bytes, memory, &ask)
+    match token_held(memory, request) {
+        Ok(mut token) => check_with_token(bytes, &mut token, &ask),
+        Err(fault) => told(Err(fault)),
+    }
 }

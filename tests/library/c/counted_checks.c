@@ -1,10 +1,10 @@
 /*
  * counted_checks CALL ROUNDS
  *
- * Checks one descriptor for one token, ROUNDS times, by the call that CALL names: check, with or many. Standard input
- * has four numbers of 32 bits in the machine's order, which are the number of SIDs, the bytes of the SIDs, the bytes of
- * the descriptor and the rights that are wanted; then the SIDs and the descriptor. Prints how many verdicts granted
- * them. tests/library/instructions.py counts what it takes.
+ * Checks one descriptor for one token, ROUNDS times, by the call that CALL names: check, with, many or reasons.
+ * Standard input has four numbers of 32 bits in the machine's order, which are the number of SIDs, the bytes of the
+ * SIDs, the bytes of the descriptor and the rights that are wanted; then the SIDs and the descriptor. Prints how many
+ * verdicts granted them. tests/library/instructions.py counts what it takes.
  */
 #include <stdio.h>
 #include <stdlib.h>
@@ -41,6 +41,17 @@ static long check_with(void)
     return 1;
 }
 
+static long reasons(void)
+{
+    static const struct sdtool_asker asker = {.mapping = SDTOOL_MAPPING_FILE};
+    struct sdtool_reason all[SDTOOL_RIGHTS];
+    struct sdtool_outcome told = sdtool_reasons_with(descriptor, head[2], token, SDTOOL_TOKEN_WORDS(head[0]), NULL, 0,
+                                                     NULL, 0, &asker, all);
+
+    verdicts[0] = (struct sdtool_verdict){.fault = told.fault, .granted = all[0].kind == SDTOOL_REASON_NO_DACL};
+    return 1;
+}
+
 static long check_many(void)
 {
     struct sdtool_bytes all[AT_ONCE];
@@ -63,9 +74,10 @@ int main(int count, char **words)
     request.wanted = head[3];
     must(sdtool_token_read(sids, head[1], entries, head[0], token, sizeof token / sizeof *token).fault == SDTOOL_OK);
 
-    long (*call)(void) = strcmp(words[1], "check") == 0  ? check
-                         : strcmp(words[1], "with") == 0 ? check_with
-                                                         : check_many;
+    long (*call)(void) = strcmp(words[1], "check") == 0     ? check
+                         : strcmp(words[1], "with") == 0    ? check_with
+                         : strcmp(words[1], "reasons") == 0 ? reasons
+                                                            : check_many;
     long granted = 0;
     for (long round = strtol(words[2], NULL, 10); round > 0; round--)
         for (long made = call(); made > 0; made--) {
