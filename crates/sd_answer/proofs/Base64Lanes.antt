@@ -1,6 +1,6 @@
 -- Symbols of base64 by vectors.
-use Rattle.std.proofs.Common.{◌≡◌, ◌<◌, ℕ, zero, suc, ◌+◌, ◌-◌, ◌*◌, ◌/◌, ◌%◌, ◌^◌, ◌==◌, nat_le, true, cond}
-use Rattle.std.proofs.Common.{List, [], ◌∷◌, ◌++◌, length, map, take, replicate, slice_index, refl, sym, subst, ap, ◌∙◌, arith}
+use Rattle.std.proofs.Common.{◌≡◌, ◌<◌, ℕ, zero, suc, ◌+◌, ◌-◌, ◌*◌, ◌/◌, ◌%◌, ◌^◌, ◌==◌, nat_le, true, cond, List, []}
+use Rattle.std.proofs.Common.{◌∷◌, ◌++◌, length, map, take, replicate, slice_index, refl, sym, subst, ap, ◌∙◌, arith}
 use Rattle.std.specs.Simd.Lanes.{Each1, digits_l, number_l, pick_l, sel_l, top, zip2}
 use Rattle.std.proofs.lemmas.Bool.{eqb-true}
 use Rattle.std.proofs.lemmas.List.{length-take-le}
@@ -30,7 +30,8 @@ symbol-of v small =
 -- a step for the values from one on
 abbrev from : ℕ → ℕ → ℕ → List ℕ → List ℕ
 from n least step values =
-    sel_l (map (top 7) (zip2 (λ (a b : ℕ). cond (nat_le a b) 255 0) (replicate n least) values)) (replicate n step) (replicate n 0)
+    sel_l (map (top 7) (zip2 (λ (a b : ℕ). cond (nat_le a b) 255 0) (replicate n least) values)) (replicate n step)
+    (replicate n 0)
 
 abbrev add : List ℕ → List ℕ → List ℕ
 add xs ys = zip2 (λ (a b : ℕ). (a + b) % 2 ^ 8) xs ys
@@ -123,7 +124,8 @@ split-words (suc n) [] long small = absurd (omega arith)
 split-words (suc n) (a ∷ []) long small = absurd (omega arith)
 split-words (suc n) (a ∷ b ∷ []) long small = absurd (omega arith)
 split-words (suc n) (a ∷ b ∷ c ∷ bytes) long small =
-    split-group a b c (number_l (2 ^ 32) (map split_word (words (spread bytes)))) (fours n) small.0 small.1.0 small.1.1.0
+    split-group a b c (number_l (2 ^ 32) (map split_word (words (spread bytes)))) (fours n) small.0 small.1.0
+    small.1.1.0
     ∙ ap (λ (xs : List ℕ). (a / 4) ∷ (a % 4 * 16 + b / 16) ∷ (b % 16 * 4 + c / 64) ∷ (c % 64) ∷ xs)
     (split-words n bytes (omega arith) small.1.1.1)
 
@@ -165,7 +167,8 @@ six-encoded t (suc n) (a ∷ b ∷ c ∷ bytes) long = rw (six-encoded t n bytes
 abbrev pub three_of_four : List ℕ
 three_of_four = 2 ∷ 1 ∷ 0 ∷ 16 ∷ 5 ∷ 4 ∷ 3 ∷ 16 ∷ 8 ∷ 7 ∷ 6 ∷ 16 ∷ 11 ∷ 10 ∷ 9 ∷ 16 ∷ []
 
-picked : (bytes : List ℕ) → length bytes ≡ 16 → pick_l 0 (bytes ++ replicate 16 0) three_of_four ≡ spread (take 12 bytes)
+picked : (bytes : List ℕ) → length bytes ≡ 16
+    → pick_l 0 (bytes ++ replicate 16 0) three_of_four ≡ spread (take 12 bytes)
 picked bytes long =
     subst (λ (xs : List ℕ). pick_l 0 (xs ++ replicate 16 0) three_of_four ≡ spread (take 12 xs))
     (pick_l_whole 0 bytes 16 long) refl
@@ -191,7 +194,8 @@ pub values-small : (bytes : List ℕ) → length bytes ≡ 16 → Each1 (λ (x :
     → Each1 (λ (v : ℕ). v < 64) (values_in bytes)
 values-small bytes long small =
     let few : Each1 (λ (x : ℕ). x < 256) (take 12 bytes) = Each1-chunk (λ (x : ℕ). x < 256) 0 12 bytes small in
-    subst (λ (xs : List ℕ). Each1 (λ (v : ℕ). v < 64) xs) (sym (values-in bytes long small)) (six-small (take 12 bytes) few)
+    subst (λ (xs : List ℕ). Each1 (λ (v : ℕ). v < 64) xs) (sym (values-in bytes long small))
+    (six-small (take 12 bytes) few)
 
 pub block-encoded : (bytes symbols : List ℕ) → length bytes ≡ 16 → Each1 (λ (x : ℕ). x < 256) bytes
     → symbols ≡ map (λ (v : ℕ). slice_index (engine_symbols standard) v) (values_in bytes)

@@ -1,6 +1,6 @@
 -- Digits of hex by vectors.
-use Rattle.std.proofs.Common.{◌≡◌, ◌<◌, ℕ, zero, suc, ◌+◌, ◌/◌, ◌%◌, ◌^◌, ◌==◌, nat_lt, true, cond}
-use Rattle.std.proofs.Common.{List, [], ◌∷◌, ◌++◌, length, map, replicate, slice_index, refl, subst, arith}
+use Rattle.std.proofs.Common.{◌≡◌, ◌<◌, ℕ, zero, suc, ◌+◌, ◌/◌, ◌%◌, ◌^◌, ◌==◌, nat_lt, true, cond, List, [], ◌∷◌, ◌++◌}
+use Rattle.std.proofs.Common.{length, map, replicate, slice_index, refl, subst, arith}
 use Rattle.std.specs.Simd.Lanes.{Each1, pick_l, sel_l, top, zip2}
 use Rattle.std.proofs.lemmas.Bool.{eqb-true}
 use Rattle.std.proofs.lemmas.Simd.{pick_l_whole}
@@ -20,7 +20,8 @@ digit-of v small = eqb-true _ _ (all_below_at (λ v. digit_of v == slice_index l
 
 pub digits-of : (n : ℕ) (values : List ℕ) → length values ≡ n → Each1 (λ (v : ℕ). v < 16) values
     → zip2 (λ (a b : ℕ). (a + b) % 2 ^ 8) (zip2 (λ (a b : ℕ). (a + b) % 2 ^ 8) values (replicate n 48))
-    (sel_l (map (top 7) (zip2 (λ (a b : ℕ). cond (nat_lt a b) 255 0) (replicate n 9) values)) (replicate n 39) (replicate n 0))
+    (sel_l (map (top 7) (zip2 (λ (a b : ℕ). cond (nat_lt a b) 255 0) (replicate n 9) values)) (replicate n 39)
+    (replicate n 0))
     ≡ map (λ (v : ℕ). slice_index lower_digits v) values
 digits-of zero [] long small = refl
 digits-of zero (v ∷ values) long small = absurd (omega arith)
@@ -40,6 +41,8 @@ pub block-digits : (bytes high low : List ℕ) → length bytes ≡ 16
 unfolding encode_with
 block-digits bytes high low long is-high is-low =
     rw (is-high, is-low) (
-    subst (λ (xs : List ℕ). pick_l 0 (map (λ (v : ℕ). slice_index lower_digits v) (zip2 (λ (a b : ℕ). a / b) xs (replicate 16 16))
-    ++ map (λ (v : ℕ). slice_index lower_digits v) (zip2 (λ (a b : ℕ). a % b) xs (replicate 16 16))) between ≡ encode_lower xs)
+    subst (λ (xs : List ℕ). pick_l 0
+    (map (λ (v : ℕ). slice_index lower_digits v) (zip2 (λ (a b : ℕ). a / b) xs (replicate 16 16))
+    ++ map (λ (v : ℕ). slice_index lower_digits v) (zip2 (λ (a b : ℕ). a % b) xs (replicate 16 16))) between
+    ≡ encode_lower xs)
     (pick_l_whole 0 bytes 16 long) refl)

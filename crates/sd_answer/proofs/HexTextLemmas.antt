@@ -1,7 +1,7 @@
 -- The hex text of some bytes, piece by piece.
 use Rattle.std.proofs.Common.{◌≡◌, ◌≤◌, ◌<◌, ℕ, ◌+◌, ◌-◌, ◌*◌, ◌/◌, ◌%◌, ◌∷◌, length, set, slice_index, subst}
-use Rattle.std.proofs.Common.{append_assoc, length-drop}
-use Rattle.std.proofs.Common.{List, [], ◌++◌, take, drop, Result, Ok, Err, refl, sym, ◌∙◌, ap, arith}
+use Rattle.std.proofs.Common.{append_assoc, length-drop, List, [], ◌++◌, take, drop, Result, Ok, Err, refl, sym, ◌∙◌}
+use Rattle.std.proofs.Common.{ap, arith}
 use Rattle.std.proofs.lemmas.List.{length-take-le, take-take, take_all, take-append-drop, take_at, take_more_set}
 use Rattle.std.specs.Prelude.{IsOk, OnOk}
 use Rattle.std.proofs.Math.Seq.{take-add}
@@ -60,7 +60,8 @@ on-value (Ok x) P is h = h
 on-value (Err e) P is h = cc is
 
 -- the digits of some bytes and of those behind them
-encode-whole : (bytes : List ℕ) (k : ℕ) → encode_lower (take k bytes) ++ encode_lower (drop k bytes) ≡ encode_lower bytes
+encode-whole : (bytes : List ℕ) (k : ℕ)
+    → encode_lower (take k bytes) ++ encode_lower (drop k bytes) ≡ encode_lower bytes
 encode-whole bytes k =
     sym (encode_with-append lower_digits (take k bytes) (drop k bytes)) ∙ ap encode_lower (take-append-drop k bytes)
 

@@ -1,6 +1,6 @@
 -- What a line means, case by case, and what is answered to it.
-use Rattle.std.proofs.Common.{◌≡◌, ◌≢◌, ◌≤◌, ◌<◌, ℕ, List, [], ◌∷◌, Bool, false, length, Option}
-use Rattle.std.proofs.Common.{Some, Result, Ok, Err, refl, sym, ◌∙◌, ap, subst, arith}
+use Rattle.std.proofs.Common.{◌≡◌, ◌≢◌, ◌≤◌, ◌<◌, ℕ, List, [], ◌∷◌, Bool, false, length, Option, Some, Result, Ok, Err}
+use Rattle.std.proofs.Common.{refl, sym, ◌∙◌, ap, subst, arith}
 use Rattle.std.proofs.lemmas.Bool.Decides.{nat_tests}
 use Rattle.sd_sink.proofs.laws.PrintLemmas.{printed}
 use Rattle.sd_sink.specs.Print.{Begins, Finishes, PrintTold}
@@ -10,8 +10,8 @@ use Rattle.sd_sink.specs.declared.sink.SinkFault.{SinkFault}
 use Rattle.sd_sid.specs.Sid.{SecurityId}
 use Rattle.sd_view.specs.Descriptor.{Descriptor}
 use Rattle.sd_token.specs.Token.{Compares, Holder, TokenShown}
-use Rattle.sd_answer.specs.Answer.{Meaning, answer, bound, is_error, line_limit}
-use Rattle.sd_answer.specs.Answer.{line_means, meaning, outcome_of_meaning, text_means}
+use Rattle.sd_answer.specs.Answer.{Meaning, answer, bound, is_error, line_limit, line_means, meaning}
+use Rattle.sd_answer.specs.Answer.{outcome_of_meaning, text_means}
 use Rattle.sd_answer.specs.Inner.Printing.{PrintsAnswer}
 use Rattle.sd_answer.specs.LineInHand.{PutsAnswer}
 use Rattle.sd_answer.specs.declared.fault.LineFault.{LineFault}
@@ -41,7 +41,8 @@ put-answered task holder line old new m result e h =
     (outcome_of_meaning task holder x).is_error result) (sym e) h
 
 -- an answer that is no `error` line and was put
-pub puts-answer : (old new : SinkTold) (text : List ℕ) (put : Result (Unit {0}) SinkFault) (result : Result Bool SinkFault)
+pub puts-answer : (old new : SinkTold) (text : List ℕ) (put : Result (Unit {0}) SinkFault)
+    (result : Result Bool SinkFault)
     → MatchResult put (λ _. result ≡ Ok false) (λ fault. result ≡ Err fault) → Puts old new text put
     → PutsAnswer old new text false result
 puts-answer old new text (Ok done) result is p = rw is (p, refl)

@@ -10,8 +10,7 @@ use Rattle.sd_sddl_reader.specs.SddlReading.{ReadsSddl}
 use Rattle.sd_sddl_builder.specs.declared.fault.SddlFault.{SddlFault}
 use Rattle.sd_sddl_reader.specs.declared.reader.SddlReader.{SddlReader}
 use Rattle.sd_answer.specs.Answer.{line_limit, or_byte_fault, or_sddl_fault, text_means}
-use Rattle.sd_answer.specs.Inner.Reading.{HasRead}
-use Rattle.sd_answer.specs.Inner.Reading.{Leaves}
+use Rattle.sd_answer.specs.Inner.Reading.{HasRead, Leaves}
 use Rattle.sd_answer.specs.LineInHand.{HoldsText}
 use Rattle.sd_answer.specs.declared.fault.LineFault.{LineFault}
 use Rattle.sd_answer.specs.declared.fault.LineFault.TheVariants.{Sd, Sddl}
@@ -39,7 +38,8 @@ sddl_leaves (Err e) (Err f) (Ok y) bytes h is = absurd is
 sddl_leaves (Err e) (Err f) (Err g) bytes h is = let same = h.0 in cc
 
 pub sddl-leaves : (job : Job) (line : Line) (s : SddlReader) (text : List ℕ) (r : Result (Unit {0}) SddlFault)
-    (x : Result (Unit {0}) LineFault) (bytes : List ℕ) → HoldsText job line text → length text ≤ line_limit job.line_form
+    (x : Result (Unit {0}) LineFault) (bytes : List ℕ) → HoldsText job line text
+    → length text ≤ line_limit job.line_form
     → line.reader ≡ reader.Sddl s
     → ((domain : Option SecurityId) (text : List ℕ) → ReadsSddl s line.read domain text
     → MatchResult (means text domain) (λ d. (r ≡ Ok tt) × Shows bytes d) (λ e. (r ≡ Err e) × (bytes ≡ [])))

@@ -1,6 +1,6 @@
 -- Worked rows of lines and answers, computed.
-use Rattle.std.proofs.Common.{◌≡◌, ◌∙◌, ℕ, ◌+◌, ◌*◌, ◌-◌, ◌/◌, ◌^◌, List, [], ◌∷◌, ◌++◌, Option, Some, None}
-use Rattle.std.proofs.Common.{Ok, Err, true, false, codes, ap, drop, length, min, refl, replicate, sym, arith}
+use Rattle.std.proofs.Common.{◌≡◌, ◌∙◌, ℕ, ◌+◌, ◌*◌, ◌-◌, ◌/◌, ◌^◌, List, [], ◌∷◌, ◌++◌, Option, Some, None, Ok, Err}
+use Rattle.std.proofs.Common.{true, false, codes, ap, drop, length, min, refl, replicate, sym, arith}
 use Rattle.std.specs.Fmt.{digits}
 use Rattle.std.specs.Prelude.{map}
 use Rattle.base64.proofs.OnLiterals.{base64_on_literals}
@@ -22,8 +22,8 @@ use Rattle.sd_parts.specs.Header.{header_bytes}
 use Rattle.sd_parts.specs.declared.part.Part.TheVariants as part
 use Rattle.sd_buffer.specs.Text.{base64_spells, hex_spells}
 use Rattle.sd_acl_view.specs.Bytes.{u16_at, u32_at}
-use Rattle.sd_view.specs.Reading.{acl_part_fault, acl_shown, fault, header_fault, overlap_fault}
-use Rattle.sd_view.specs.Reading.{overlaps_fault, parts_fault, reading, sid_fault, sid_shown}
+use Rattle.sd_view.specs.Reading.{acl_part_fault, acl_shown, fault, header_fault, overlap_fault, overlaps_fault}
+use Rattle.sd_view.specs.Reading.{parts_fault, reading, sid_fault, sid_shown}
 use Rattle.sd_view.specs.declared.fault.SdFault.TheVariants as sd
 use Rattle.sd_view.specs.declared.acl_part.AclPart.TheVariants as acl
 use Rattle.sd_view.specs.Descriptor.{Descriptor}
@@ -170,7 +170,8 @@ header_alone = codes "0100008000000000000000000000000000000000"
 -- everyone twice
 two_entries : Holder
 two_entries = record {
-  entries = (record { authority = 1; subs = 0 ∷ [] }, Enabled) ∷ (record { authority = 1; subs = 0 ∷ [] }, Enabled) ∷ [];
+  entries = (record { authority = 1; subs = 0 ∷ [] }, Enabled) ∷ (record { authority = 1; subs = 0 ∷ [] }, Enabled)
+      ∷ [];
   level = None;
 }
 

@@ -1,6 +1,6 @@
 -- The numbers that a caller sees, as include/sdtool.h writes them out, and what a number means.
-use Rattle.std.proofs.Common.{◌≡◌, inl, inr, ℕ, List, [], ◌∷◌, length, map, take, Some, None, Ok, Err, codes}
-use Rattle.std.proofs.Common.{refl, replicate, arith}
+use Rattle.std.proofs.Common.{◌≡◌, inl, inr, ℕ, List, [], ◌∷◌, length, map, take, Some, None, Ok, Err, codes, refl}
+use Rattle.std.proofs.Common.{replicate, arith}
 use Rattle.std.specs.List.{flat_map}
 use Rattle.sd_text.specs.Chains.{fault_as}
 use Rattle.sd_answer.specs.declared.fault.LineFault.TheVariants as line
@@ -11,8 +11,8 @@ use Rattle.sd_view.specs.Reading.{reading}
 use Rattle.sd_view.specs.declared.fault.SdFault.TheVariants as sd
 use Rattle.sd_call.specs.Arguments.{descriptor_in, domain_in, mapping_in, optional_sid_in, sid_in}
 use Rattle.sd_call.specs.FaultNames.{name_of}
-use Rattle.sd_call.specs.Outcomes.{Answers, AnswersWithin, Fills, Gives, Refused, argument_number, done, failed, no_memory}
-use Rattle.sd_call.specs.Outcomes.{number, part_number, too_small}
+use Rattle.sd_call.specs.Outcomes.{Answers, AnswersWithin, Fills, Gives, Refused, argument_number, done, failed}
+use Rattle.sd_call.specs.Outcomes.{no_memory, number, part_number, too_small}
 use Rattle.sd_call.specs.declared.outcome.Outcome.{Outcome}
 use Rattle.sd_call.specs.declared.argument.Argument.TheVariants as which
 use Rattle.sd_call.specs.declared.outcome.CallFault.TheVariants as call
@@ -96,7 +96,8 @@ cut_short : sid_in which.Group (1 ∷ 1 ∷ 0 ∷ 0 ∷ 0 ∷ 0 ∷ 0 ∷ 1 ∷ 
 unfolding sid_at
 cut_short = refl
 
-none_and_empty : (optional_sid_in which.Domain [] ≡ Ok None) × (sid_in which.Owner [] ≡ Err (call.Argument which.Owner 0))
+none_and_empty : (optional_sid_in which.Domain [] ≡ Ok None)
+    × (sid_in which.Owner [] ≡ Err (call.Argument which.Owner 0))
 unfolding optional_sid_in sid_at
 none_and_empty = (refl, refl)
 
@@ -104,7 +105,8 @@ domains : (domain_in [] ≡ Ok None) × (domain_in (1 ∷ []) ≡ Err (call.Argu
 unfolding optional_sid_in sid_at
 domains = (refl, refl)
 
--- The longest SID, of 15 sub-authorities, is a domain too: that it has no room for one more is no fault of the argument.
+-- The longest SID, of 15 sub-authorities, is a domain too: that it has no room for one more is no fault of the
+-- argument.
 abbrev longest_domain : List ℕ
 longest_domain = 1 ∷ 15 ∷ 0 ∷ 0 ∷ 0 ∷ 0 ∷ 0 ∷ 5 ∷ flat_map (λ n. n ∷ 0 ∷ 0 ∷ 0 ∷ [])
     (21 ∷ 2 ∷ 3 ∷ 4 ∷ 5 ∷ 6 ∷ 7 ∷ 8 ∷ 9 ∷ 10 ∷ 11 ∷ 12 ∷ 13 ∷ 14 ∷ 15 ∷ [])
@@ -176,7 +178,8 @@ stays_without_memory : (new : List ℕ) (outcome : Outcome) → Refused (0 ∷ 0
 stays_without_memory new outcome h = h
 
 -- After a fault the output stays.
-stays_after_a_fault : (new : List ℕ) (outcome : Outcome) → Answers (Err (call.Argument which.Sid 0)) (0 ∷ 0 ∷ []) new outcome
+stays_after_a_fault : (new : List ℕ) (outcome : Outcome)
+    → Answers (Err (call.Argument which.Sid 0)) (0 ∷ 0 ∷ []) new outcome
     → (outcome ≡ failed (call.Argument which.Sid 0)) × (new ≡ 0 ∷ 0 ∷ [])
 stays_after_a_fault new outcome h = h
 

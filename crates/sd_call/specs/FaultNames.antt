@@ -6,4 +6,5 @@ use Rattle.sd_call.specs.declared.outcome.CallFault.{CallFault}
 use Rattle.sd_call.specs.declared.outcome.CallFault.TheVariants as call
 
 unfoldable pub name_of : ℕ → Result (List ℕ) CallFault
-name_of number = if nat_eq (length (fault_name number)) 0 then Err (call.Argument which.Fault 0) else Ok (fault_name number)
+name_of number =
+    if nat_eq (length (fault_name number)) 0 then Err (call.Argument which.Fault 0) else Ok (fault_name number)

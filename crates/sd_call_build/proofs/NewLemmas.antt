@@ -1,6 +1,6 @@
 -- ACLs without an ACE that can't be.
-use Rattle.std.proofs.Common.{◌≡◌, ℕ, nat_lt, not, Bool, true, false, List, [], ◌∷◌, length, Option, Some, None, cond, refl}
-use Rattle.std.proofs.Common.{◌+◌, ◌&&◌, arith, eqb, suc}
+use Rattle.std.proofs.Common.{◌≡◌, ℕ, nat_lt, not, Bool, true, false, List, [], ◌∷◌, length, Option, Some, None, cond}
+use Rattle.std.proofs.Common.{refl, ◌+◌, ◌&&◌, arith, eqb, suc}
 use Rattle.std.proofs.lemmas.Bool.{ltb-false}
 use Rattle.std.proofs.lemmas.Bool.Decides.{nat_tests}
 use Rattle.std.proofs.lemmas.List.Sums.{AllPass-from_list_all}

@@ -1,4 +1,5 @@
--- What an ACE and a SID of a new descriptor can be, and what is built, by hand (MS-DTYP 2.4.4.1, 2.4.4.3, 2.4.2 and 2.4.6).
+-- What an ACE and a SID of a new descriptor can be, and what is built, by hand (MS-DTYP 2.4.4.1, 2.4.4.3, 2.4.2 and
+-- 2.4.6).
 use Rattle.std.proofs.Common.{◌≡◌, ℕ, List, [], ◌∷◌, ◌++◌, true, false, Some, None, Ok, Err, refl, arith}
 use Rattle.std.specs.Borrow.{Bor}
 use Rattle.sd_sid.specs.Sid.{sid_at}
@@ -151,7 +152,8 @@ object_aces = (refl, refl)
 -- The first ACE that can't be is told. So is any ACE of an ACL that is no list, and a state that is none.
 wrong : (wrong_ace (list (deny ∷ unknown ∷ unknown ∷ [])) ≡ Some 1) × (wrong_ace (list (deny ∷ [])) ≡ None)
     × (wrong_ace (record { aces = lent (deny ∷ []); state = 1 }) ≡ Some 0)
-    × (wrong_ace (record { aces = lent []; state = 1 }) ≡ None) × (wrong_ace (record { aces = lent []; state = 3 }) ≡ Some 0)
+    × (wrong_ace (record { aces = lent []; state = 1 }) ≡ None)
+    × (wrong_ace (record { aces = lent []; state = 3 }) ≡ Some 0)
 unfolding ace_in sid_at kind_of kind_code kind_entry
 wrong = (refl, refl, refl, refl, refl)
 
@@ -196,21 +198,22 @@ unfolding new_fault ace_in sid_at kind_of kind_code kind_entry
 entries = (refl, refl)
 
 -- 2.4.6: of the control word, SR and the bits for the ACLs are set as they have to be
-descriptor : new_descriptor (of_parts everyone system (record { aces = lent []; state = 0 }) (list (deny ∷ []))) ≡ record {
-  control = 0x9004;
-  rm = 0;
-  owner = Some (record { authority = 1; subs = 0 ∷ [] });
-  group = Some (record { authority = 5; subs = 18 ∷ [] });
-  sacl = acl.Absent;
-  dacl = acl.List (record {
-    kind = kinds.Deny;
-    flags = 2;
-    mask = 2;
-    object = None;
-    inherited = None;
-    sid = record { authority = 1; subs = 0 ∷ [] };
-  } ∷ []);
-}
+descriptor : new_descriptor (of_parts everyone system (record { aces = lent []; state = 0 }) (list (deny ∷ [])))
+    ≡ record {
+      control = 0x9004;
+      rm = 0;
+      owner = Some (record { authority = 1; subs = 0 ∷ [] });
+      group = Some (record { authority = 5; subs = 18 ∷ [] });
+      sacl = acl.Absent;
+      dacl = acl.List (record {
+        kind = kinds.Deny;
+        flags = 2;
+        mask = 2;
+        object = None;
+        inherited = None;
+        sid = record { authority = 1; subs = 0 ∷ [] };
+      } ∷ []);
+    }
 unfolding ace_in sid_at kind_of kind_code kind_entry
 descriptor = refl
 

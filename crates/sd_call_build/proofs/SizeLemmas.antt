@@ -1,6 +1,6 @@
 -- The ACEs that new ones spell, one more at a time.
-use Rattle.std.proofs.Common.{◌≡◌, ◌≤◌, ◌<◌, ◌+◌, ℕ, suc, List, [], ◌∷◌, ◌++◌, length, take, drop, get_or, map, Bool, ◌||◌}
-use Rattle.std.proofs.Common.{refl, sym, ap, ◌∙◌, arith, take-append-drop}
+use Rattle.std.proofs.Common.{◌≡◌, ◌≤◌, ◌<◌, ◌+◌, ℕ, suc, List, [], ◌∷◌, ◌++◌, length, take, drop, get_or, map, Bool}
+use Rattle.std.proofs.Common.{◌||◌, refl, sym, ap, ◌∙◌, arith, take-append-drop}
 use Rattle.std.proofs.Math.Seq.{take-suc}
 use Rattle.std.proofs.lemmas.List.{map-append}
 use Rattle.std.specs.List.{flat_map, list_any}
@@ -25,7 +25,8 @@ object_among [] = refl
 object_among (new ∷ others) = ap (λ (b : Bool). is_object (shown_ace new).kind || b) (object_among others)
 
 pub one_more_size : (news : List NewAce) (i : ℕ) (d : NewAce) → i < length news
-    → acl_size (map shown_ace (take (i + 1) news)) ≡ acl_size (map shown_ace (take i news)) + ace_size (shown_ace (get_or news i d))
+    → acl_size (map shown_ace (take (i + 1) news))
+    ≡ acl_size (map shown_ace (take i news)) + ace_size (shown_ace (get_or news i d))
 one_more_size news i d within =
     let next : i + 1 ≡ suc i = omega arith in
     let front : map shown_ace (take (i + 1) news) ≡ map shown_ace (take i news) ++ shown_ace (get_or news i d) ∷ [] =

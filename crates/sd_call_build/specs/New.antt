@@ -1,6 +1,6 @@
 -- What a new descriptor is built from, and the values that it spells.
-use Rattle.std.specs.Prelude.{◌≤◌, ◌<◌, ◌^◌, ℕ, map, nat_lt, ◌/◌, ◌%◌, ◌||◌, ◌&&◌, not, Bool, nat_eq, if◌then◌else◌, List, [], length}
-use Rattle.std.specs.Prelude.{Option, Some, None, is_some, unwrap_or}
+use Rattle.std.specs.Prelude.{◌≤◌, ◌<◌, ◌^◌, ℕ, map, nat_lt, ◌/◌, ◌%◌, ◌||◌, ◌&&◌, not, Bool, nat_eq, if◌then◌else◌}
+use Rattle.std.specs.Prelude.{List, [], length, Option, Some, None, is_some, unwrap_or}
 use Rattle.std.specs.List.{position}
 use Rattle.std.specs.Option.{option_and_then}
 use Rattle.uuid.specs.Parts.{swap_fields}

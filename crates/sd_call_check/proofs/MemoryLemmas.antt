@@ -1,6 +1,6 @@
 -- A token in memory.
-use Rattle.std.proofs.Common.{◌≡◌, ◌≤◌, ◌<◌, ℕ, ◌+◌, ◌-◌, ◌*◌, List, [], ◌∷◌, ◌++◌, length, take, drop, slice_index, slice_range, Result, Ok, Err}
-use Rattle.std.proofs.Common.{ap, refl, ◌∙◌, arith}
+use Rattle.std.proofs.Common.{◌≡◌, ◌≤◌, ◌<◌, ℕ, ◌+◌, ◌-◌, ◌*◌, List, [], ◌∷◌, ◌++◌, length, take, drop, slice_index}
+use Rattle.std.proofs.Common.{slice_range, Result, Ok, Err, ap, refl, ◌∙◌, arith}
 use Rattle.std.proofs.Math.ListN.{set}
 use Rattle.std.proofs.lemmas.Bool.{le-leb}
 use Rattle.std.proofs.lemmas.List.{drop-set-lt, get_or-set_other, get_or-set_same, length-set}
@@ -36,13 +36,15 @@ marked memory n few room =
     let counted = set memory 1 n in
     let now = set counted 0 the_mark in
     let long : length now ≡ length memory = length-set counted 0 the_mark ∙ length-set memory 1 n in
-    let first : slice_index now 0 ≡ the_mark = get_or-set_same counted 0 the_mark 0 (omega (arith, room, length-set memory 1 n)) in
+    let first : slice_index now 0 ≡ the_mark =
+    get_or-set_same counted 0 the_mark 0 (omega (arith, room, length-set memory 1 n)) in
     let second : slice_index now 1 ≡ n = get_or-set_other counted 0 1 the_mark 0 (λ e. omega (arith, e))
     ∙ get_or-set_same memory 1 n 0 (omega (arith, room)) in
     let behind : drop 2 now ≡ drop 2 memory = drop-set-lt 2 counted 0 the_mark (omega arith)
     ∙ drop-set-lt 2 memory 1 n (omega arith) in
     held_when now n first second few (omega (arith, long, room))
-    ∙ ap (λ (xs : List ℕ). let r : Result (List Entry) CallFault = Ok (entries_at n (take (token_size n - 2) xs)) in r) behind
+    ∙ ap (λ (xs : List ℕ). let r : Result (List Entry) CallFault = Ok (entries_at n (take (token_size n - 2) xs)) in r)
+    behind
 
 pub marked_behind : (memory : List ℕ) (n k : ℕ) → drop (2 + k) (set (set memory 1 n) 0 the_mark) ≡ drop (2 + k) memory
 marked_behind memory n k =

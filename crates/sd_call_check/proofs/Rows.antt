@@ -1,5 +1,6 @@
 -- Tokens and verdicts as a caller spells and sees them, by hand from include/sdtool.h.
-use Rattle.std.proofs.Common.{◌≡◌, inl, inr, [], ◌∷◌, ◌++◌, true, false, Some, None, Ok, Err, length, take, ap, refl, replicate}
+use Rattle.std.proofs.Common.{◌≡◌, inl, inr, [], ◌∷◌, ◌++◌, true, false, Some, None, Ok, Err, length, take, ap, refl}
+use Rattle.std.proofs.Common.{replicate}
 use Rattle.std.specs.Prelude.{List, ℕ}
 use Rattle.sd_rights.specs.Mapping.{file_mapping, key_mapping, mapped}
 use Rattle.sd_sid.specs.Sid.{sid_at}
@@ -53,7 +54,8 @@ most_sids : (sids kinds : List ℕ) → length kinds ≡ 1024 → entries_in sid
 unfolding entries_in
 most_sids sids kinds h = rw h refl
 
-one_sid_more : (sids kinds : List ℕ) → length kinds ≡ 1025 → entries_in sids kinds ≡ Err (call.Argument which.Entries 1024)
+one_sid_more : (sids kinds : List ℕ) → length kinds ≡ 1025
+    → entries_in sids kinds ≡ Err (call.Argument which.Entries 1024)
 unfolding entries_in
 one_sid_more sids kinds h = rw h refl
 
@@ -144,7 +146,8 @@ order : (asker_in [] (2 ∷ []) (0 ∷ []) (0 ∷ []) (record request { mapping 
 unfolding asker_in entries_in ask_in object_in optional_sid_in sid_at
 order = (refl, refl, refl, refl, refl, refl)
 
--- The descriptor is looked at last, whatever its bytes are: with the asker of `asker`, and behind what is wrong with it.
+-- The descriptor is looked at last, whatever its bytes are: with the asker of `asker`, and behind what is wrong with
+-- it.
 descriptor_last : (bytes : List ℕ)
     → (checked bytes [] (2 ∷ []) [] [] (record request { wanted = 0 }) ≡ Err (call.Argument which.Entries 0))
     × (checked bytes [] [] [] [] (record request { wanted = 0 }) ≡ Err (call.Ask EmptyRequest))

@@ -18,8 +18,8 @@ use Rattle.sd_answer.specs.declared.fault.LineFault.TheVariants as line
 use Rattle.sd_call.specs.Arguments.{descriptor_in, optional_sid_in}
 use Rattle.sd_call.specs.declared.argument.Argument.TheVariants as which
 use Rattle.sd_call.specs.declared.outcome.CallFault.TheVariants as call
-use Rattle.sd_call_convert.specs.Conversions.{domain_for, explained, from_sddl, laid_out, named_in, normalized, read_under}
-use Rattle.sd_call_convert.specs.Conversions.{text_in, to_sddl}
+use Rattle.sd_call_convert.specs.Conversions.{domain_for, explained, from_sddl, laid_out, named_in, normalized}
+use Rattle.sd_call_convert.specs.Conversions.{read_under, text_in, to_sddl}
 
 -- The domain is looked at before the descriptor, and before the length of a text.
 domain_first : (to_sddl [] (1 ∷ []) false ≡ Err (call.Argument which.Domain 0))
@@ -32,7 +32,8 @@ no_domain : domain_for (codes "O:BA") [] ≡ Ok None
 unfolding optional_sid_in read_under
 no_domain = refl
 
-short : (to_sddl [] [] false ≡ Err (call.Line (line.Sd sd.Short))) × (normalized [] ≡ Err (call.Line (line.Sd sd.Short)))
+short : (to_sddl [] [] false ≡ Err (call.Line (line.Sd sd.Short)))
+    × (normalized [] ≡ Err (call.Line (line.Sd sd.Short)))
 unfolding named_in optional_sid_in descriptor_in reading fault header_fault
 short = (refl, refl)
 
@@ -41,18 +42,21 @@ abbrev header : List ℕ
 header = 1 ∷ 0xff ∷ 0 ∷ 0x80 ∷ 0 ∷ 0 ∷ 0 ∷ 0 ∷ 0 ∷ 0 ∷ 0 ∷ 0 ∷ 0 ∷ 0 ∷ 0 ∷ 0 ∷ 0 ∷ 0 ∷ 0 ∷ 0 ∷ []
 
 layout_of_header : normalized header ≡ Ok header
-unfolding descriptor_in reading fault header_fault parts_fault sid_fault sid_shown acl_part_fault acl_shown overlaps_fault
+unfolding descriptor_in reading fault header_fault parts_fault sid_fault sid_shown acl_part_fault acl_shown
+    overlaps_fault
     overlap_fault u16_at u32_at header_bytes
 layout_of_header = refl
 
 no_text : to_sddl header [] false ≡ Ok []
-unfolding named_in optional_sid_in descriptor_in reading fault header_fault parts_fault sid_fault sid_shown acl_part_fault
+unfolding named_in optional_sid_in descriptor_in reading fault header_fault parts_fault sid_fault sid_shown
+    acl_part_fault
     acl_shown overlaps_fault overlap_fault u16_at u32_at sddl owner_text group_text dacl_text sacl_text
 no_text = refl
 
 explained_header : explained header [] false
     ≡ Ok (codes "control 0x8000 SR\nrm 0xff\nowner none\ngroup none\ndacl absent\nsacl absent\nend\n")
-unfolding named_in optional_sid_in descriptor_in reading fault header_fault parts_fault sid_fault sid_shown acl_part_fault
+unfolding named_in optional_sid_in descriptor_in reading fault header_fault parts_fault sid_fault sid_shown
+    acl_part_fault
     acl_shown overlaps_fault overlap_fault u16_at u32_at explain control_line rm_line sid_line
 explained_header = refl
 
@@ -81,7 +85,8 @@ unfolding named_in optional_sid_in descriptor_in
 too_many_bytes bytes h = (rw h refl, rw h refl, rw h refl)
 
 -- The empty text is a descriptor without parts.
-empty_text : from_sddl [] [] ≡ Ok (1 ∷ 0 ∷ 0 ∷ 0x80 ∷ 0 ∷ 0 ∷ 0 ∷ 0 ∷ 0 ∷ 0 ∷ 0 ∷ 0 ∷ 0 ∷ 0 ∷ 0 ∷ 0 ∷ 0 ∷ 0 ∷ 0 ∷ 0 ∷ [])
+empty_text : from_sddl [] []
+    ≡ Ok (1 ∷ 0 ∷ 0 ∷ 0x80 ∷ 0 ∷ 0 ∷ 0 ∷ 0 ∷ 0 ∷ 0 ∷ 0 ∷ 0 ∷ 0 ∷ 0 ∷ 0 ∷ 0 ∷ 0 ∷ 0 ∷ 0 ∷ 0 ∷ [])
 unfolding optional_sid_in read_under means body_reads header_bytes
 empty_text = refl
 

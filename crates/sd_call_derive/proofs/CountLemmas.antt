@@ -1,6 +1,6 @@
 -- No ACL of a new descriptor has more ACEs than 65,535 bytes have room for.
-use Rattle.std.proofs.Common.{◌≡◌, ◌≤◌, ◌<◌, ◌^◌, ℕ, nat_lt, Bool, true, false, ◌||◌, if◌then◌else◌, List, [], ◌∷◌, length}
-use Rattle.std.proofs.Common.{Option, Some, None, Ok, Err, refl, sym, subst, arith}
+use Rattle.std.proofs.Common.{◌≡◌, ◌≤◌, ◌<◌, ◌^◌, ℕ, nat_lt, Bool, true, false, ◌||◌, if◌then◌else◌, List, [], ◌∷◌}
+use Rattle.std.proofs.Common.{length, Option, Some, None, Ok, Err, refl, sym, subst, arith}
 use Rattle.std.proofs.lemmas.Bool.Decides.{nat_tests}
 use Rattle.sd_ace.specs.Ace.{AccessControlEntry}
 use Rattle.sd_acl_view.proofs.laws.AclLayoutSizes.{aces-many}
@@ -9,7 +9,8 @@ use Rattle.sd_parts.specs.declared.part.Which.TheVariants.{Sacl, Dacl}
 use Rattle.sd_view.specs.Descriptor.{Descriptor}
 use Rattle.sd_view.specs.declared.acl_part.AclPart.{AclPart}
 use Rattle.sd_view.specs.declared.acl_part.AclPart.TheVariants as acl
-use Rattle.sd_inherit.specs.Derived.{creators_acl, dacl_beside, derive_fault, derived, is_too_large, new_aces, sacl_beside}
+use Rattle.sd_inherit.specs.Derived.{creators_acl, dacl_beside, derive_fault, derived, is_too_large, new_aces}
+use Rattle.sd_inherit.specs.Derived.{sacl_beside}
 use Rattle.sd_inherit.specs.Origins.{ace_counts, aces_in, counts_or, origins_answer}
 use Rattle.sd_inherit.specs.declared.derivation.DeriveFault.{DeriveFault}
 use Rattle.sd_inherit.specs.declared.origin.AceCounts.{AceCounts}
@@ -46,7 +47,8 @@ of_dacl acl.Absent aces = omega arith
 of_dacl acl.Null aces = omega arith
 of_dacl (acl.List others) aces = omega arith
 
-room_missing : (b : Bool) (told counts : AceCounts) → (if b then Err (TooSmall told) else Ok told) ≡ Err (TooSmall counts)
+room_missing : (b : Bool) (told counts : AceCounts)
+    → (if b then Err (TooSmall told) else Ok told) ≡ Err (TooSmall counts)
     → told ≡ counts
 room_missing true told counts h = cc
 room_missing false told counts h = absurd cc
@@ -60,7 +62,8 @@ module _ (d : Descriptor) (creator : Option Descriptor) (plan : Plan) where
   few_derived : derive_fault d creator plan ≡ None → AreFew (ace_counts (derived d creator plan))
   unfolding derive_fault derived
   few_derived h =
-      let fit = both_pass (is_too_large (new_aces Sacl d creator plan)) (is_too_large (new_aces Dacl d creator plan)) _ _ h in
+      let fit = both_pass (is_too_large (new_aces Sacl d creator plan)) (is_too_large (new_aces Dacl d creator plan)) _
+      _ h in
       let sacl = few (new_aces Sacl d creator plan) fit.0 in
       let dacl = few (new_aces Dacl d creator plan) fit.1 in
       let told_sacl = of_sacl (creators_acl Sacl creator) (new_aces Sacl d creator plan) in

@@ -43,7 +43,8 @@ unfolding creator_in descriptor_in reading fault header_fault
 wrong_creator = refl
 
 -- SDTOOL_MOST_BYTES: one byte more is no descriptor, whatever the bytes are
-creator_of_too_many_bytes : (bytes : List ℕ) → length bytes ≡ 131227 → creator_in bytes ≡ Err (call.Argument which.Creator 0)
+creator_of_too_many_bytes : (bytes : List ℕ) → length bytes ≡ 131227
+    → creator_in bytes ≡ Err (call.Argument which.Creator 0)
 unfolding creator_in descriptor_in
 creator_of_too_many_bytes bytes h = rw h refl
 

@@ -1,6 +1,6 @@
 -- Verdicts that are written one after the other.
-use Rattle.std.proofs.Common.{◌≡◌, ◌<◌, ◌+◌, ℕ, suc, zero, List, [], ◌∷◌, ◌++◌, length, take, drop, get_or, map, Result, Ok, Err, refl, sym, inl, ◌≤◌, ap, ◌∙◌}
-use Rattle.std.proofs.Common.{append_assoc, arith}
+use Rattle.std.proofs.Common.{◌≡◌, ◌<◌, ◌+◌, ℕ, suc, zero, List, [], ◌∷◌, ◌++◌, length, take, drop, get_or, map, Result}
+use Rattle.std.proofs.Common.{Ok, Err, refl, sym, inl, ◌≤◌, ap, ◌∙◌, append_assoc, arith}
 use Rattle.std.proofs.Math.ListN.{set}
 use Rattle.std.proofs.lemmas.List.{drop_more, length-map, length-take, map_more, set_at}
 use Rattle.sd_token.specs.Token.{Holder}
@@ -42,10 +42,12 @@ as_by_itself sids kinds object principal_self request holder ask e d = rw e refl
 
 map_same : (f g : Bytes → VerdictOutcome) → ((d : Bytes) → f d ≡ g d) → (ds : List Bytes) → map f ds ≡ map g ds
 map_same f g same [] = refl
-map_same f g same (d ∷ ds) = ap (λ (v : VerdictOutcome). v ∷ map f ds) (same d) ∙ ap (λ (vs : List VerdictOutcome). g d ∷ vs) (map_same f g same ds)
+map_same f g same (d ∷ ds) = ap (λ (v : VerdictOutcome). v ∷ map f ds) (same d)
+    ∙ ap (λ (vs : List VerdictOutcome). g d ∷ vs) (map_same f g same ds)
 
 pub answered : (ds : List Bytes) (sids kinds object principal_self : List ℕ) (request : Request) (holder : Holder)
-    (ask : Asked) (old new : List VerdictOutcome) (outcome : Outcome) → asker_in sids kinds object principal_self request ≡ Ok (holder, ask) → outcome ≡ done (length ds)
+    (ask : Asked) (old new : List VerdictOutcome) (outcome : Outcome)
+    → asker_in sids kinds object principal_self request ≡ Ok (holder, ask) → outcome ≡ done (length ds)
     → new ≡ map (judged_by holder ask) ds ++ drop (length ds) old
     → Judges ds (judged sids kinds object principal_self request) (asker_in sids kinds object principal_self request)
     old new outcome

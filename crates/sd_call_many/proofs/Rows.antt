@@ -92,6 +92,7 @@ room_for_one d other sids kinds object self request new outcome h = h.short (ome
 
 judged_where_it_fits : (d : Bytes) (sids kinds object self : List ℕ) (request : Request) (new : List VerdictOutcome)
     (outcome : Outcome) → AnswersMany (d ∷ []) sids kinds object self request (denied ∷ []) new outcome
-    → Judges (d ∷ []) (judged sids kinds object self request) (asker_in sids kinds object self request) (denied ∷ []) new
+    → Judges (d ∷ []) (judged sids kinds object self request) (asker_in sids kinds object self request) (denied ∷ [])
+    new
     outcome ⊎ JudgesNone (asker_in sids kinds object self request) (denied ∷ []) new outcome
 judged_where_it_fits d sids kinds object self request new outcome h = h.fits (omega arith)

@@ -64,12 +64,14 @@ second = record start {
 }
 
 begins : next acl start ≡ Ok (Some first)
-unfolding next begins_with_header front_found sid_at u16_at u32_at ace_fault extent_fault kind_of sid_offset_in kind_in kind_code object_in
+unfolding next begins_with_header front_found sid_at u16_at u32_at ace_fault extent_fault kind_of sid_offset_in kind_in
+    kind_code object_in
     inherited_in kind_entry guid_if announces_object announces_inherited
 begins = refl
 
 goes_on : next acl first ≡ Ok (Some second)
-unfolding next begins_with_header front_found sid_at u16_at u32_at ace_fault extent_fault kind_of sid_offset_in kind_in kind_code object_in
+unfolding next begins_with_header front_found sid_at u16_at u32_at ace_fault extent_fault kind_of sid_offset_in kind_in
+    kind_code object_in
     inherited_in kind_entry guid_if announces_object announces_inherited
 goes_on = refl
 
@@ -184,7 +186,8 @@ no_parts = nothing_but 0 0 0
 
 -- `unfolding computed` lets `refl` compute what is in a descriptor
 computed : Unit {0}
-unfolding descriptor_in reading fault header_fault parts_fault sid_fault sid_shown sid_at acl_part_fault acl_shown acl_fault
+unfolding descriptor_in reading fault header_fault parts_fault sid_fault sid_shown sid_at acl_part_fault acl_shown
+    acl_fault
     aces_fault aces_of ace_fault extent_fault overlaps_fault overlap_fault u16_at u32_at kind_in kind_of kind_code
     kind_entry sid_offset_in object_in inherited_in guid_if announces_object announces_inherited
 computed = tt

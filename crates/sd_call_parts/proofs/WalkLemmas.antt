@@ -15,7 +15,8 @@ pub same_place : (number offset : ℕ) (extent : List ℕ)
     ≡ front_found number offset (drop offset extent)
 same_place number offset extent = elim (cases_Bool (nat_lt (length extent) offset)) [
   | inl past ↦
-      let none : drop offset extent ≡ [] = drop_all offset extent (omega (arith, ltb-true (length extent) offset past)) in
+      let none : drop offset extent ≡ [] =
+      drop_all offset extent (omega (arith, ltb-true (length extent) offset past)) in
       rw none (behind_all number (length extent - 0) offset)
   | inr within ↦
       let place : length extent - length (drop offset extent) ≡ offset =

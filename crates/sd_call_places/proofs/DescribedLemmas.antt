@@ -1,6 +1,6 @@
 -- Sentences are short, and what a condition leaves of their texts.
-use Rattle.std.proofs.Common.{◌≡◌, ◌≤◌, ◌∙◌, ℕ, ◌+◌, List, [], ◌++◌, codes, length, nat_lt, if◌then◌else◌}
-use Rattle.std.proofs.Common.{Option, Some, ap, sym, arith, length-append}
+use Rattle.std.proofs.Common.{◌≡◌, ◌≤◌, ◌∙◌, ℕ, ◌+◌, List, [], ◌++◌, codes, length, nat_lt, if◌then◌else◌, Option, Some}
+use Rattle.std.proofs.Common.{ap, sym, arith, length-append}
 use Rattle.std.proofs.lemmas.Bool.{eq-eqb, le-ltb, ne_eqb}
 use Rattle.std.specs.Fmt.{decimal}
 use Rattle.sd_text.specs.Limits.{most_sddl_text}
@@ -34,7 +34,8 @@ sentence-short a b c ha hb hc = omega (arith, ha, hb, hc, length-append a b, len
 pub of-part : (o : Option Part) (p : Part) (ace : ℕ) → o ≡ Some p → ace ≡ 0xffff_ffff
     → (codes ", " ++ part_words p) ≡ holder_text o ace
 of-part o p ace is none =
-    ap (λ b. if b then codes ", " ++ part_words p else codes ", ACE " ++ decimal (ace + 1) ++ codes " of " ++ part_words p)
+    ap (λ b. if b then codes ", " ++ part_words p else codes ", ACE " ++ decimal (ace + 1) ++ codes " of "
+    ++ part_words p)
     (sym (eq-eqb ace 0xffff_ffff none))
     ∙ ap (λ w. holder_text w ace) (sym is)
 
@@ -42,7 +43,8 @@ of-part o p ace is none =
 pub of-ace : (o : Option Part) (p : Part) (ace : ℕ) → o ≡ Some p → (ace ≡ 0xffff_ffff → ⊥)
     → (codes ", ACE " ++ decimal (ace + 1) ++ codes " of " ++ part_words p) ≡ holder_text o ace
 of-ace o p ace is some =
-    ap (λ b. if b then codes ", " ++ part_words p else codes ", ACE " ++ decimal (ace + 1) ++ codes " of " ++ part_words p)
+    ap (λ b. if b then codes ", " ++ part_words p else codes ", ACE " ++ decimal (ace + 1) ++ codes " of "
+    ++ part_words p)
     (sym (ne_eqb ace 0xffff_ffff some))
     ∙ ap (λ w. holder_text w ace) (sym is)
 

@@ -1,7 +1,7 @@
 -- What a fault and its place are in a sentence.
 use Rattle.std.specs.Fmt.{decimal}
-use Rattle.std.specs.Prelude.{ℕ, ◌+◌, nat_eq, nat_lt, if◌then◌else◌, List, [], ◌++◌, length, codes}
-use Rattle.std.specs.Prelude.{Option, Some, None, Result, Ok, Err}
+use Rattle.std.specs.Prelude.{ℕ, ◌+◌, nat_eq, nat_lt, if◌then◌else◌, List, [], ◌++◌, length, codes, Option, Some, None}
+use Rattle.std.specs.Prelude.{Result, Ok, Err}
 use Rattle.sd_text.specs.Limits.{most_sddl_text}
 use Rattle.sd_parts.specs.declared.part.Part.{Part}
 use Rattle.sd_parts.specs.declared.part.Part.TheVariants as part
@@ -85,7 +85,8 @@ place_text place =
 -- the place of this fault; one of another fault, or behind the longest text that there is, does not count
 abbrev pub place_text_of : ℕ → PlaceTold → List ℕ
 place_text_of number place =
-    if nat_eq place.fault number then (if nat_lt most_sddl_text place.place.offset then [] else place_text place) else []
+    if nat_eq place.fault number
+    then (if nat_lt most_sddl_text place.place.offset then [] else place_text place) else []
 
 -- 4. The sentence.
 
@@ -97,4 +98,5 @@ sentence outcome place =
 -- for each fault that has a name
 abbrev pub described : Outcome → PlaceTold → Result (List ℕ) CallFault
 described outcome place =
-    if nat_eq (length (fault_name outcome.fault)) 0 then Err (call.Argument which.Fault 0) else Ok (sentence outcome place)
+    if nat_eq (length (fault_name outcome.fault)) 0 then Err (call.Argument which.Fault 0)
+    else Ok (sentence outcome place)

@@ -1,7 +1,7 @@
 -- The words of a command line, from the front.
-use Rattle.std.proofs.Common.{◌≡◌, ◌≢◌, ◌<◌, ◌+◌, ◌==◌, ◌&&◌, ℕ, zero, suc, List, [], ◌∷◌, ◌++◌, length, take, drop, get_or, Bool}
-use Rattle.std.proofs.Common.{true, false, Option, Some, None, refl, sym, ap, ◌∙◌, arith, add-one, append_assoc, append-nil}
-use Rattle.std.proofs.Common.{if◌then◌else◌, rules, inl, inr, ◌-◌, length-drop, codes}
+use Rattle.std.proofs.Common.{◌≡◌, ◌≢◌, ◌<◌, ◌+◌, ◌==◌, ◌&&◌, ℕ, zero, suc, List, [], ◌∷◌, ◌++◌, length, take, drop}
+use Rattle.std.proofs.Common.{get_or, Bool, true, false, Option, Some, None, refl, sym, ap, ◌∙◌, arith, add-one}
+use Rattle.std.proofs.Common.{append_assoc, append-nil, if◌then◌else◌, rules, inl, inr, ◌-◌, length-drop, codes}
 use Rattle.std.proofs.lemmas.Bool.{cases_Bool}
 use Rattle.std.proofs.lemmas.List.{take_all}
 use Rattle.std.proofs.lemmas.Str.{IsUtf8-from_is_utf8, is_utf8-from_IsUtf8}
@@ -16,7 +16,8 @@ after_nul None = refl
 after_nul (Some words) = refl
 
 into_word : (b : ℕ) (word : Text) (rest : Option (List Text)) → (b == 0) ≡ false
-    → byte_before b (option_map (λ (ws : List Text). word ∷ ws) rest) ≡ option_map (λ (ws : List Text). (b ∷ word) ∷ ws) rest
+    → byte_before b (option_map (λ (ws : List Text). word ∷ ws) rest)
+    ≡ option_map (λ (ws : List Text). (b ∷ word) ∷ ws) rest
 into_word b word None h = refl
 into_word b word (Some words) h = rw h
 
@@ -56,7 +57,8 @@ if_words word words false = refl
 
 -- a first word that is a text, and one that is none
 text-first : (word : Text) (rest : Option (List Text)) → is_utf8 word ≡ true
-    → if_texts (option_map (λ (ws : List Text). word ∷ ws) rest) ≡ option_map (λ (ws : List Text). word ∷ ws) (if_texts rest)
+    → if_texts (option_map (λ (ws : List Text). word ∷ ws) rest)
+    ≡ option_map (λ (ws : List Text). word ∷ ws) (if_texts rest)
 text-first word None h = refl
 text-first word (Some words) h = rw h (if_words word words (list_all is_utf8 words))
 
@@ -71,7 +73,8 @@ is-no-utf8 bytes h = elim (cases_Bool (is_utf8 bytes)) [
   | inr is_false ↦ is_false
 ]
 
-behind : (bytes : List ℕ) (n most : ℕ) → most ≡ length bytes - (n + 1) → take most (drop (n + 1) bytes) ≡ drop (suc n) bytes
+behind : (bytes : List ℕ) (n most : ℕ) → most ≡ length bytes - (n + 1)
+    → take most (drop (n + 1) bytes) ≡ drop (suc n) bytes
 behind bytes n most all =
     take_all most (drop (n + 1) bytes) (omega (arith, length-drop (n + 1) bytes))
     ∙ ap (λ (k : ℕ). drop k bytes) (add-one n)
@@ -97,7 +100,8 @@ reads-no-word bytes rest words reads some before =
     (no-word rest some before)
 
 pub reads-no-text : (bytes rest : List ℕ) (words : List Text) (n : ℕ) → Reads bytes words rest → n < length rest
-    → get_or rest n 0 ≡ 0 → ((k : ℕ) → k < n → get_or rest k 0 ≢ 0) → ¬ (IsUtf8 (take n rest)) → command_words bytes ≡ None
+    → get_or rest n 0 ≡ 0 → ((k : ℕ) → k < n → get_or rest k 0 ≢ 0) → ¬ (IsUtf8 (take n rest))
+    → command_words bytes ≡ None
 reads-no-text bytes rest words n reads within at before not_text =
     reads ∙ ap (λ (r : Option (List Text)). option_map (λ (ws : List Text). words ++ ws) r)
     (ap if_texts (first-word rest n within at before)

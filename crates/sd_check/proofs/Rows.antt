@@ -335,7 +335,8 @@ unfolding computed owner_rights user ace descriptor files asked held
 denied_owner_rights = refl
 
 object_type : List ℕ
-object_type = 0xba ∷ 0x7a ∷ 0x96 ∷ 0xbf ∷ 0xe6 ∷ 0x0d ∷ 0xd0 ∷ 0x11 ∷ 0xa2 ∷ 0x85 ∷ 0 ∷ 0xaa ∷ 0 ∷ 0x30 ∷ 0x49 ∷ 0xe2 ∷ []
+object_type = 0xba ∷ 0x7a ∷ 0x96 ∷ 0xbf ∷ 0xe6 ∷ 0x0d ∷ 0xd0 ∷ 0x11 ∷ 0xa2 ∷ 0x85 ∷ 0 ∷ 0xaa ∷ 0 ∷ 0x30 ∷ 0x49 ∷ 0xe2
+    ∷ []
 
 -- an ACE of that type
 typed : AceKind → ℕ → SecurityId → AccessControlEntry
@@ -358,7 +359,8 @@ nobodys_rights = refl
 of_type : Asked → Asked
 of_type ask = record ask { object = Some object_type }
 
-object_ace_without_a_type : to_everyone (ace kinds.ObjectAllow 0 0x100 everyone ∷ []) (asked 0x100 false) ≡ Granted 0x100
+object_ace_without_a_type : to_everyone (ace kinds.ObjectAllow 0 0x100 everyone ∷ []) (asked 0x100 false)
+    ≡ Granted 0x100
 unfolding computed everyone ace descriptor files asked held of_everyone to_everyone
 object_ace_without_a_type = refl
 
@@ -581,14 +583,16 @@ by_privilege : (with_privileges (acl.List (ace kinds.Deny 0 0x10f0000 everyone �
 unfolding computed everyone user ace descriptor files asked of_user user_at privileged with_privileges
 by_privilege = (refl, refl)
 
--- below the label: what it takes, it takes also from an owner, a privilege and a null DACL, and if nothing would grant it
+-- below the label: what it takes, it takes also from an owner, a privilege and a null DACL, and if nothing would grant
+-- it
 
 below : List AccessControlEntry → AclPart → List ℕ → List Reason
 below labels dacl rights =
     map (λ right. reason_of right (of_user labels dacl) (user_at (Some 8191)) (privileged (asked 0x4 false))) rights
 
 high_label : List AccessControlEntry
-high_label = ace kinds.Audit 0 1 everyone ∷ ace kinds.Label 8 1 (level_sid 16384) ∷ ace kinds.Label 0 1 (level_sid 12288)
+high_label = ace kinds.Audit 0 1 everyone ∷ ace kinds.Label 8 1 (level_sid 16384)
+    ∷ ace kinds.Label 0 1 (level_sid 12288)
     ∷ ace kinds.Label 0 7 (level_sid 16384) ∷ []
 
 label_comes_first : (below high_label acl.Null (0 ∷ 1 ∷ 17 ∷ 18 ∷ 19 ∷ 24 ∷ [])

@@ -11,8 +11,8 @@ use Rattle.sd_check.specs.Acl.{listed_aces}
 use Rattle.sd_check.specs.Ask.{AreRights, Asked}
 use Rattle.sd_check.specs.Granted.{decides, granted, is_allowed, is_open, is_owned, needs_no_ace}
 use Rattle.sd_check.specs.Need.{check_bound, in_question, least, need, owner_matters}
-use Rattle.sd_check.specs.Inner.Scan.{HasGranted, asks_owner, left_mask, permitted_mask, question_of}
-use Rattle.sd_check.specs.Inner.Scan.{scan_need, undecided_of, without_ace_mask}
+use Rattle.sd_check.specs.Inner.Scan.{HasGranted, asks_owner, left_mask, permitted_mask, question_of, scan_need}
+use Rattle.sd_check.specs.Inner.Scan.{undecided_of, without_ace_mask}
 use Rattle.sd_check.specs.Label.{is_left, is_lower, label, label_allows}
 use Rattle.sd_check.specs.declared.label.Label.{Label}
 use Rattle.sd_check.specs.Verdict.{missing, verdict, won}
@@ -179,7 +179,8 @@ carries-permitted d h ask right below = by (is_lower h.level (label d))
     by true = carries-left (label d) ask.mapping right below
     by false = all ∙ any (eqb right 24)
 
-pub carries-undecided : (d : Descriptor) (h : Holder) (ask : Asked) → question_of ask < 2 ^ 25 → (right : ℕ) → right < 25
+pub carries-undecided : (d : Descriptor) (h : Holder) (ask : Asked) → question_of ask < 2 ^ 25 → (right : ℕ)
+    → right < 25
     → carries (undecided_of d h ask) right
     ≡ ((in_question right ask && (eqb right 24 || label_allows right d h ask))
     && not (cond (eqb right 24) ask.security (needs_no_ace right d h.entries ask) || eqb right 24))
@@ -200,7 +201,8 @@ carries-undecided d h ask limit right below =
       security_bit right below,
     )
     (and_both (in_question right ask) _ _ _
-    (λ asked. ap (λ (b : Bool). not (b || eqb right 24)) (carries-without_ace d h.entries ask right below (owner_asked ask right asked))))
+    (λ asked. ap (λ (b : Bool). not (b || eqb right 24))
+    (carries-without_ace d h.entries ask right below (owner_asked ask right asked))))
 
 -- 3. The rights in question that are granted.
 
@@ -223,7 +225,8 @@ IsScanned d h ask m =
     (right : ℕ) → carries m right ≡ (carries (undecided_of d h ask) right && is_allowed right d h.entries ask)
 
 pub granted_bit : (d : Descriptor) (h : Holder) (ask : Asked) (m : ℕ) → AreRights ask → IsScanned d h ask m
-    → HasGranted d h ask (bit_and (bit_or (without_ace_mask (question_of ask) d h.entries ask) m) (permitted_mask d h ask))
+    → HasGranted d h ask (bit_and (bit_or (without_ace_mask (question_of ask) d h.entries ask) m)
+    (permitted_mask d h ask))
 unfolding granted
 granted_bit d h ask m narrow scanned right below asked =
     let without_ace = without_ace_mask (question_of ask) d h.entries ask in

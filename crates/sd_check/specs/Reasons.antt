@@ -1,7 +1,7 @@
 -- Why a right is granted or denied: one right by itself, in the order of the definition of what is granted (MS-DTYP
 -- 2.5.3.2).
-use Rattle.std.specs.Prelude.{◌≡◌, ◌<◌, ℕ, ◌==◌, Bool, true, false, not, ◌&&◌, ◌||◌, if◌then◌else◌, List, length}
-use Rattle.std.specs.Prelude.{map, take, slice_get, Option, Some}
+use Rattle.std.specs.Prelude.{◌≡◌, ◌<◌, ℕ, ◌==◌, Bool, true, false, not, ◌&&◌, ◌||◌, if◌then◌else◌, List, length, map}
+use Rattle.std.specs.Prelude.{take, slice_get, Option, Some}
 use Rattle.std.specs.List.{find, list_any, position, range_with_len}
 use Rattle.sd_ace.specs.Ace.{AccessControlEntry}
 use Rattle.sd_kinds.specs.declared.kinds.AceKind.{AceKind}
@@ -59,7 +59,8 @@ grants other = false
 
 -- The ACE at this place among all ACEs of the DACL decides the right, and none before it does. It is of a kind that
 -- grants or denies.
-pub record DecidesFirst (right : ℕ) (d : Descriptor) (token : List Entry) (ask : Asked) (of_kind : AceKind → Bool) (place : ℕ)
+pub record DecidesFirst (right : ℕ) (d : Descriptor) (token : List Entry) (ask : Asked) (of_kind : AceKind → Bool)
+    (place : ℕ)
     : Type 0 where
   pub ace : AccessControlEntry
   pub here : slice_get (listed_aces d.dacl) place ≡ Some ace

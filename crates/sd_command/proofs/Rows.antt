@@ -280,7 +280,8 @@ maximum : settings_of (of_everyone (codes "--maximum" ∷ [])) ≡ Ok (asks (rec
 unfolding settled_words check_with of_everyone
 maximum = refl
 
-maximum_by_its_bit : settings_of (of_everyone (codes "--want" ∷ codes "0x2000001" ∷ [])) ≡ Ok (asks (record (file_asked 1) { maximum = true }))
+maximum_by_its_bit : settings_of (of_everyone (codes "--want" ∷ codes "0x2000001" ∷ []))
+    ≡ Ok (asks (record (file_asked 1) { maximum = true }))
 unfolding settled_words check_with of_everyone
 maximum_by_its_bit = refl
 
@@ -461,7 +462,8 @@ bare_does_not_succeed told told' (EndsBy.helped (inl is) h) = cc
 bare_does_not_succeed told told' (EndsBy.helped (inr none) h) = none
 bare_does_not_succeed told told' (EndsBy.settled is h) = cc
 
-help_may_be_shown : (told told' : Told) (status : ℕ) → EndsWithHelp told told' status → EndsBy for_help told told' status
+help_may_be_shown : (told told' : Told) (status : ℕ) → EndsWithHelp told told' status
+    → EndsBy for_help told told' status
 unfolding parsed_words
 help_may_be_shown told told' status h = EndsBy.helped (inl refl) h
 

@@ -1,6 +1,6 @@
 -- The first line of some bytes, and what follows it.
-use Rattle.std.proofs.Common.{◌≡◌, ◌≢◌, ◌<◌, ◌+◌, ◌==◌, ℕ, List, [], ◌∷◌, ◌++◌, length, take, drop, get_or}
-use Rattle.std.proofs.Common.{false, refl, sym, ap, ◌∙◌, arith, map}
+use Rattle.std.proofs.Common.{◌≡◌, ◌≢◌, ◌<◌, ◌+◌, ◌==◌, ℕ, List, [], ◌∷◌, ◌++◌, length, take, drop, get_or, false, refl}
+use Rattle.std.proofs.Common.{sym, ap, ◌∙◌, arith, map}
 use Rattle.std.proofs.lemmas.List.{drop_more, get_or-take, length-take-le, take-append-drop}
 use Rattle.sd_answer.specs.LineEnd.{without_cr}
 use Rattle.sd_run.specs.Lines.{LineCut, cut_at_line_feeds, ended, last_line, lines}
@@ -81,4 +81,5 @@ pub cut-at : (bytes : List ℕ) (n : ℕ) (line rest : List ℕ) → n < length 
     → lines bytes ≡ line ∷ lines rest
 cut-at bytes n line rest within at before line_is rest_is =
     rw (line_is, rest_is)
-    (ap lines (split bytes n within at) ∙ lines-first (take n bytes) (drop (n + 1) bytes) (none-before bytes n within before))
+    (ap lines (split bytes n within at)
+    ∙ lines-first (take n bytes) (drop (n + 1) bytes) (none-before bytes n within before))

@@ -1,7 +1,7 @@
 //! Splits the input at LFs and answers each line.
 
-ghost use Rattle.std.specs.Prelude.{◌≡◌, ◌+◌, ◌<◌, ◌≤◌, ℕ, List, ◌++◌, [], ◌∷◌, length, ◌≢◌, slice_index, MatchResult, IfOk};
-ghost use Rattle.std.specs.Prelude.{IsOk, Ok, false, true, not, ◌==◌, drop, take, unwrap_or, IfSome, SomeIndex};
+ghost use Rattle.std.specs.Prelude.{◌≡◌, ◌+◌, ◌<◌, ◌≤◌, ℕ, List, ◌++◌, [], ◌∷◌, length, ◌≢◌, slice_index, MatchResult};
+ghost use Rattle.std.specs.Prelude.{IfOk, IsOk, Ok, false, true, not, ◌==◌, drop, take, unwrap_or, IfSome, SomeIndex};
 ghost use Rattle.std.specs.List.{prefix_len};
 ghost use Rattle.sd_sink.specs.Sink.{SinkTold};
 ghost use Rattle.sd_token.specs.Token.{Compares, TokenShown};
@@ -132,7 +132,8 @@ fn pass_blocks(bytes: &[u8]) -> usize
     ensures within { result ≤ length bytes.now }
     ensures before { (k : ℕ) → k < result → slice_index bytes.now k ≢ line_feed }
     ensures ended { result + 128 ≤ length bytes.now
-        → SomeIndex (take 128 (drop result bytes.now)) (λ k. slice_index (take 128 (drop result bytes.now)) k ≡ line_feed) }
+        → SomeIndex (take 128 (drop result bytes.now))
+        (λ k. slice_index (take 128 (drop result bytes.now)) k ≡ line_feed) }
 {
     let mut start = 0;
     while bytes.len() - start >= PASSED && !has_lf(&bytes[start..start + PASSED]) {

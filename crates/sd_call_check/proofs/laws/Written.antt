@@ -11,6 +11,7 @@ pub written_more : {X Y : Type 0} (f : X → Y) (xs : List X) (old ys : List Y) 
 written_more {X} {Y} f xs old ys i d v within room h is =
     let front : List Y = map f (take i xs) in
     let long : length front ≡ i = length-map (take i xs) f ∙ omega (arith, length-take i xs) in
-    let parts : ys ≡ front ++ get_or old i v ∷ drop (i + 1) old = h ∙ ap (λ (l : List Y). front ++ l) (drop_more old i v room) in
+    let parts : ys ≡ front ++ get_or old i v ∷ drop (i + 1) old = h
+    ∙ ap (λ (l : List Y). front ++ l) (drop_more old i v room) in
     ap (λ (l : List Y). set l i v) parts ∙ set_at front _ _ v i long ∙ sym (append_assoc front (v ∷ []) _)
     ∙ ap (λ (l : List Y). l ++ drop (i + 1) old) (ap (λ (y : Y). front ++ y ∷ []) is ∙ sym (map_more f xs i d within))

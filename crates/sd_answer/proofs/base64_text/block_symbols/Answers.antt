@@ -19,6 +19,7 @@ returns c =
     let lanes = take 16 bytes in
     let same : lanes ≡ bytes = take_all 16 bytes (omega (arith, c.requires)) in
     let long : length lanes ≡ 16 = length-chunk 0 16 bytes (omega (arith, c.requires)) in
-    let small : Each1 (λ (x : ℕ). x < 256) lanes = below_from_Fits w8 lanes (chunk-fits w8 0 16 bytes c.type_inv.bytes) in
+    let small : Each1 (λ (x : ℕ). x < 256) lanes = below_from_Fits w8 lanes
+    (chunk-fits w8 0 16 bytes c.type_inv.bytes) in
     block-encoded lanes _ long small c.symbols_of.ensures
     ∙ ap (λ (xs : List ℕ). encode_of standard (take 12 xs)) same

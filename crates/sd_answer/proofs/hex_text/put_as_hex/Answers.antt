@@ -31,5 +31,6 @@ returns g c =
     let left = length-left c.args.bytes.now c.loop-at.at before.within in
     let cells = c.encode_hex-count.auto.cells ∙ before.cells in
     Puts-last _ _ _ c.args.bytes.now c.encode_hex-count.new.cells c.loop-at.at c.encode_hex-count.result _ before.within
-    (omega (arith, cells, left, c.encode_hex-count.ensures.count, c.loop-at-test.false)) c.encode_hex-count.ensures.digits
+    (omega (arith, cells, left, c.encode_hex-count.ensures.count, c.loop-at-test.false))
+    c.encode_hex-count.ensures.digits
     before.put c.put-2.ensures

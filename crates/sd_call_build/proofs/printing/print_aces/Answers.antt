@@ -12,7 +12,8 @@ use Rattle.sd_call_build.proofs.printing.print_aces.Goals as goal
 pub loop-new-preserved : goal.loop-new-preserved
 loop-new-preserved g c =
     let l = c.loop-new in
-    Prints-next (λ (new : NewAce). ace_bytes (shown_ace new)) _ _ _ c.args.aces.now l.new-index _ c.loop-new-test.true l.invariant
+    Prints-next (λ (new : NewAce). ace_bytes (shown_ace new)) _ _ _ c.args.aces.now l.new-index _ c.loop-new-test.true
+    l.invariant
     (prints_as (ap ace_bytes c.shown_ace.ensures) c.print_ace.ensures)
 
 pub returns : goal.returns

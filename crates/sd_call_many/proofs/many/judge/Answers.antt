@@ -8,7 +8,8 @@ pub loop-i-preserved : goal.loop-i-preserved
 loop-i-preserved c =
     let l = c.loop-i in record {
       holder = c.judge_one.ensures.holder ∙ l.invariant.holder;
-      written = written_more (judged_by c.args.token.now.holder c.args.ask.now) c.args.descriptors.now c.args.verdicts.now
+      written = written_more (judged_by c.args.token.now.holder c.args.ask.now) c.args.descriptors.now
+          c.args.verdicts.now
           l.verdicts l.i _ c.judge_one.result c.loop-i-test.true (omega (arith, c.loop-i-test.true, c.requires))
           l.invariant.written
           (rw l.invariant.holder at c.judge_one.ensures.verdict);

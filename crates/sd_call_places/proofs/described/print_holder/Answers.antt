@@ -5,7 +5,8 @@ use Rattle.sd_call_places.proofs.described.print_holder.Goals as goal
 
 pub returns-then-ace-eq-NO_ACE-clause-print : goal.returns-then-ace-eq-NO_ACE-clause-print
 returns-then-ace-eq-NO_ACE-clause-print g c =
-    prints_as (of-part c.args.part c.in-Some.part c.args.ace c.in-Some.is c.if-ace-eq-NO_ACE.true) c.print_part.ensures.print
+    prints_as (of-part c.args.part c.in-Some.part c.args.ace c.in-Some.is c.if-ace-eq-NO_ACE.true)
+    c.print_part.ensures.print
 
 pub returns-then-ace-eq-NO_ACE-clause-short : goal.returns-then-ace-eq-NO_ACE-clause-short
 returns-then-ace-eq-NO_ACE-clause-short g c =

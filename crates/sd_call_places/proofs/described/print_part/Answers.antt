@@ -11,4 +11,5 @@ returns-clause-print g c =
 
 pub returns-clause-short : goal.returns-clause-short
 returns-clause-short g c =
-    two-short (codes ", ") (part_words c.args.part) 2 9 (lit≤ tt) (rw c.part_words.ensures.value at c.part_words.ensures.short)
+    two-short (codes ", ") (part_words c.args.part) 2 9 (lit≤ tt)
+    (rw c.part_words.ensures.value at c.part_words.ensures.short)

@@ -18,6 +18,7 @@ returns-clause-short g c =
     let place = c.args.place.now in
     let n = place.place.offset in
     let digits = length-decimal-le 10 n (omega arith) (omega (arith, c.requires)) (omega (arith, c.requires)) in
-    four-short (codes ", at byte ") (decimal n) (holder_text (part_numbered place.part) place.ace) (field_text place.field)
+    four-short (codes ", at byte ") (decimal n) (holder_text (part_numbered place.part) place.ace)
+    (field_text place.field)
     10 10 29 23 (lit≤ tt) digits (rw c.part_numbered.ensures at c.print_holder.ensures.short)
     (rw c.field_text.ensures.value at c.field_text.ensures.short)

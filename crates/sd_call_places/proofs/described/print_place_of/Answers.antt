@@ -5,9 +5,11 @@ use Rattle.sd_call_places.proofs.described.print_place_of.Goals as goal
 
 pub returns-clause-print : goal.returns-clause-print
 returns-clause-print g c =
-    prints_as (counts c.args.number c.args.place.now c.if-place-number.false c.if-place-gt-MOST_SDDL_TEXT.false) c.print_place.ensures.print
+    prints_as (counts c.args.number c.args.place.now c.if-place-number.false c.if-place-gt-MOST_SDDL_TEXT.false)
+    c.print_place.ensures.print
 
 pub returns-clause-short : goal.returns-clause-short
 returns-clause-short g c =
-    subst (λ (t : List ℕ). length t ≤ 72) (counts c.args.number c.args.place.now c.if-place-number.false c.if-place-gt-MOST_SDDL_TEXT.false)
+    subst (λ (t : List ℕ). length t ≤ 72)
+    (counts c.args.number c.args.place.now c.if-place-number.false c.if-place-gt-MOST_SDDL_TEXT.false)
     c.print_place.ensures.short

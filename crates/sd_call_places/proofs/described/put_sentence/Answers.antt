@@ -18,4 +18,5 @@ returns-clause-short g c =
     sentence-short (argument_text outcome.argument) (line_text outcome.fault outcome.part outcome.other_part)
     (place_text_of outcome.fault c.args.place.now)
     (rw c.argument_text.ensures.value at c.argument_text.ensures.short)
-    (rw c.value-fault.ensures at c.print_line.ensures.short) (rw c.value-fault.ensures at c.print_place_of.ensures.short)
+    (rw c.value-fault.ensures at c.print_line.ensures.short)
+    (rw c.value-fault.ensures at c.print_place_of.ensures.short)

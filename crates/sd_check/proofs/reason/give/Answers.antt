@@ -17,7 +17,8 @@ carried : (c : In-loop-left) → carries c.loop-left.left (place c) ≡ true
 carried c = lowest-carried c.loop-left.left (omega (arith, c.loop-left-test.true)) c.loop-left.invariant.limit
 
 less : (c : In-loop-left) → bit_and c.loop-left.left (4294967295 - 1 * 2 ^ place c % 4294967296) < c.loop-left.left
-less c = rw (one_right (place c) (within c)) (without-less c.loop-left.left (place c) c.loop-left.invariant.limit (within c) (carried c))
+less c = rw (one_right (place c) (within c))
+    (without-less c.loop-left.left (place c) c.loop-left.invariant.limit (within c) (carried c))
 
 pub bounds-reasons-right : goal.bounds-reasons-right
 bounds-reasons-right c = within (goal.at.bounds-reasons-right c).In-loop-left

@@ -9,7 +9,8 @@ use Rattle.sd_check.proofs.ReasonLaws.{reasons_scan-le}
 use Rattle.sd_check.proofs.VerdictLaws.{bound_from_need}
 use Rattle.sd_check.proofs.reason.reasons.Goals as goal
 use Rattle.sd_check.proofs.reason.reasons.Given.{Over}
-use Rattle.sd_check.proofs.reason.reasons.Goals.{After-give_label, After-reasons_by_aces-reasons, After-undecided-undecided}
+use Rattle.sd_check.proofs.reason.reasons.Goals.{After-give_label, After-reasons_by_aces-reasons}
+use Rattle.sd_check.proofs.reason.reasons.Goals.{After-undecided-undecided}
 
 undecided : (g : Over) (c : After-undecided-undecided g)
     → c.undecided-undecided.result ≡ open_rights c.args.view.now c.args.token.now.holder c.args.ask.now
@@ -51,11 +52,13 @@ scanned g c e =
     let holder = c.args.token.now.holder in
     let ask = c.args.ask.now in
     let n = length holder.entries in
-    let most = rw (e, c.granted_without_ace-without_ace.ensures.asks.holder) at c.reasons_by_aces-reasons.ensures.asks.compared.at_most in
+    let most = rw (e, c.granted_without_ace-without_ace.ensures.asks.holder) at
+    c.reasons_by_aces-reasons.ensures.asks.compared.at_most in
     omega (
       arith,
       most,
-      mul-le (scan_need (open_rights d holder ask) d holder.entries ask (listed_aces d.dacl)) n (reasons_need d holder ask) n
+      mul-le (scan_need (open_rights d holder ask) d holder.entries ask (listed_aces d.dacl)) n
+          (reasons_need d holder ask) n
           (reasons_scan-le d holder ask) (omega arith),
     )
 

@@ -1,5 +1,4 @@
-use Rattle.std.proofs.Common.{◌≡◌, ◌∷◌, ◌&&◌, ◌-◌, ℕ, List, Some, ap, ◌∙◌, sym, refl}
-use Rattle.std.proofs.Common.{arith, rules, length-append}
+use Rattle.std.proofs.Common.{◌≡◌, ◌∷◌, ◌&&◌, ◌-◌, ℕ, List, Some, ap, ◌∙◌, sym, refl, arith, rules, length-append}
 use Rattle.std.proofs.lemmas.Bool.{and_parts}
 use Rattle.std.proofs.lemmas.Nat.{and_le_l}
 use Rattle.sd_ace.specs.Ace.{AccessControlEntry}
@@ -8,7 +7,8 @@ use Rattle.sd_token.specs.Token.{Entry, Holder}
 use Rattle.sd_check.specs.Granted.{decides}
 use Rattle.sd_check.specs.Reasons.{by_ace, by_first}
 use Rattle.sd_check.proofs.Masks.{carries-zero}
-use Rattle.sd_check.proofs.ReasonLaws.{decided_here, leaves_all, leaves_step, reasoned_all, reasoned_none, reasoned_step}
+use Rattle.sd_check.proofs.ReasonLaws.{decided_here, leaves_all, leaves_step, reasoned_all, reasoned_none}
+use Rattle.sd_check.proofs.ReasonLaws.{reasoned_step}
 use Rattle.sd_check.proofs.ScanLaws.{IsDecided, scan_asks, scans_start, scans_step}
 use Rattle.sd_check.proofs.reason.scan_for_reasons.Goals as goal
 
@@ -56,7 +56,8 @@ loop-ace-preserved g c =
     let decides_these : IsDecided d t ask a u m = λ (right : ℕ). c.decided-decided.ensures.rights right
     ∙ ap (λ (x : List Entry). carries u right && decides right d x ask a) same in
     let left = rw steps at c.loop-ace.invariant.left in
-    let told : c.reason_at.result ≡ by_ace (Some c.loop-ace.place) (Some a) = search (rules, c.reason_at.ensures, c.kind.ensures) in
+    let told : c.reason_at.result ≡ by_ace (Some c.loop-ace.place) (Some a) =
+    search (rules, c.reason_at.ensures, c.kind.ensures) in
     record {
       scans = scans_step d ask a c.args.acl.now c.loop-ace.yielded c.loop-ace.ace-iterator rest c.args.question u m
           c.args.token.now c.loop-ace.token c.decided-decided.new.token c.requires (omega arith) (omega arith)
@@ -69,5 +70,6 @@ loop-ace-preserved g c =
           (λ right one decided. left right one
           ∙ decided_here (decides right d t ask) a rest c.loop-ace.place decided)
           (rw told at c.give.ensures) c.loop-ace.invariant.reasons;
-      left = leaves_step d t ask c.args.acl.now c.loop-ace.place a rest u m (omega arith) (omega arith) decides_these left;
+      left = leaves_step d t ask c.args.acl.now c.loop-ace.place a rest u m (omega arith) (omega arith) decides_these
+          left;
     }

@@ -10,7 +10,8 @@ mask g c = search (rules, c.map.ensures.value, c.mask.ensures, c.mapping.ensures
 
 pub returns-then-rights-eq0-clause-rights : goal.returns-then-rights-eq0-clause-rights
 returns-then-rights-eq0-clause-rights g c =
-    decided-nothing _ _ _ _ _ _ (mask g (goal.at.returns-then-rights-eq0-clause-rights g c).After-map) c.if-rights-eq0.true
+    decided-nothing _ _ _ _ _ _ (mask g (goal.at.returns-then-rights-eq0-clause-rights g c).After-map)
+    c.if-rights-eq0.true
 
 pub returns-then-applies-clause-rights : goal.returns-then-applies-clause-rights
 returns-then-applies-clause-rights g c =

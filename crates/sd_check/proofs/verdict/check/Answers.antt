@@ -31,22 +31,26 @@ returns-then-won-eq0-clause-verdict g c =
 pub returns-clause-verdict : goal.returns-clause-verdict
 returns-clause-verdict g c =
     let at = goal.at.returns-clause-verdict g c in
-    granted_won _ _ _ _ _ (missed g at.After-wanted) c.if-missing-ne0.false (winnings g at.After-pool) c.if-won-eq0.false
+    granted_won _ _ _ _ _ (missed g at.After-wanted) c.if-missing-ne0.false (winnings g at.After-pool)
+    c.if-won-eq0.false
 
 pub returns-then-missing-ne0-clause-bound : goal.returns-then-missing-ne0-clause-bound
 returns-then-missing-ne0-clause-bound g c = record {
   goes_on = c.granted-granted.ensures.asks.compared.goes_on;
-  at_most = bound_from_need c.args.view.now c.args.token.now.holder.entries _ _ _ (need-le _ _ c.args.ask.now) c.granted-granted.ensures.asks.compared.at_most;
+  at_most = bound_from_need c.args.view.now c.args.token.now.holder.entries _ _ _ (need-le _ _ c.args.ask.now)
+      c.granted-granted.ensures.asks.compared.at_most;
 }
 
 pub returns-then-won-eq0-clause-bound : goal.returns-then-won-eq0-clause-bound
 returns-then-won-eq0-clause-bound g c = record {
   goes_on = c.granted-granted.ensures.asks.compared.goes_on;
-  at_most = bound_from_need c.args.view.now c.args.token.now.holder.entries _ _ _ (need-le _ _ c.args.ask.now) c.granted-granted.ensures.asks.compared.at_most;
+  at_most = bound_from_need c.args.view.now c.args.token.now.holder.entries _ _ _ (need-le _ _ c.args.ask.now)
+      c.granted-granted.ensures.asks.compared.at_most;
 }
 
 pub returns-clause-bound : goal.returns-clause-bound
 returns-clause-bound g c = record {
   goes_on = c.granted-granted.ensures.asks.compared.goes_on;
-  at_most = bound_from_need c.args.view.now c.args.token.now.holder.entries _ _ _ (need-le _ _ c.args.ask.now) c.granted-granted.ensures.asks.compared.at_most;
+  at_most = bound_from_need c.args.view.now c.args.token.now.holder.entries _ _ _ (need-le _ _ c.args.ask.now)
+      c.granted-granted.ensures.asks.compared.at_most;
 }

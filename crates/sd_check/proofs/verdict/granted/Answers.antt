@@ -9,7 +9,11 @@ use Rattle.sd_check.proofs.verdict.granted.Goals.{After-scan, After-undecided-un
 undecided : (g : Over) (c : After-undecided-undecided g)
     → c.undecided-undecided.result ≡ undecided_of c.args.view.now c.args.token.now.holder c.args.ask.now
 undecided g c = c.undecided-undecided.ensures
-    ∙ rw (c.granted_without_ace-without_ace.ensures.value, c.question-question.ensures.value, c.permitted-permitted.ensures) refl
+    ∙ rw (
+      c.granted_without_ace-without_ace.ensures.value,
+      c.question-question.ensures.value,
+      c.permitted-permitted.ensures,
+    ) refl
 
 pub scan-requires : goal.scan-requires
 scan-requires g c =
@@ -19,7 +23,11 @@ scan-requires g c =
 pub returns-clause-rights : goal.returns-clause-rights
 returns-clause-rights g c =
     let e = undecided g (goal.at.returns-clause-rights g c).After-undecided-undecided in
-    rw (c.granted_without_ace-without_ace.ensures.value, c.question-question.ensures.value, c.permitted-permitted.ensures)
+    rw (
+      c.granted_without_ace-without_ace.ensures.value,
+      c.question-question.ensures.value,
+      c.permitted-permitted.ensures,
+    )
     (granted_bit c.args.view.now c.args.token.now.holder c.args.ask.now c.scan.result
     c.question-question.ensures.limits
     (λ n. c.scan.ensures.rights n ∙ rw (e, c.granted_without_ace-without_ace.ensures.asks.holder) refl))
@@ -31,7 +39,8 @@ scanned : (g : Over) (c : After-scan g)
     ≤ c.granted_without_ace-without_ace.new.token.compared
     + need c.args.view.now c.args.token.now.holder.entries c.args.ask.now * length c.args.token.now.holder.entries
 scanned g c e =
-    count_scan c.args.view.now c.args.token.now.holder c.args.ask.now _ c.granted_without_ace-without_ace.new.token.compared
+    count_scan c.args.view.now c.args.token.now.holder c.args.ask.now _
+    c.granted_without_ace-without_ace.new.token.compared
     c.scan.new.token.compared c.question-question.ensures.limits e
     (rw c.granted_without_ace-without_ace.ensures.asks.holder at c.scan.ensures.asks.compared.at_most)
 

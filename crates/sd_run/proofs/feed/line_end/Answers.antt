@@ -20,7 +20,8 @@ returns-then-before-lt-BLOCK-clause-found c =
     let start = c.loop-start.start in
     let m : start + 64 - start ≡ 64 = omega arith in
     let room : start + 64 ≤ length c.args.bytes.now = omega arith in
-    let at = in-block c.args.bytes.now start c.before_lf-before.result room (omega arith) (rw m at c.before_lf-before.ensures) in
+    let at = in-block c.args.bytes.now start c.before_lf-before.result room (omega arith)
+    (rw m at c.before_lf-before.ensures) in
     (omega arith, at)
 
 pub returns-then-before-lt-BLOCK-clause-before : goal.returns-then-before-lt-BLOCK-clause-before
