@@ -1,8 +1,7 @@
 """Doubles the length of each construct of each reader of the page. In Node, twice as long a text may take 2.3 times the
-instructions: valgrind counts them, and what else the machine does changes nothing. Where `make wasm` has built the
-module, what the library and the page's desk read is among it. Lengths are short, so what does no more with each
-character than copy it is not seen. What takes more is doubled again, since a limit of a reader may lie between two
-lengths. The measure has to refuse two readers that are slow. It needs Node and Debian's valgrind.
+instructions: valgrind counts them, and what else the machine does changes nothing. Lengths are short, so what does no
+more with each character than copy it is not seen. What takes more is doubled again, since a limit of a reader may lie
+between two lengths. The measure has to refuse two readers that are slow. It needs Node and Debian's valgrind.
 """
 import concurrent.futures
 import itertools

@@ -3,16 +3,13 @@
 // Prints the readers of the page, what the measure has to refuse, and the constructs of which texts are made. With
 // --answer it reads texts, as the lines of JSON say that page_growth.py sends: the reader, the numbers of constructs,
 // and how often their least length is doubled. What marks the readings for valgrind are two calls of the C library.
-import {existsSync, readSync} from "node:fs";
+import {readSync} from "node:fs";
 import {getPriority} from "node:os";
 
-import {questionOf} from "../../../web/desk.mjs";
-import {freshState} from "../../../web/state.mjs";
 import {REPORT} from "../../../web/windows.mjs";
 import {PIECES} from "./hostile.mjs";
 import {READERS} from "./readers.mjs";
 
-const MODULE = new URL("../../../out/systems/wasm/sdtool.mjs", import.meta.url);
 const MASK = 0o22; // of files, of which this makes none
 const SLOW = {
     "a slow pattern": (text) => /=+$/.test(text),
@@ -20,39 +17,6 @@ const SLOW = {
 };
 const LEAST = 1000;            // characters
 const [FEW, FEWEST] = [3, 50]; // repetitions: those that show a process what it has to do, and of the least length
-const ENCODER = new TextEncoder();
-const itemsOf = (text) => text.split(",");
-const stateOf = (text) => ({...freshState(), text, kind: "ds", isKindChosen: true});
-
-// What calls of the library, and questions of the page over it, read. What a call refuses is read too.
-function readersOf(library) {
-    const empty = library.fromSddl("");
-    const calls = {
-        "a text of SDDL": (text) => library.fromSddl(text),
-        "a text of a SID": (text) => library.sidFromText(text),
-        "names of options": (text) => library.fromSddl("", Object.fromEntries(itemsOf(text).map((one) => [one, 1]))),
-        "the SIDs of a check": (text) => library.check(empty, itemsOf(text), {wanted: 1}),
-        "the ACEs of a list": (text) =>
-            library.build({dacl: itemsOf(text).map((sid) => ({kind: 0, flags: 0, mask: 1, sid}))}),
-        "many descriptors": (text) => library.checkMany(itemsOf(text).map(() => empty), ["WD"], {wanted: 1}),
-        "lines of the program": (text) => library.run(["convert", "--from", "sddl"], ENCODER.encode(text)),
-        "the first view": (text) => questionOf(library, "look", stateOf(text)),
-        "a comparison": (text) =>
-            questionOf(library, "compare", {state: stateOf(text), other: {text: "D:", form: "auto"}}),
-        "a new object": (text) => questionOf(library, "inherit", {state: stateOf(text), made: freshState().made}),
-    };
-    const read = (call) => (text) => {
-        try {
-            call(text);
-        } catch (fault) {
-            if (fault.number === undefined) {
-                throw fault;
-            }
-            fault.excerpt?.();
-        }
-    };
-    return Object.fromEntries(Object.entries(calls).map(([name, call]) => [name, read(call)]));
-}
 
 const VALUES = {
     text: "x",
@@ -135,7 +99,6 @@ function answer() {
 
 const readers = {
     ...READERS,
-    ...(existsSync(MODULE) ? readersOf(await (await import(MODULE)).load()) : {}),
     ...SLOW
 };
 if (process.argv[2] === "--answer") {
