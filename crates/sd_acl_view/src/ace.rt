@@ -81,9 +81,9 @@ fn inherited_size(extent: &[u8]) -> usize
     if has_inherited(extent) { GUID_SIZE } else { 0 }
 }
 
-// Where the SID is in the extent.
+/// Where the SID is in the extent of an ACE.
 #[tactic(auto, unfolding(crate::specs::AclReading::sid_offset_in))]
-fn sid_offset(extent: &[u8]) -> usize
+pub fn sid_offset(extent: &[u8]) -> usize
     requires { 16 ≤ length extent.now }
     ensures value { result ≡ sid_offset_in extent.now }
     ensures bound { result ≤ 44 }

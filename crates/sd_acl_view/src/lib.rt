@@ -7,7 +7,7 @@ mod bytes;
 mod fault;
 mod written_acl;
 
-pub use ace::AceView;
+pub use ace::{AceView, sid_offset};
 pub use acl::{Aces, AclView, Written, acl_view, check_acl, front_ace};
 pub use bytes::{u16_at, u32_at};
 pub use fault::AclFault;

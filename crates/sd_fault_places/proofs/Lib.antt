@@ -2,3 +2,4 @@ pub mod FaultyAces
 pub mod FirstFaults
 pub mod Ranges
 mod Rows
+pub mod SidOffsets

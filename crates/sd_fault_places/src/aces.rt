@@ -1,15 +1,14 @@
 //! The first ACE of an ACL that has a fault (MS-DTYP 2.4.5).
 
 ghost use Rattle.std.specs.Prelude.{◌≡◌, ◌≤◌, ◌<◌, ◌^◌, drop, length};
-ghost use Rattle.sd_ace.specs.Ace.{guid_size};
-ghost use Rattle.sd_acl_view.specs.AclReading.{acl_at_front, inherited_in, kind_in, object_in, sid_offset_in};
-ghost use Rattle.sd_acl_view.specs.Ace.{announces_inherited, announces_object};
+ghost use Rattle.sd_acl_view.specs.AclReading.{acl_at_front, sid_offset_in};
 ghost use Rattle.sd_fault_places.specs.Places.{behind_aces, sound_aces};
 
-use crate::numbers::{byte_at, u16_at, u32_at};
-use sd_ace::{FRONT_SIZE, GUID_SIZE, OBJECT_FRONT_SIZE};
+use crate::numbers::u16_at;
 use sd_acl_view::front_ace;
-use sd_kinds::AceKind;
+
+/// As many bytes as tell where the SID is in an ACE, and a few more.
+const FRONT: usize = 16;
 
 /// The bytes that the ACL or the ACE at the front says it has, as far as they are there.
 pub(crate) fn extent_at_front(bytes: &[u8]) -> &[u8]
@@ -35,53 +34,13 @@ pub(crate) fn first_faulty(count: u16, aces: &[u8]) -> (u32, &[u8])
     (u32::from(count), left)
 }
 
-/// Where the SID is in an ACE.
-#[tactic(auto, unfolding(sd_acl_view::specs::AclReading::sid_offset_in))]
+/// Where the SID is in an ACE, of whose front bytes may be missing.
 pub(crate) fn sid_offset(extent: &[u8]) -> usize
     ensures value { result ≡ sid_offset_in extent.now }
     ensures bound { result ≤ 44 }
 {
-    if !kind_at(extent).is_object() {
-        return FRONT_SIZE;
-    }
-    OBJECT_FRONT_SIZE + object_size(extent) + inherited_size(extent)
-}
-
-// The bytes of the object type.
-#[tactic(auto, unfolding(sd_acl_view::specs::AclReading::object_in, sd_acl_view::specs::AclReading::guid_if))]
-fn object_size(extent: &[u8]) -> usize
-    ensures value { result ≡ guid_size (object_in extent.now) }
-    ensures bound { result ≤ 16 }
-{
-    if has_object(extent) { GUID_SIZE } else { 0 }
-}
-
-// The bytes of the inherited object type.
-#[tactic(auto, unfolding(sd_acl_view::specs::AclReading::inherited_in, sd_acl_view::specs::AclReading::guid_if))]
-fn inherited_size(extent: &[u8]) -> usize
-    ensures value { result ≡ guid_size (inherited_in extent.now) }
-    ensures bound { result ≤ 16 }
-{
-    if has_inherited(extent) { GUID_SIZE } else { 0 }
-}
-
-#[tactic(auto, unfolding(sd_acl_view::specs::AclReading::kind_in))]
-fn kind_at(extent: &[u8]) -> AceKind
-    ensures { result ≡ kind_in extent.now }
-{
-    AceKind::from_code(byte_at(extent, 0)).unwrap_or(AceKind::Allow)
-}
-
-#[tactic(auto, unfolding(sd_acl_view::specs::Ace::announces_object))]
-fn has_object(extent: &[u8]) -> bool
-    ensures { result ≡ announces_object (kind_in extent.now) extent.now }
-{
-    kind_at(extent).is_object() && u32_at(extent, 8) % 2 == 1
-}
-
-#[tactic(auto, unfolding(sd_acl_view::specs::Ace::announces_inherited))]
-fn has_inherited(extent: &[u8]) -> bool
-    ensures { result ≡ announces_inherited (kind_in extent.now) extent.now }
-{
-    kind_at(extent).is_object() && u32_at(extent, 8) / 2 % 2 == 1
+    let mut front = [0; FRONT];
+    let held = extent.len().min(FRONT);
+    front[..held].copy_from_slice(&extent[..held]);
+    sd_acl_view::sid_offset(&front)
 }

@@ -11,7 +11,10 @@ ghost use Rattle.sd_fault_places.specs.Places.{IsInFirst, IsWithin, offset_at, p
 use crate::aces::{extent_at_front, first_faulty, sid_offset};
 use crate::numbers::{behind, byte_at, u16_at, u32_at};
 use crate::place::{ByteRange, FaultPlace, Field};
-use sd_parts::{ACL_HEADER_SIZE, DACL_PRESENT, Part, SACL_PRESENT, SID_HEADER_SIZE, has_bit};
+use sd_parts::{
+    ACL_HEADER_SIZE, DACL_OFFSET, DACL_PRESENT, GROUP_OFFSET, OWNER_OFFSET, Part, SACL_OFFSET,
+    SACL_PRESENT, SID_HEADER_SIZE, has_bit,
+};
 use sd_sid::Sid;
 use sd_view::{Extent, SdFault, read};
 
@@ -81,10 +84,10 @@ fn offset_at(part: Part) -> usize
     ensures small { result ≤ 16 }
 {
     match part {
-        Part::Owner => 4,
-        Part::Group => 8,
-        Part::Sacl => 12,
-        Part::Dacl => 16,
+        Part::Owner => OWNER_OFFSET,
+        Part::Group => GROUP_OFFSET,
+        Part::Sacl => SACL_OFFSET,
+        Part::Dacl => DACL_OFFSET,
     }
 }
 
@@ -193,11 +196,11 @@ fn extent_of(part: Part, bytes: &[u8]) -> Extent
     ensures { result ≡ get_part part (extents_of bytes.now (shown bytes.now)) }
 {
     let control = u16_at(bytes, 2);
+    let offset = u32_at(bytes, offset_at(part));
     match part {
-        Part::Owner => sid_extent(bytes, u32_at(bytes, 4)),
-        Part::Group => sid_extent(bytes, u32_at(bytes, 8)),
-        Part::Sacl => acl_extent(bytes, has_bit(control, SACL_PRESENT), u32_at(bytes, 12)),
-        Part::Dacl => acl_extent(bytes, has_bit(control, DACL_PRESENT), u32_at(bytes, 16)),
+        Part::Owner | Part::Group => sid_extent(bytes, offset),
+        Part::Sacl => acl_extent(bytes, has_bit(control, SACL_PRESENT), offset),
+        Part::Dacl => acl_extent(bytes, has_bit(control, DACL_PRESENT), offset),
     }
 }
 

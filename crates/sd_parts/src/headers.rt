@@ -6,6 +6,18 @@ ghost use Rattle.sd_parts.specs.Header.{header_bytes};
 use crate::limits::HEADER_SIZE;
 use crate::part::Parts;
 
+/// Where the header has the offset of the owner.
+pub const OWNER_OFFSET: usize = 4;
+
+/// Where the header has the offset of the group.
+pub const GROUP_OFFSET: usize = 8;
+
+/// Where the header has the offset of the SACL.
+pub const SACL_OFFSET: usize = 12;
+
+/// Where the header has the offset of the DACL.
+pub const DACL_OFFSET: usize = 16;
+
 /// A header with this resource manager byte, this control word and these offsets of the parts.
 #[tactic(auto, unfolding(crate::specs::Header::header_bytes))]
 pub fn header(rm: u8, control: u16, offsets: Parts<u32>) -> [u8; HEADER_SIZE]

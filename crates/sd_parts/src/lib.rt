@@ -10,7 +10,7 @@ pub use control::{
     AclFlags, CONTROL_BITS, ControlBit, DACL_PRESENT, SACL_PRESENT, SELF_RELATIVE, control_of,
     has_bit,
 };
-pub use headers::header;
+pub use headers::{DACL_OFFSET, GROUP_OFFSET, OWNER_OFFSET, SACL_OFFSET, header};
 pub use limits::{
     ACL_HEADER_SIZE, ACL_REVISION, ACL_REVISION_DS, CAPACITY, HEADER_SIZE, MOST_ACL_SIZE,
     MOST_SID_SIZE, SID_HEADER_SIZE,

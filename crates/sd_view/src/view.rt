@@ -19,7 +19,8 @@ use crate::fault::{SdFault, fault_in};
 use crate::laid_out::is_laid_out;
 use sd_acl_view::{Written, acl_view, check_acl, u16_at, u32_at};
 use sd_parts::{
-    ACL_REVISION_DS, DACL_PRESENT, HEADER_SIZE, Part, Parts, SACL_PRESENT, SELF_RELATIVE, has_bit,
+    ACL_REVISION_DS, DACL_OFFSET, DACL_PRESENT, GROUP_OFFSET, HEADER_SIZE, OWNER_OFFSET, Part,
+    Parts, SACL_OFFSET, SACL_PRESENT, SELF_RELATIVE, has_bit,
 };
 use sd_sid::Sid;
 use sd_sid_view::SidView;
@@ -85,7 +86,7 @@ pub fn read(bytes: &[u8]) -> Result<SdView<'_>, SdFault>
     // and at most 20 + 2 * 68 + 2 * 65,532: a header, two SIDs and two ACLs, whose sizes are multiples of four.
     ensures most { IfOk result (λ d. size d ≤ 131220) }
 {
-    let acls = check(bytes)?;
+    let (_, acls) = check(bytes)?;
     Ok(SdView { bytes, acls })
 }
 
@@ -96,7 +97,7 @@ pub fn read_extents(bytes: &[u8]) -> Result<(SdView<'_>, Parts<Extent>), SdFault
     ensures shows { IfOk result (λ r. Shows bytes.now r.0) }
     ensures limits { IfOk result (λ r. IsDescriptor r.0) }
 {
-    match check_extents(bytes) {
+    match check(bytes) {
         Ok((extents, acls)) => Ok((SdView { bytes, acls }, extents)),
         Err(fault) => Err(fault),
     }
@@ -122,9 +123,9 @@ pub fn view_written(bytes: &[u8]) -> SdView<'_>
 {
     let control = u16_at(bytes, 2);
     let has_sacl = has_bit(control, SACL_PRESENT);
-    let sacl = written_at(bytes, has_sacl, u32_at(bytes, 12));
+    let sacl = written_at(bytes, has_sacl, u32_at(bytes, SACL_OFFSET));
     let has_dacl = has_bit(control, DACL_PRESENT);
-    let dacl = written_at(bytes, has_dacl, u32_at(bytes, 16));
+    let dacl = written_at(bytes, has_dacl, u32_at(bytes, DACL_OFFSET));
     let acls = Acls { sacl, dacl };
     SdView { bytes, acls }
 }
@@ -147,21 +148,11 @@ fn written_at(bytes: &[u8], present: bool, offset: u32) -> Written
     }
 }
 
-// The first fault of the bytes, or what it found for the written form of the ACLs.
+// The first fault of the bytes, or where their parts are and what it found for the written form of the ACLs. Inlined,
+// since most callers want no extents.
+#[inline(always)]
 #[tactic(auto, unfolding(crate::specs::Reading::fault))]
-fn check(bytes: &[u8]) -> Result<Acls, SdFault>
-    ensures fault { FailsBy (fault bytes.now) result }
-    ensures acls { IfOk result (λ a. a ≡ shown_written (shown bytes.now)) }
-{
-    check_header(bytes)?;
-    let (extents, acls) = check_parts(bytes)?;
-    check_overlaps(&extents)?;
-    Ok(acls)
-}
-
-// The same as `check`, and where the parts are.
-#[tactic(auto, unfolding(crate::specs::Reading::fault))]
-fn check_extents(bytes: &[u8]) -> Result<(Parts<Extent>, Acls), SdFault>
+fn check(bytes: &[u8]) -> Result<(Parts<Extent>, Acls), SdFault>
     ensures fault { FailsBy (fault bytes.now) result }
     ensures extents { IfOk result (λ r. r.0 ≡ extents_of bytes.now (shown bytes.now)) }
     ensures acls { IfOk result (λ r. r.1 ≡ shown_written (shown bytes.now)) }
@@ -199,12 +190,22 @@ fn check_parts(bytes: &[u8]) -> Result<(Parts<Extent>, Acls), SdFault>
     ensures acls { IfOk result (λ r. r.1 ≡ shown_written (shown bytes.now)) }
 {
     let control = u16_at(bytes, 2);
-    let owner = check_sid(Part::Owner, bytes, u32_at(bytes, 4))?;
-    let group = check_sid(Part::Group, bytes, u32_at(bytes, 8))?;
+    let owner = check_sid(Part::Owner, bytes, u32_at(bytes, OWNER_OFFSET))?;
+    let group = check_sid(Part::Group, bytes, u32_at(bytes, GROUP_OFFSET))?;
     let has_sacl = has_bit(control, SACL_PRESENT);
-    let (sacl, sacl_written) = check_acl_part(Part::Sacl, bytes, has_sacl, u32_at(bytes, 12))?;
+    let (sacl, sacl_written) = check_acl_part(
+        Part::Sacl,
+        bytes,
+        has_sacl,
+        u32_at(bytes, SACL_OFFSET),
+    )?;
     let has_dacl = has_bit(control, DACL_PRESENT);
-    let (dacl, dacl_written) = check_acl_part(Part::Dacl, bytes, has_dacl, u32_at(bytes, 16))?;
+    let (dacl, dacl_written) = check_acl_part(
+        Part::Dacl,
+        bytes,
+        has_dacl,
+        u32_at(bytes, DACL_OFFSET),
+    )?;
     let extents = Parts {
         owner,
         group,
@@ -342,14 +343,14 @@ impl<'a> SdView<'a> {
     pub fn owner_in_place(&self) -> Option<SidView<'a>>
         ensures { result ≡ self.now.owner }
     {
-        sid_in(self.bytes, u32_at(self.bytes, 4))
+        sid_in(self.bytes, u32_at(self.bytes, OWNER_OFFSET))
     }
 
     /// The SID of the primary group, read in place.
     pub fn group_in_place(&self) -> Option<SidView<'a>>
         ensures { result ≡ self.now.group }
     {
-        sid_in(self.bytes, u32_at(self.bytes, 8))
+        sid_in(self.bytes, u32_at(self.bytes, GROUP_OFFSET))
     }
 
     /// The system ACL: what is audited, and the mandatory label.
@@ -357,7 +358,12 @@ impl<'a> SdView<'a> {
         ensures { result ≡ self.now.sacl }
     {
         let present = has_bit(self.control(), SACL_PRESENT);
-        acl_in(self.bytes, present, u32_at(self.bytes, 12), self.acls.sacl)
+        acl_in(
+            self.bytes,
+            present,
+            u32_at(self.bytes, SACL_OFFSET),
+            self.acls.sacl,
+        )
     }
 
     /// The discretionary ACL: who is allowed what.
@@ -372,7 +378,12 @@ impl<'a> SdView<'a> {
         ensures { result ≡ self.now.dacl }
     {
         let present = has_bit(self.control(), DACL_PRESENT);
-        acl_in(self.bytes, present, u32_at(self.bytes, 16), self.acls.dacl)
+        acl_in(
+            self.bytes,
+            present,
+            u32_at(self.bytes, DACL_OFFSET),
+            self.acls.dacl,
+        )
     }
 
     /// The size of the written layout in bytes, at most 131,220.
@@ -394,7 +405,7 @@ impl<'a> SdView<'a> {
         ensures short { length result.now ≤ MOST_SID_SIZE }
         ensures limits { IsDescriptor self.now }
     {
-        sid_bytes_at(self.bytes, u32_at(self.bytes, 4))
+        sid_bytes_at(self.bytes, u32_at(self.bytes, OWNER_OFFSET))
     }
 
     /// The group's bytes, and none where there is no group.
@@ -402,7 +413,7 @@ impl<'a> SdView<'a> {
         ensures value { result.now ≡ sid_part self.now.group }
         ensures short { length result.now ≤ MOST_SID_SIZE }
     {
-        sid_bytes_at(self.bytes, u32_at(self.bytes, 8))
+        sid_bytes_at(self.bytes, u32_at(self.bytes, GROUP_OFFSET))
     }
 
     /// The bytes that are read, if they are the written layout (MS-DTYP 2.4.6). `None` means only that the layout must
