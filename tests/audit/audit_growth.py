@@ -9,7 +9,7 @@ callgrind counts an instruction for each byte of a copy of 4 KB and more. Where 
 a limit, and only what does more with each byte than copy it is seen. Nor is a copy for each megabyte that is read seen.
 A step that adds more is tried with further doublings, since a limit of a reader may lie between two lengths.
 
-It needs the library in out/lib or the one that SDTOOL_LIBRARY names, and Debian's valgrind. Two processes count.
+It needs the library in out/lib or the one that SDTOOL_LIBRARY names, and Debian's valgrind.
 """
 import base64
 import bz2
@@ -37,10 +37,10 @@ import preload
 from audit_sources import FR, HEAD, KEY, descriptor, hexed, packed, sddl, sds_of, tarred
 
 MOST_FOR_EACH = 2.3  # twice the instructions are linear, four times are quadratic
-JOBS = 2  # side by side
+JOBS = len(os.sched_getaffinity(0))  # side by side
 FIRST = 50  # repetitions
 SEEN = 0.6  # times the instructions of a repetition: so many bytes show a copy of all of them for each
-LEAST_INSTRUCTIONS, MOST_INSTRUCTIONS = 1_000_000, 60_000_000  # of the longest source, if it adds what shorter ones do
+LEAST_INSTRUCTIONS, MOST_INSTRUCTIONS = 1_000_000, 30_000_000  # of the longest source, if it adds what shorter ones do
 LEAST_BYTES, MOST_BYTES = 1 << 14, 1 << 18
 MORE = 2  # further doublings
 NOISE = 50_000  # instructions, by which counts of what no length changes differ
@@ -51,6 +51,9 @@ ENTRY = f"dn: CN=a\nnTSecurityDescriptor:: {B64}\n"
 FILE = f"# file: a\nsystem.ntfs_acl=0x{descriptor(1).hex()}\n"
 BLOCK = audit_sources._block()
 BLANKS = str.maketrans("01b", " _-")  # titles that are read as the same
+KEYS = r"\EventLog\TaskCache\Tree\Services"
+DELEGATION = f"msDS-AllowedToActOnBehalfOfOtherIdentity:: {B64}\n"
+FAILED = "Failed to open \\a: NT_STATUS_ACCESS_DENIED\n"
 Made = Union[str, bytes]
 # Reads a source, and gives its formats with their words for what is no object in it.
 READ = """
@@ -123,6 +126,16 @@ def streamed_zip(count: int) -> bytes:
     return written.getvalue()
 
 
+def with_fields(count: int) -> bytes:
+    """A zip archive whose member has so many extra fields."""
+    written = io.BytesIO()
+    with zipfile.ZipFile(written, "w") as archive:
+        head = zipfile.ZipInfo("x")
+        head.extra = struct.pack("<HH", 0x4321, 0) * count
+        archive.writestr(head, text_of(1))
+    return written.getvalue()
+
+
 def dump(count: int) -> str:
     """A dump of Samba with so many ACEs."""
     text = audit_sources.of_ndr(1)[0].text
@@ -172,7 +185,17 @@ CONSTRUCTS: Dict[str, Dict[str, Construct]] = {
         "a long field": repeated("Path,Sddl\n", "x", f",{FR}\n"),
         "quotation marks in a field": repeated('Path,Sddl\n"', '""', f'",{FR}\n'),
         "rivals": repeated("Path,Sddl,sd\n", f"a,{FR},{sddl(8)}\n"),
+        "columns of descriptors": Construct(lambda count: f"Path{',sd' * count}\n" + f"a{f',{FR}' * count}\n" * 2),
+        "columns and short rows": Construct(lambda count: f"Path,Sddl{',x' * count}\na,{FR}\n" + "a\n" * count),
         "names alone": repeated("Path,Sddl\n", "secret,\n"),
+        "messages": repeated(f"Path,Sddl\na,{FR}\n", FAILED),
+        "delimiters": repeated("", "sep=,\n", f"Path,Sddl\na,{FR}\n"),
+        "levels of a name": repeated("Path,Sddl\nC:", "\\a", f",{FR}\n"),
+        "levels of a directory": repeated('Path,Sddl\n"', "CN=a,", f'DC=b",{FR}\n'),
+        "classes": repeated(f'dn,Sddl,objectClass\n"CN=a,DC=b",{FR},"', "top ", 'user"\n'),
+        "hex in a field": repeated("Path,Sddl\na,01", "00", "\n"),
+        "base64 in a field": repeated("Path,Sddl\na,AQ", "AAAA", "\n"),
+        "separated hex in a field": repeated('Path,Sddl\na,"01', " 00", '"\n'),
         "a drawn table": repeated("|Path|Sddl|\n|---|---|\n", f"|a|{FR}|\n"),
         "rules of a table": repeated(f"Path|Sddl\n----+----\na|{FR}\n", "----+----\n")},
     "lines": {
@@ -181,7 +204,7 @@ CONSTRUCTS: Dict[str, Dict[str, Construct]] = {
         "hex": repeated("", descriptor(7).hex() + "\n"), "base64": repeated("", B64 + "\n"),
         "digits": repeated("01", "00", "\n"),
         "separated digits": repeated("01", " 00", "\n"), "letters": repeated("AQ", "AAAA", "\n"),
-        "messages": repeated(FR + "\n", "Failed to open \\a: NT_STATUS_ACCESS_DENIED\n"),
+        "messages": repeated(FR + "\n", FAILED), "quotation marks": repeated(FR + "\n", "'", "\n" + FR),
         "words": repeated(FR + "\n" + FR + "\n", "no descriptor\n"),
         "a long line": repeated(FR + "\n", "x", "\n" + FR), "blanks in a line": repeated(FR + "\nx", " ", "x\n" + FR),
         "parts in a line": repeated(FR + "\nx", " O:BAG:", "x\n" + FR),
@@ -190,7 +213,9 @@ CONSTRUCTS: Dict[str, Dict[str, Construct]] = {
     "icacls": {
         "pairs": of_parts("icacls"), "names": numbered("", "a%\n", "b\nD:(A;;FR;;;WD)\n"),
         "ACLs": repeated("b\nD:(A;;FR;;;WD)\n", "D:(A;;FR;;;WD)\n"),
-        "blank lines": repeated("", "\n", "a\nD:(A;;FR;;;WD)\n")},
+        "blank lines": repeated("", "\n", "a\nD:(A;;FR;;;WD)\n"),
+        "levels of a name": repeated("C:", "\\a", "\nD:(A;;FR;;;WD)\n"),
+        "ACEs": repeated("a\nD:", "(A;;FR;;;WD)", "\n"), "messages": repeated("a\nD:(A;;FR;;;WD)\n", FAILED)},
     "secedit": {
         "rows": of_parts("secedit"), "comments": repeated("[Unicode]\n", "; a\n"),
         "sections": repeated("", "[File Security]\n"),
@@ -198,7 +223,8 @@ CONSTRUCTS: Dict[str, Dict[str, Construct]] = {
         "fields": repeated("[File Security]\n", '"a",', "\n"),
         "blanks in a field": repeated("[File Security]\na", " ", 'x",2,"D:"\n'),
         "quotation marks": repeated('[File Security]\n"', '""', '",2,"D:"\n'),
-        "a setting of many parts": repeated("[Registry Values]\na=", "b,", "\n")},
+        "a setting of many parts": repeated("[Registry Values]\na=", "b,", "\n"),
+        "a title and lines": Construct(lambda count: f"[Unicode]\n[{'a' * count}]\n" + "x,D:\n" * count)},
     "reg": {
         "keys": of_parts("reg"), "values of a key": numbered(f"{HEAD}[{KEY}]\n", f'"%SD"=hex:{hexed(7)}\n'),
         "other values": numbered(f"{HEAD}[{KEY}]\n", '"a%"="b"\n'),
@@ -211,8 +237,14 @@ CONSTRUCTS: Dict[str, Dict[str, Construct]] = {
         "heads": repeated("", HEAD.strip() + "\n"),
         "damaged lines": repeated(f"{HEAD}[{KEY}]\n", "a\n"),
         "digits alone": repeated(f"{HEAD}[{KEY}]\n", "  01,02,\\\n"),
-        "backslashes": repeated(f'{HEAD}[{KEY}]\n"a"="', "\\\\", '"\n')},
-    "sc": {"services": repeated("", f"\n{SERVICE}\n"), "empty lines": repeated(f"\n{SERVICE}\n", "\n")},
+        "backslashes": repeated(f'{HEAD}[{KEY}]\n"a"="', "\\\\", '"\n'),
+        "a key": repeated(f"{HEAD}[HKEY_LOCAL_MACHINE", KEYS, f']\n"a"=hex:{hexed(7)}\n'),
+        "a key and values": Construct(lambda count: HEAD + "[HKEY_LOCAL_MACHINE" + "\\a" * count + "]\n" + "".join(
+            f'"SD{at}"=hex:{hexed(7)}\n' for at in range(count))),
+        "a name": repeated(f'{HEAD}[{KEY}]\n"', '\\"', f'SD"=hex:{hexed(7)}\n')},
+    "sc": {"services": repeated("", f"\n{SERVICE}\n"), "empty lines": repeated(f"\n{SERVICE}\n", "\n"),
+           "ACEs": repeated("\nD:", "(A;;CCLCSWRPWPDTLOCRRC;;;SY)", "\n"),
+           "letters of rights": repeated("\nD:(A;;", "CC", ";;;SY)\n")},
     "wevtutil": {
         "logs": of_parts("wevtutil"), "settings": repeated(LOG, "enabled: true\n"),
         "settings before a descriptor": repeated(
@@ -241,7 +273,15 @@ CONSTRUCTS: Dict[str, Dict[str, Construct]] = {
         "blank lines": repeated("", "\n", ENTRY),
         "pages": repeated(ENTRY + "\n", "# pagedresults: cookie=AA==\nresult: 0\n\n"),
         "malformed lines": repeated(ENTRY, "x\n"), "blanks": repeated(ENTRY, " \n"),
-        "names": repeated("", "dn: CN=a\n")},
+        "names": repeated("", "dn: CN=a\n"), "levels of a name": repeated("dn: ", "CN=a,", f"DC=b\n{DELEGATION}"),
+        "a name": repeated("dn: CN=", "a", f",DC=b\n{DELEGATION}"),
+        "escapes in a name": repeated("dn: CN=", "\\,", f",DC=b\n{DELEGATION}"),
+        "other descriptors": repeated(ENTRY, DELEGATION), "a name and other descriptors": Construct(
+            lambda count: f"dn: CN={'a' * count}\n" + DELEGATION * count),
+        "a descriptor": repeated("dn: CN=a\nnTSecurityDescriptor:: AQAE", "AAAA", "\n"),
+        "classes": repeated(ENTRY, "objectClass: top\n"), "colons": repeated(ENTRY + "cn", ":", "\n"),
+        "blanks in an attribute": repeated(ENTRY + "cn:", " ", "x\n"),
+        "searches": repeated("search: 1\n", "# x\n\n", ENTRY)},
     "smbcacls": {
         "descriptors": of_parts("smbcacls"), "ACEs": repeated(BLOCK, "ACL:S-1-1-0:0/0x10/0x00120089\n"),
         "owners": repeated(BLOCK, "OWNER:S-1-1-0\n"),
@@ -284,6 +324,11 @@ CONSTRUCTS: Dict[str, Dict[str, Construct]] = {
         "members twice": Construct(lambda count: "[{" + ", ".join(f'"s{bin(at % (count // 2)).translate(BLANKS)}d": 1'
                                                                   for at in range(count)) + "}]"),
         "texts": repeated("", f'{{"Path": "a", "Sddl": "{FR}"}}\n'),
+        "a list of texts": repeated(f'["{FR}"', f', "{FR}"', "]"),
+        "bytes": repeated('[{"Path": "a", "Sddl": [1', ",0", "]}]"),
+        "classes": repeated(f'[{{"dn": "CN=a,DC=b", "Sddl": "{FR}", "objectClass": ["top"', ',"user"', "]}]"),
+        "levels of a name": repeated('[{"Path": "C:', "\\\\a", f'", "Sddl": "{FR}"}}]'),
+        "blanks before damaged elements": Construct(lambda count: "[\n" + f"{' ' * count}{{x}},\n" * 3 + "]"),
         "a long text": repeated('[{"Path": "', "x", f'", "Sddl": "{FR}"}}]'),
         "escapes": repeated('[{"Path": "', "\\u0041", f'", "Sddl": "{FR}"}}]'),
         "blanks": repeated("[", " ", f'{{"Path": "a", "Sddl": "{FR}"}}]'),
@@ -297,7 +342,15 @@ CONSTRUCTS: Dict[str, Dict[str, Construct]] = {
         "empty objects": repeated("", "{}\n", f'{{"Path": "a", "Sddl": "{FR}"}}'),
         "members beside a list": numbered("{", '"a%": 1, ', f'"value": [{{"Path": "a", "Sddl": "{FR}"}}]}}'),
         "members before a list that is cut": numbered("{", '"a%": 1, ', f'"value": [{{"Path": "a", "Sddl": "{FR}"}}]'),
-        "damaged members of a map": numbered(f'{{\n  "a": "{FR}",\n', '  "b%: 1,\n', f'  "c": "{FR}"\n}}')},
+        "damaged members of a map": numbered(f'{{\n  "a": "{FR}",\n', '  "b%: 1,\n', f'  "c": "{FR}"\n}}'),
+        "a name and objects inside": Construct(lambda count: json.dumps(
+            [{"Path": "a" * 20 * count, "Sddl": FR, "Inside": [{"Sddl": FR}] * count}])),
+        "a member and objects inside": Construct(lambda count: json.dumps(
+            [{"Path": "a", "Sddl": FR, "a" * 20 * count: [{"Sddl": FR}] * count}])),
+        "a member beside a list": Construct(lambda count: json.dumps(
+            {"value": [], "a" * 20 * count: {str(at): {"Sddl": FR} for at in range(count)}})),
+        "damaged elements behind a long one": Construct(
+            lambda count: f'[\n{element("x" * 20 * count)},\n' + '{"Path": x},\n' * count + "]")},
     "jsonl": {
         "lines": of_parts("jsonl"), "members": numbered('{"Path": "a", ', '"a%": 1, ', f'"Sddl": "{FR}"}}\n' * 2),
         "empty lines": repeated(
@@ -309,8 +362,12 @@ CONSTRUCTS: Dict[str, Dict[str, Construct]] = {
         "keys": of_parts("reg query"), "values": repeated(f"{KEY}\n", "    a    REG_SZ    b\n"),
         "a value": repeated(f"{KEY}\n    SD    REG_BINARY    01", "00", "\n"),
         "blank lines": repeated(f"{KEY}\n", "\n"), "other lines": repeated(f"{KEY}\n", "x\n"),
-        "blanks": repeated(f"{KEY}\n    a", " ", "x\n    a    REG_SZ    b\n")},
+        "blanks": repeated(f"{KEY}\n    a", " ", "x\n    a    REG_SZ    b\n"),
+        "a key": repeated("HKEY_LOCAL_MACHINE", KEYS, "\n    SD    REG_BINARY    01\n"),
+        "a key and values": Construct(lambda count: "HKEY_LOCAL_MACHINE" + "\\a" * count + "\n" +
+                                      "    SD    REG_BINARY    01\n" * count)},
     "digits": {
+        "blanks behind letters": repeated("AQ", " ", "!"), "line ends behind letters": repeated("AQ", "\n", "!"),
         "numbers": Construct(lambda count: " ".join(map(str, wide(count))) + "\n", 20, 200), "lines of hex": Construct(
             lambda count: "".join(f"{byte:02x}\n" for byte in wide(count)), 5, 200), "lines of base64": Construct(
                 lambda count: base64.encodebytes(wide(count)).decode(), 20, 200)},
@@ -321,6 +378,9 @@ CONSTRUCTS: Dict[str, Dict[str, Construct]] = {
         "lines of a descriptor": repeated("Path : a\nSddl : O:BAG:SYD:", "(A;;FR;;;WD)\n       ", "\n"),
         "blank lines": repeated(f"Path : a\nSddl : {FR}\n", "\n"),
         "maps of YAML": repeated("", f"a b:\n  sddl: {FR}\n"),
+        "a block of YAML": repeated("Path: a\nSddl: |\n  D:\n", "  (A;;FR;;;WD)\n"),
+        "levels of a name": repeated("Path : C:", "\\a", f"\nSddl : {FR}\n"),
+        "messages": repeated(f"Path : a\nSddl : {FR}\n\n", FAILED),
         "other lines": repeated(f"Path : a\nSddl : {FR}\n\n", "x\n"),
         "names alone": repeated(f"Path : a\nSddl : {FR}\n\n", "Path : b\nOwner : x\n\n"),
         "blanks in a line": repeated(f"Path : a\nSddl : {FR}\n\nx", " ", "y : z\n"),
@@ -332,7 +392,9 @@ CONSTRUCTS: Dict[str, Dict[str, Construct]] = {
         "titles again": repeated(f"Path Sddl\n---- ----\na    {FR}\n", "Path Sddl\n---- ----\n"),
         "blank lines": repeated("Path Sddl\n---- ----\n", "\n"),
         "blank lines first": repeated("", "\n", f"Path Sddl\n---- ----\na    {FR}\n"),
-        "lines first": repeated("", "x\n", f"Path Sddl\n---- ----\na    {FR}\n")},
+        "lines first": repeated("", "x\n", f"Path Sddl\n---- ----\na    {FR}\n"), "columns and short rows": Construct(
+            lambda count: f"Path Sddl{''.join(f' {at:6}' for at in range(count))}\n---- ----{' ------' * count}\n" +
+            "a\n" * count)},
     "xml": {
         "objects": of_parts("xml"), "attributes": numbered("<a><o path='x' sddl='D:' ", "x%='' ", "/></a>"),
         "elements": repeated(f"<a><o><path>x</path><sddl>{FR}</sddl></o>", "<x>y</x>", "</a>"),
@@ -345,12 +407,25 @@ CONSTRUCTS: Dict[str, Dict[str, Construct]] = {
         "lines of a text": Construct(
             lambda count: f"<a><o><path>x</path><sddl>{FR}</sddl></o><x>" + "y\n" * count + "</x></a>", 150_000),
         "comments": repeated(f"<a><o><path>x</path><sddl>{FR}</sddl></o>", "<!-- x -->", "</a>"),
+        "texts": repeated("", f"<o path='x' sddl='{FR}'/>\n"), "instructions": repeated(
+            f"<a><o><path>x</path><sddl>{FR}</sddl></o>", "<?x?>", "</a>"),
+        "sections": repeated(f"<a><o><path>x</path><sddl>{FR}</sddl></o><x>", "<![CDATA[x]]>", "</x></a>"),
+        "values with one title": repeated("<a><o><path>x</path>", f"<sddl>{FR}</sddl>", "</o></a>"),
+        "levels of a name": repeated("<a><o><path>C:", "\\a", f"</path><sddl>{FR}</sddl></o></a>"),
+        "a name and objects": Construct(
+            lambda count: f"<a><path>CN={'a' * 20 * count}</path>" + f"<o><sddl>{FR}</sddl></o>" * count + "</a>"),
         "a comment": repeated(f"<a><o><path>x</path><sddl>{FR}</sddl></o><!-- ", "x", " --></a>"),
         "entities": repeated(f"<a><o><path>x</path><sddl>{FR}</sddl></o><x>", "&amp;", "</x></a>"),
+        "an attribute": repeated(f"<a><o><path>x</path><sddl>{FR}</sddl></o><x y='", "z ", "'/></a>"),
         "an open tag": repeated(f"<a><o><path>x</path><sddl>{FR}</sddl></o><x ", "y ", "")},
     "printed": {
         "objects of icacls": numbered("", "C:\\a% Everyone:(F)\n      BUILTIN\\Users:(R)\n"),
         "accounts": repeated("C:\\a Everyone:(F)\n", "     Everyone:(F)\n"),
+        "objects of cacls": numbered("", "C:\\a% Everyone:F\n      BUILTIN\\Users:R\n"),
+        "objects of SubInACL": numbered("", "+File C:\\a%\n/pace =everyone ACCESS_ALLOWED_ACE_TYPE-0x0\n"),
+        "rows of Get-Acl": repeated("Path Owner\n---- -----\n", "a    b\\c  d\n"),
+        "lines of dsacls": repeated("Access list:\n", "Allow Everyone  FULL CONTROL\n"),
+        "a long line": repeated("C:\\a Everyone:(F)\nx", ":(F)", "x\n"),
         "objects of AccessChk": repeated("Accesschk v6\n\n", "C:\\a\n  RW Everyone\n"),
         "lines first": repeated("", "\n", "C:\\a\n  RW Everyone\n")},
     "sds": {
@@ -368,11 +443,16 @@ CONSTRUCTS: Dict[str, Dict[str, Construct]] = {
         "a member of lzma": of_bytes(lambda count: packed([("x", text_of(count))], zipfile.ZIP_LZMA)),
         "folders": of_bytes(lambda count: packed([*((f"{at}/", "") for at in range(count)), ("x", text_of(1))])),
         "a long name": of_bytes(lambda count: packed([("x" * count, text_of(1))]), 200, 4000),
+        "fields of a head": of_bytes(with_fields, most=1 << 13),
+        "members in one that is stored": of_bytes(lambda count: packed(
+            [("x.zip", packed([(str(at), text_of(1)) for at in range(count)]))], zipfile.ZIP_STORED), 10),
         "archives": of_bytes(lambda count: packed([("x", text_of(1))]) * count, 20)},
     "tar": {
         "members": of_bytes(lambda count: tarred([(str(at), text_of(1)) for at in range(count)]), 20),
         "a member": of_bytes(lambda count: tarred([("x", text_of(count))])),
         "a long name": of_bytes(lambda count: tarred([("x" * count, text_of(1))]), most=1 << 22),
+        "long names": of_bytes(lambda count: tarred([(f"{'x' * 200}{at}", text_of(1)) for at in range(count)]), 10),
+        "a name and lines": of_bytes(lambda count: tarred([("x" * count, f"{FR}\n" * count)]), 20),
         "fields of a head": of_bytes(pax),
         "zeros": of_bytes(lambda count: tarred([("x", text_of(1))]) + bytes(512 * count))},
     "compressed": {
@@ -383,9 +463,13 @@ CONSTRUCTS: Dict[str, Dict[str, Construct]] = {
         "streams of bzip2": of_bytes(lambda count: bz2.compress(text_of(1).encode()) * count, 20),
         "streams of xz": of_bytes(lambda count: lzma.compress(text_of(1).encode()) * count, 20),
         "zeros behind gzip": of_bytes(lambda count: gzip.compress(text_of(1).encode()) + bytes(count * 100)),
+        "gzip in gzip": of_bytes(lambda count: gzip.compress(gzip.compress(text_of(count).encode(), 0))),
         "zeros in gzip": of_bytes(lambda count: gzip.compress(bytes(count * 1000)))},
     "text": {
         "UTF-16": of_bytes(lambda count: text_of(count).encode("utf-16")),
+        "UTF-16, high byte first": of_bytes(lambda count: ("\ufeff" + text_of(count)).encode("utf-16-be")),
+        "UTF-32": of_bytes(lambda count: text_of(count).encode("utf-32")),
+        "lines that end with CR LF": of_bytes(lambda count: text_of(count).replace("\n", "\r\n")),
         "lines that end with CR": of_bytes(lambda count: text_of(count).replace("\n", "\r")),
         "marks at lines": of_bytes(lambda count: ("\ufeff" + text_of(1)) * count), "bytes that are no text": of_bytes(
             lambda count: text_of(2).encode() + b"\xff" * count + b"\n"),

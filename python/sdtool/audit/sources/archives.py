@@ -6,6 +6,8 @@ import zipfile
 import zlib
 from typing import Any, Callable, Dict, Generator, Iterator, List, NamedTuple, Optional, Tuple, Union
 
+from sdtool.audit.sources.items import LONGEST_NAME, shortened
+
 _LOCAL, _CENTRAL, _END = b"PK\3\4", b"PK\1\2", b"PK\5\6"
 _END_64, _LOCATOR_64, _DESCRIPTOR, _SIGNATURE = b"PK\6\6", b"PK\6\7", b"PK\7\x08", b"PK\5\5"
 _LOCAL_HEAD = struct.Struct("<4sHHHHHIIIHH")
@@ -375,7 +377,10 @@ def _tar_members(source: _Bytes, label: str) -> Iterator[Union[Member, Trouble]]
         name = block[:100].rstrip(b"\0").partition(b"\0")[0]
         if block[257:263] == b"ustar\0" and block[345]:
             name = block[345:500].partition(b"\0")[0] + b"/" + name
-        member_label = f"{label}:{long_name if long_name is not None else name.decode('utf-8', 'surrogateescape')}"
+        full = long_name if long_name is not None else name.decode("utf-8", "surrogateescape")
+        if len(full) > LONGEST_NAME:
+            yield Trouble(f"{label}: from byte {at} on", "the name of a member is longer than any is", _PACK_AGAIN)
+        member_label = f"{label}:{shortened(full, LONGEST_NAME)}"
         size = long_size if long_size is not None else size
         long_name = long_size = None
         if kind in (b"0", b"\0", b"7"):

@@ -1,4 +1,5 @@
 """Tables whose columns stand below titles and a line of dashes: what Format-Table prints, and SQLite in columns."""
+import bisect
 import re
 from typing import Dict, Iterator, List, NamedTuple, Optional
 
@@ -6,7 +7,7 @@ from sdtool.audit.sources.frame import BY_NAMES, Format, Lines, Look, Piece
 from sdtool.audit.sources.items import Item, unreadable
 from sdtool.audit.sources.json_text import items_of_element
 from sdtool.audit.sources.messages import named_in, strange_item
-from sdtool.audit.sources.naming import DESCRIPTOR_NAMES, NAME_NAMES, ranked
+from sdtool.audit.sources.naming import DESCRIPTOR_NAMES, NAME_NAMES, ranked, telling
 from sdtool.audit.sources.options import SourceOptions
 
 _DASHES = re.compile(r"[ \t]*-+(?:[ \t]+-+)+[ \t]*\Z")
@@ -15,18 +16,24 @@ _WHOLE = "print the whole descriptors: Export-Csv writes what can be read"
 
 
 class _Titles(NamedTuple):
-    """The titles of the columns, where each begins, and which one has descriptors."""
+    """The titles of the columns, their words, where each begins, those that tell something, and the one with
+    descriptors."""
 
     names: List[str]
+    words: List[str]
     starts: List[int]
-    descriptor: int
+    telling: List[str]
+    descriptor: str
 
     def members(self, line: str) -> Optional[Dict[str, str]]:
-        """The cells of a row; None if one is wider than its column."""
-        if any(start and line[start - 1:start].strip() for start in self.starts):
+        """The cells of a row: all that the line has, and those that tell something; None if one is wider than its
+        column."""
+        starts = self.starts[:bisect.bisect_right(self.starts, len(line))]
+        if any(start and line[start - 1:start].strip() for start in starts):
             return None
-        ends = [*self.starts[1:], len(line)]
-        return {name: line[start:end].strip() for name, start, end in zip(self.names, self.starts, ends)}
+        ends = [*starts[1:], len(line)]
+        return {**dict.fromkeys(self.telling, ""),
+                **{name: line[start:end].strip() for name, start, end in zip(self.names, starts, ends)}}
 
 
 def _titles(line: str, dashes: str) -> Optional[_Titles]:
@@ -35,8 +42,9 @@ def _titles(line: str, dashes: str) -> Optional[_Titles]:
     starts = [found.start() for found in re.finditer("-+", dashes)]
     names = [line[start:end].strip() for start, end in zip(starts, [*starts[1:], len(line)])]
     described = ranked(names, DESCRIPTOR_NAMES)
-    is_known = bool(described and ranked(names, NAME_NAMES)) and len(set(names)) == len(names)
-    return _Titles(names, starts, described[0]) if is_known else None
+    if not described or not ranked(names, NAME_NAMES) or len(set(names)) < len(names):
+        return None
+    return _Titles(names, " ".join(names).split(), starts, telling(names), names[described[0]])
 
 
 def _recognizes(look: Look) -> bool:
@@ -54,7 +62,7 @@ class _Row:
     def takes(self, line: str) -> bool:
         """Whether a line has nothing but more of the descriptor."""
         cells = self._titles.members(line) or {}
-        more = cells.pop(self._titles.names[self._titles.descriptor], "")
+        more = cells.pop(self._titles.descriptor, "")
         if self._members is None or not more or any(cells.values()):
             return False
         self._more.append(more)
@@ -65,7 +73,7 @@ class _Row:
         if self._members is None:
             return [unreadable(self._line.strip()[:1000], label, self.begin, "a value is wider than its column", _WHOLE,
                                options.kind or "file")]
-        key = self._titles.names[self._titles.descriptor]
+        key = self._titles.descriptor
         whole = "".join([self._members[key], *self._more])
         return items_of_element({**self._members, key: whole}, label, self.begin, options)
 
@@ -100,7 +108,7 @@ def _read(source: Lines, label: str, options: SourceOptions) -> Iterator[Piece]:
             before, number = line, at
         elif not line.strip():
             yield Piece(at, at + 1, _BLANK)
-        elif _DASHES.match(line) or line.split() == " ".join(titles.names).split():
+        elif _DASHES.match(line) or line.split() == titles.words:
             yield Piece(at, at + 1, _HEAD)
         elif named_in(line) is not None:
             yield Piece(at, at + 1, strange_item(line, label, at, "", "", options.kind or "file"))

@@ -7,7 +7,7 @@ import re
 from typing import Deque, Iterable, Iterator, List, Mapping, NamedTuple, Optional, Tuple
 
 from sdtool.audit.sources.frame import BY_NAMES, Format, LineBlocks, Look, Piece, guesses_of
-from sdtool.audit.sources.items import UNTOLD, Item, item_of, looks_like_descriptor, unreadable
+from sdtool.audit.sources.items import UNTOLD, Item, item_of, looks_like_descriptor, shortened, unreadable
 from sdtool.audit.sources.messages import named_in, strange_item
 from sdtool.audit.sources.naming import (CLASS_NAME, DESCRIPTOR_NAMES, NAME_NAMES, kind_of_name, kind_of_titles,
                                          place_of_classes, plain_name, ranked)
@@ -224,8 +224,9 @@ def _titles_at(rows: List[List[str]], options: SourceOptions) -> int:
 
 def _columns(rows: List[List[str]], header: Optional[List[str]], options: SourceOptions) -> Columns:
     width = len(header) if header is not None else _usual_width(rows)
-    known = f"its columns are {', '.join(header)}" if header else f"it has {width} columns"
+    known = f"its columns are {shortened(', '.join(header), 1_000)}" if header else f"it has {width} columns"
     likely = _likely_columns([row for row in rows if header is not None or len(row) == width])
+    described = set(likely)
     rivals: List[int] = []
     for option, chosen in (("--descriptor-column", options.descriptor_column), ("--name-column", options.name_column)):
         if chosen and _chosen_column(chosen, header, width) is None:
@@ -234,8 +235,8 @@ def _columns(rows: List[List[str]], header: Optional[List[str]], options: Source
         descriptor = _chosen_column(options.descriptor_column, header, width)
     else:
         named = ranked(header, DESCRIPTOR_NAMES) if header is not None else []
-        named.sort(key=lambda at: at not in likely)  # those that have descriptors come first
-        if named and (named[0] in likely or not likely):
+        named.sort(key=lambda at: at not in described)  # those that have descriptors come first
+        if named and (named[0] in described or not likely):
             # Another of these columns counts where it has a descriptor; one of the same title always.
             descriptor, rivals = named[0], named[1:]
         elif not likely:

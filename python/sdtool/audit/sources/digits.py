@@ -10,7 +10,7 @@ from sdtool.audit.sources.options import SourceOptions
 
 _NUMBERS = re.compile(r"\s*1[\s,]+(?:[0-9]{1,3}[\s,]+)*[0-9]{1,3}\s*\Z")
 _HEX = re.compile(r"\s*(?:0x)?01(?:[\s,:-]|0x|[0-9a-f]{2})*\Z", re.I)
-_BASE64 = re.compile(r"\s*AQ[A-Za-z0-9+/\s]*={0,2}\s*\Z")
+_BASE64 = re.compile(r"\s*AQ[A-Za-z0-9+/\s]*(?:={1,2}\s*)?\Z")
 _MOST = 1 << 20  # characters
 _AGAIN = "copy the whole descriptor"
 

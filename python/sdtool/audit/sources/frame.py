@@ -196,19 +196,21 @@ class Data:
 
     def read(self, most: int) -> bytes:
         """So many bytes, or all that are left; a fault that was met comes with the next read."""
-        data = b""
-        while len(data) < most:
+        parts: List[bytes] = []
+        left = most
+        while left:
             try:
-                part = self._stream.read1(most - len(data))
+                part = self._stream.read1(left)
             except READ_FAULTS:
-                if data:
+                if parts:
                     break
                 raise
             if not part:
                 break
-            data += part
-        self.count += len(data)
-        return data
+            parts.append(part)
+            left -= len(part)
+        self.count += most - left
+        return b"".join(parts)
 
     def units(self) -> int:
         while self.read(1 << 20):

@@ -7,6 +7,8 @@ from typing import NamedTuple, Optional
 SDDL, HEX, BASE64, UNREADABLE = "sddl", "hex", "base64", ""
 
 _MOST_BYTES = 131_226
+_MOST_REASON = 2_000  # characters
+LONGEST_NAME = 32_767  # characters of a path, a key or a member of an archive; Windows has no longer ones
 # A descriptor in bytes has at least 20. Before hex stands what programs of databases write there.
 _HEX_DESCRIPTOR = re.compile(r"(?:0[xX]|\\x|[xX](?P<mark>'))?(?P<digits>01(?:[0-9a-fA-F]{2}){19,})(?(mark)')\Z")
 # The revision, 1, is the first byte: in base64 a letter A, and then one that the second byte ends.
@@ -48,8 +50,13 @@ class Item(NamedTuple):
     place: str = ""
 
 
+def shortened(text: str, most: int = 200) -> str:
+    """A text of a source as a sentence has it."""
+    return text if len(text) <= most else text[:most] + ".."
+
+
 def unreadable(name: str, source: str, line: int, reason: str, advice: str, kind: str = "file") -> Item:
-    return Item(name, source, line, UNREADABLE, reason, kind, advice)
+    return Item(name, source, line, UNREADABLE, shortened(reason, _MOST_REASON), kind, advice)
 
 
 def with_usual_revision(data: bytes) -> bytes:
@@ -97,10 +104,6 @@ def _has_offsets(data: bytes) -> bool:
     return len(data) >= 20 and all(not at or 20 <= at < _MOST_BYTES for at in struct.unpack_from("<4I", data, 4))
 
 
-def _cut(text: str) -> str:
-    return text if len(text) <= 40 else text[:40] + ".."
-
-
 def item_of(name: str, source: str, line: int, text: str, kind: str = "file",
             is_folder: Optional[bool] = None) -> Item:
     """An object whose descriptor is spelled by a text in any form."""
@@ -120,7 +123,7 @@ def item_of(name: str, source: str, line: int, text: str, kind: str = "file",
         elif _BASE64_DESCRIPTOR.match(text):
             form = BASE64
         else:
-            return unreadable(name, source, line, f"{_cut(text)!r} is no descriptor", _NO_DESCRIPTOR, kind)
+            return unreadable(name, source, line, f"{shortened(text, 40)!r} is no descriptor", _NO_DESCRIPTOR, kind)
     if form == SDDL:
         # Blanks are part of SDDL, and the place of a fault counts them.
         front, _, behind = spelled.partition(text)

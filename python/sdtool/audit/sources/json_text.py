@@ -6,7 +6,7 @@ import re
 from typing import Any, Dict, Iterable, Iterator, List, NamedTuple, Optional, Tuple, Union
 
 from sdtool.audit.sources.frame import BY_NAMES, Format, Lines, Look, Piece, Texts
-from sdtool.audit.sources.items import UNTOLD, Item, item_of, looks_like_descriptor, unreadable
+from sdtool.audit.sources.items import UNTOLD, Item, item_of, looks_like_descriptor, shortened, unreadable
 from sdtool.audit.sources.naming import (CLASS_NAME, DESCRIPTOR_NAMES, NAME_NAMES, kind_of_name, kind_of_titles,
                                          place_of_classes, plain_name, ranked)
 from sdtool.audit.sources.opening import READ_FAULTS
@@ -19,7 +19,7 @@ _BLANK, _COMMA, _OPEN, _CLOSE = "blanks", "commas", "[", "]"
 _AROUND, _MEMBER = "{ } around a list", "a member beside a list that has no descriptor"
 _AGAIN = "export the source again"
 _STARTS = ("{", '"', "[")
-_PART = 1 << 16  # characters that are looked at together
+_MOST_BLANKS = 10_000  # before an element of which the next ones are told
 _MOST_NAMED = 1 << 20  # characters of a damaged element in which its name is looked for
 _MOST_WAITING = 1_000  # members of an object until it is taken as a map
 _COUNTS = ("count", "@odata.count", "total", "totalcount")
@@ -74,13 +74,22 @@ def _twice(value: Dict[str, Any]) -> Dict[str, int]:
 _DECODER = json.JSONDecoder(object_pairs_hook=_members_of)
 
 
+class _Uncounted(str):
+    """A text whose lines nobody counts. Of another one Python counts those before each fault."""
+
+    def count(self, *_: Any) -> int:
+        return 0
+
+    rfind = count
+
+
 class _Text:
     """A text that is read as far as it is needed, with the number of the line at hand and the place in the source."""
 
     def __init__(self, texts: Texts) -> None:
-        # Python counts the lines before each fault, from the begin of the text at hand on.
-        self._texts = (text[at:at + _PART] for text in texts for at in range(0, len(text), _PART))
+        self._texts = texts
         self.text = ""
+        self._uncounted = _Uncounted()  # the same
         self.at = 0
         self.line = 1
         self._before = 0  # characters that are gone
@@ -107,6 +116,7 @@ class _Text:
             wanted -= len(following)
         self._before += self.at
         self.text = self.text[self.at:] + "".join(parts)
+        self._uncounted = _Uncounted(self.text)
         self.at = 0
         return bool(parts)
 
@@ -117,7 +127,7 @@ class _Text:
             self._blanks = ""
         if self._blanks is not None:
             blanks = self._blanks + self.text[max(ended + 1, self.at):end]
-            self._blanks = None if blanks.strip(" \t") else blanks
+            self._blanks = None if blanks.strip(" \t") or len(blanks) > _MOST_BLANKS else blanks
         self.at = end
 
     def start(self) -> Optional[_Start]:
@@ -166,7 +176,7 @@ class _Text:
         """The value at hand, which has to be no longer than an element may be."""
         while True:
             try:
-                value, end = _DECODER.raw_decode(self.text, self.at)
+                value, end = _DECODER.raw_decode(self._uncounted, self.at)
             except (ValueError, RecursionError) as error:
                 is_damaged = len(self.text) - self.at > _MOST_CHARACTERS or not _may_go_on(error, len(self.text))
                 if is_damaged or not self.more():
@@ -298,10 +308,11 @@ def items_of_element(value: Any, label: str, line: int, options: SourceOptions, 
     kind = options.kind or kind_of_titles(value) or (kind_of_name(parts.name) if is_named else UNTOLD)
     found = [unreadable(parts.name, label, line, parts.reason, parts.help, kind) if parts.reason else
              item_of(parts.name, label, line, parts.text, kind)._replace(place=_place_of(value, parts.name, kind))]
+    of_name = shortened(parts.name)
     for key, inner in _inside(value, options.descriptor_column) if any(type(inner) in (dict, list)
                                                                        for inner in value.values()) else ():
         name = _parts(inner, place, options).name
-        found.append(unreadable(name, label, line, f"it is inside member {key} of {parts.name}",
+        found.append(unreadable(name, label, line, f"it is inside member {shortened(key)} of {of_name}",
                                 "export a list without lists inside", options.kind or kind_of_name(name)))
     return found
 
@@ -431,7 +442,7 @@ def _beside(key: str, value: Any, elements: int, label: str, line: int) -> List[
                            "export a list without others beside it")]
     if isinstance(value, dict):
         return [unreadable(_parts(inner, f"{label}:{line}", SourceOptions()).name, label, line,
-                           f"it is inside member {key} beside a list",
+                           f"it is inside member {shortened(key)} beside a list",
                            "export a list without others beside it") for _, inner in _inside({key: value})]
     return []
 

@@ -1,7 +1,7 @@
 """Titles of columns and members: which have descriptors, which have names, and what they and names tell of objects: the
 kind, and the classes of those of a directory."""
 import re
-from typing import AbstractSet, Iterable, List, Sequence
+from typing import AbstractSet, Dict, Iterable, List, Sequence
 
 from sdtool._windows import HINTS
 from sdtool.audit.sources.items import BY_PATH, UNTOLD
@@ -33,6 +33,16 @@ def plain_name(title: str) -> str:
 
 # Titles that tell the kind of objects; the first that is there counts.
 _KINDS = {plain_name(name): hint["kind"] for hint in HINTS for name in hint.get("property", ())}
+_TELLING = frozenset({*DESCRIPTOR_NAMES, *NAME_NAMES, *_OF_SHARES, *_KINDS, CLASS_NAME})
+
+
+def telling(titles: Iterable[str]) -> List[str]:
+    """The titles that tell something of objects; of those that are read as the same no more than two."""
+    found: Dict[str, List[str]] = {}
+    for title in titles:
+        same = found.setdefault(plain_name(title), []) if plain_name(title) in _TELLING else []
+        same += [title] if len(same) < 2 else []
+    return [title for same in found.values() for title in same]
 
 
 def _is_of_share(titles: AbstractSet[str]) -> bool:

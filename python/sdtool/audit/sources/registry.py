@@ -1,11 +1,12 @@
 """Registry exports, which reg export and regedit write."""
 import collections
+import functools
 import re
 from typing import Any, Dict, Iterator, List, NamedTuple, Optional, Tuple, Union
 
 from sdtool._windows import HINTS
 from sdtool.audit.sources.frame import BY_NAMES, Format, Lines, Look, Piece
-from sdtool.audit.sources.items import UNTOLD, Item, bytes_item, item_of, unreadable
+from sdtool.audit.sources.items import LONGEST_NAME, UNTOLD, Item, bytes_item, item_of, unreadable
 from sdtool.audit.sources.options import SourceOptions
 
 _HEAD_LINE = re.compile(r"(Windows Registry Editor Version [0-9]+\.[0-9]+|REGEDIT4)\s*\Z", re.I)
@@ -27,13 +28,13 @@ _MOST_LINES = 100_000  # of a value
 _MOST_PIECES = 100_000  # of a key, until they are given
 
 
-def _pattern_of(hint: Dict[str, Any]) -> str:
-    key, names = "\\\\" + hint["key"] if "key" in hint else "", "|".join(hint.get("value", (r"[^\\]*",)))
-    return rf"{key}\\(?:{names})\Z"
+def _patterns_of(hint: Dict[str, Any]) -> Tuple[str, str]:
+    return "\\\\" + hint["key"] + r"\Z" if "key" in hint else "", "|".join(hint.get("value", (r"[^\\]*",)))
 
 
-# What a value protects, by its key and its name. The first that fits counts.
-_KINDS = [(re.compile(_pattern_of(hint), re.I), hint["kind"]) for hint in HINTS if "key" in hint or "value" in hint]
+# What a value protects, by the end of its key and by its name. The first that fits counts.
+_KINDS = [(*(re.compile(one, re.I) for one in _patterns_of(hint)), hint["kind"])
+          for hint in HINTS if "key" in hint or "value" in hint]
 _HEAD, _BLANK, _COMMENT, _KEY_LINE = "the head", "a blank line", "a comment", "the name of a key"
 _OTHER = "a value that is no descriptor"
 _AGAIN = "export the key again"
@@ -137,10 +138,16 @@ def _binary_value(begin: int, name: str, data: str, lines: _Numbered) -> Value:
         count += 1
 
 
+@functools.lru_cache(maxsize=100)
+def _kinds_of(key: str) -> List[Tuple[Any, str]]:
+    """The names of values that tell the kinds of objects in a key, with these."""
+    return [(names, kind) for pattern, names, kind in _KINDS if pattern.search(key)]
+
+
 def _kind_of(key: str, name: str) -> str:
     """The kind of the object that a value of a key protects."""
-    path = f"{key}\\{name}"
-    return next((kind for pattern, kind in _KINDS if pattern.search(path)), UNTOLD)
+    front, last = (key, name) if "\\" not in name else f"{key}\\{name}".rsplit("\\", 1)
+    return next((kind for names, kind in _kinds_of(front) if names.fullmatch(last)), UNTOLD)
 
 
 def _is_descriptor(key: str, name: str, digits: str) -> bool:
@@ -191,7 +198,7 @@ def _line(text: str) -> Tuple[str, str]:
         return _COMMENT, ""
     if _HEAD_LINE.match(text):
         return _HEAD, ""
-    if _KEY.match(text):
+    if _KEY.match(text) and len(text) <= LONGEST_NAME:
         return _KEY_LINE, text.strip()[1:-1].lstrip("-")
     return "", ""
 

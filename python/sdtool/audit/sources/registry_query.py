@@ -3,6 +3,7 @@ import re
 from typing import Iterator, Optional
 
 from sdtool.audit.sources.frame import BY_NAMES, Format, Lines, Look, Piece
+from sdtool.audit.sources.items import LONGEST_NAME
 from sdtool.audit.sources.messages import strange_item
 from sdtool.audit.sources.options import SourceOptions
 from sdtool.audit.sources.registry import Value, item_of_value
@@ -36,7 +37,7 @@ def _read(source: Lines, label: str, options: SourceOptions) -> Iterator[Piece]:
         found = _TYPE.search(line) if line[:1] in (" ", "\t") else None
         if not line.strip() or _END.match(line):
             yield Piece(number, number + 1, _BLANK)
-        elif _KEY.match(line):
+        elif _KEY.match(line) and len(line) <= LONGEST_NAME:
             key = line.strip()
             yield Piece(number, number + 1, _KEY_LINE)
         elif found:
@@ -45,6 +46,7 @@ def _read(source: Lines, label: str, options: SourceOptions) -> Iterator[Piece]:
         else:
             reason = f"{line.strip()[:80]!r} is neither a key nor a value"
             lost = strange_item(line, label, number, reason, _AGAIN, options.kind or "file")
+            key = None if _KEY.match(line) else key
             yield Piece(number, number + 1, lost, True)
 
 

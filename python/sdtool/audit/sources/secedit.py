@@ -3,7 +3,7 @@ import re
 from typing import Iterator, List, Optional, Tuple, Union
 
 from sdtool.audit.sources.frame import Format, Lines, Look, Piece
-from sdtool.audit.sources.items import WITHOUT_OWNER, Item, item_of, looks_like_descriptor, unreadable
+from sdtool.audit.sources.items import WITHOUT_OWNER, Item, item_of, looks_like_descriptor, shortened, unreadable
 from sdtool.audit.sources.options import SourceOptions
 
 _KINDS = {"file security": "file", "registry keys": "key", "service general setting": "service"}
@@ -62,7 +62,7 @@ def _taken(line: str, section: Optional[str], label: str, number: int,
         return _row_item(text, label, number, options.kind or _KINDS[section]), False
     if _SETTING.match(text) and not _has_descriptor(text) and section is not None:
         return _OTHER, False
-    where = "before the first section" if section is None else f"in section [{section}]"
+    where = "before the first section" if section is None else f"in section [{shortened(section)}]"
     row = _row_item(text, label, number, options.kind or "file")
     return unreadable(row.name if row.form else text[:1000], label, number,
                       f"an object or a line that isn't known, {where}",

@@ -78,7 +78,9 @@ class _Objects:
             try:
                 self._parser.Parse(data, not text)
                 self._bytes += len(data)
-                return ""
+                # The parser looks at markup again, from its begin on, until its end has come.
+                is_long = 0 <= self._parser.CurrentByteIndex < self._bytes - _MOST_CHARACTERS
+                return "a tag or a comment is too long" if is_long else ""
             except expat.ExpatError as error:
                 data = data[max(0, self._parser.ErrorByteIndex - self._bytes):]
                 if error.code not in _BEHIND or not self._parser.ErrorByteIndex or not data:
