@@ -33,6 +33,8 @@ const DENIES = ["D", "OD"];
 const MOST_TYPED = 20_000; // checks of a descriptor for object types
 const USUALLY = Object.fromEntries(RULES.map(([name, severity]) => [name, severity]));
 const OF_DIRECTORY = Object.fromEntries(RULES.map(([name, , , severity]) => [name, severity]));
+const OF_ADDING = Object.fromEntries(RULES.map(([name, , , , severity]) => [name, severity]));
+const ADDING = atRisk("folder", ["adding"]);
 
 // Whether nobody in particular has a SID, or an account of the system that may have any right to this kind.
 function isQuiet(sid, kind) {
@@ -182,11 +184,15 @@ function without(got, less) {
     };
 }
 
-// What is asked about a descriptor: the trustees here and below, and what is left of the list without Windows' own
-// ACEs.
+// Whether an object is a folder: files hand nothing on.
+const isFolder = (kind, aces) => kind === "folder" ||
+    (kind === "file" && aces.some(({flags}) => inheritedBy(kind).some((flag) => flags.includes(flag))));
+
+// What is asked about a descriptor: the trustees here and below, those of a folder who get no right to change its files
+// by what counts here, and what is left of the list without Windows' own ACEs.
 function caseOf(model, options) {
     const {kind, domain} = options;
-    const [here, below, kept] = [new Set(), new Map(), []];
+    const [here, filing, below, kept] = [new Set(), new Set(), new Map(), []];
     const inherited = inheritedBy(kind);
     // What an ACE that denies takes here, children may get all the same; and a generic right may mean more for them.
     const isDenied = model.dacl.aces.some((ace) => DENIES.includes(ace.kind));
@@ -202,6 +208,9 @@ function caseOf(model, options) {
             }
             if (!isBelow) {
                 here.add(sid);
+                if (ace.flags.includes("OI") && (mask & wantedOf(sid, kind, domain).mask) !== 0) {
+                    filing.add(sid);
+                }
             }
             const hasMore = isBelow || isDenied || (ofChildren & ~mask) !== 0;
             if (goesOn && (isDirectory(kind) || (hasMore && everybodyClass(ace.sid)))) {
@@ -210,7 +219,8 @@ function caseOf(model, options) {
         }
         kept.push({ace, mask, ofChildren});
     }
-    return {here, below, kept};
+    const adding = isFolder(kind, model.dacl.aces) ? new Set([...here].filter((sid) => !filing.has(sid))) : new Set();
+    return {here, adding, below, kept};
 }
 
 function concerns(ace, mask, sid, kind, domain) {
@@ -308,7 +318,7 @@ function asked(question) {
 
 function ofList(library, model, options) {
     const {kind, domain, classes, hasAccounts} = options;
-    const {here, below, kept} = caseOf(model, options);
+    const {here, adding, below, kept} = caseOf(model, options);
     const owner = askedOwner(model, kind, domain);
     if (!here.size && !below.size && !owner) {
         return [];
@@ -318,6 +328,10 @@ function ofList(library, model, options) {
     const whole =
         viewOf(library, kind, ownerSid, model.dacl.aces.map((ace) => ({ace, mask: withoutGeneric(ace.mask, kind)})));
     const wanted = (sid) => wantedOf(sid, kind, domain);
+    // Whether rights of a trustee that are a finding let it add to a folder, and no more. That tells nothing of its files.
+    const adds = (sid, mask) => adding.has(sid) && (mask & ~ADDING) === 0;
+    const telling =
+        adding.size ? new Set([...here].filter((sid) => !adds(sid, own.mask(sid, "") & wanted(sid).mask))) : here;
     // What a trustee gets beyond what is found of wider groups.
     const beyond =
         (view, sid, among) => meaningOfSid(
@@ -329,12 +343,13 @@ function ofList(library, model, options) {
     const where = {classes, own: classes.slice(-1), hasAccounts};
     const ofSid = (sid, got) => (isDirectory(kind) ?
             ofDirectory(sid, own, wanted(sid), got, where, answersOf(own, whole, sid, where), options, {}) :
-            ofMask(wanted(sid).rule, kind, sid, own, only(got, wanted(sid).mask)));
+            ofMask(wanted(sid).rule, kind, sid, own, only(got, wanted(sid).mask),
+                adds(sid, got.mask & wanted(sid).mask) ? {severity: valueIn(OF_ADDING, wanted(sid).rule)} : {}));
     for (const sid of here) {
         if (sid === ownerSid && tableOf(kind).owner === "usual" && !everybodyClass(sid)) {
             continue;
         }
-        const got = beyond(own, sid, here);
+        const got = beyond(own, sid, adding.has(sid) ? here : telling);
         found.push(...ofSid(sid, sid === owner ? without(got, {mask: ofOwner, typed: []}) : got));
     }
     return [...found, ...ofBelow(library, {below, kept, own, beyond, wanted, ofSid}, options)];

@@ -22,7 +22,7 @@ RIGHTS = {"CC": 0x1, "DC": 0x2, "LC": 0x4, "SW": 0x8, "RP": 0x10, "WP": 0x20, "D
           "SD": 0x10000, "RC": 0x20000, "WD": 0x40000, "WO": 0x80000}
 DOES = ("change", "write", "delete", "permissions", "owner", "read", "execute", "attributes", "start", "stop",
         "control", "remote")
-RISKS = ("takeover", "everybody", "anyone", "anonymous")
+RISKS = ("takeover", "everybody", "adding", "anyone", "anonymous")
 WHO = ("anyone", "logged-on", "application", "package", "service", "trusted", "stand-in", "other")
 SEVERITIES = ("high", "medium", "low", "note")
 TYPES = ("right", "write", "set", "class", "attribute")
@@ -204,11 +204,11 @@ def read_defaults(schema, kinds):
 def read_rules():
     given, rules = table("rules"), []
     for row in given["rule"]:
-        in_directory = row.get("directory", row["severity"])
-        expect(set(row) <= {"name", "severity", "directory", "off", "reason", "page"}, f"{row}: another key")
-        expect({row["severity"], in_directory} <= set(SEVERITIES), f"{row}: severity")
+        others = tuple(row.get(key, row["severity"]) for key in ("directory", "adding"))
+        expect(set(row) <= {"name", "severity", "directory", "adding", "off", "reason", "page"}, f"{row}: another key")
+        expect({row["severity"], *others} <= set(SEVERITIES), f"{row}: severity")
         rules.append((row["name"], row["severity"], row.get("off", False), row["reason"], row.get("page", ""),
-                      in_directory))
+                      *others))
     everybody = given["everybody"]
     expect(set(everybody) | set(given["quiet"]) <= set(WHO), "rules.toml: no such class")
     named = {row["rule"] for row in everybody.values()}
@@ -357,9 +357,9 @@ def python_text(tables, schema):
                      "type, inherited type, below."),
         "CONTAINERS": ("Tuple[str, ...]", "What their places are below, beside the heads of naming contexts."),
         "SEVERITIES": ("Tuple[str, ...]", "How grave a finding is, the gravest first."),
-        "RULES": ("Tuple[Tuple[str, str, bool, str, str, str], ...]",
-                  "Rules of risks: name, severity, whether it is off, reason, words of the page, severity for "
-                  "directory objects."),
+        "RULES": ("Tuple[Tuple[str, str, bool, str, str, str, str], ...]",
+                  "Rules of risks: name, severity, whether it is off, reason, words of the page, severities in a "
+                  "directory and of adding."),
         "ATTRIBUTES": ("Dict[str, Tuple[str, ...]]",
                        "What whoami says of a group that counts against its holder alone, and of one that is enabled."),
         "PRIVILEGES": ("Dict[str, Tuple[str, str]]",
@@ -487,8 +487,9 @@ def kind_list(tables):
 
 
 def rule_list(tables):
-    for name, severity, off, reason, _, in_directory in tables["RULES"]:
-        said = [severity, "off" if off else "", f"directory: {in_directory}" if in_directory != severity else ""]
+    for name, severity, off, reason, _, *others in tables["RULES"]:
+        said = [severity, "off" if off else "", *(f"{where}: {other}" for where, other in
+                                                  zip(("directory", "adding"), others) if other != severity)]
         yield f"- `{name}` ({', '.join(filter(None, said))}): {reason}"
 
 

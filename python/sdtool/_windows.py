@@ -214,13 +214,13 @@ KINDS: Dict[str, Dict[str, Any]] = {
         ),
         "rights": (
             (1, "list folder", "List", "list folder", "read", ("read",), ""),
-            (2, "add files", "Add files", "add files", "change", ("change", "write"), "everybody"),
-            (4, "add subfolders", "Add folders", "add subfolders", "change", ("change", "write"), "everybody"),
+            (2, "add files", "Add files", "add files", "change", ("change", "write"), "adding"),
+            (4, "add subfolders", "Add folders", "add subfolders", "change", ("change", "write"), "adding"),
             (8, "read extended attributes", "Read ext. attr.", "read extended attributes", "read", (), ""),
             (
                 16, "write extended attributes", "Write ext. attr.", "write extended attributes", "change",
                 ("change", "attributes"),
-                "everybody",
+                "adding",
             ),
             (32, "traverse folder", "Traverse", "traverse folder", "read", ("execute",), ""),
             (
@@ -229,11 +229,7 @@ KINDS: Dict[str, Dict[str, Any]] = {
                 "everybody",
             ),
             (128, "read attributes", "Read attr.", "read attributes", "read", (), ""),
-            (
-                256, "write attributes", "Write attr.", "write attributes", "change",
-                ("change", "attributes"),
-                "everybody",
-            ),
+            (256, "write attributes", "Write attr.", "write attributes", "change", ("change", "attributes"), "adding"),
             (0x10000, "delete", "Delete", "delete", "change", ("change", "delete"), "everybody"),
             (0x20000, "read permissions", "Read permissions", "read permissions", "read", (), ""),
             (
@@ -1374,65 +1370,72 @@ DEFAULTS: Tuple[Tuple[Any, ...], ...] = (
 CONTAINERS: Tuple[str, ...] = ("System", "Services", "Configuration", "Certificate Templates")
 # How grave a finding is, the gravest first.
 SEVERITIES: Tuple[str, ...] = ("high", "medium", "low", "note")
-# Rules of risks: name, severity, whether it is off, reason, words of the page, severity for directory objects.
-RULES: Tuple[Tuple[str, str, bool, str, str, str], ...] = (
+# Rules of risks: name, severity, whether it is off, reason, words of the page, severities in a directory and of adding.
+RULES: Tuple[Tuple[str, str, bool, str, str, str, str], ...] = (
     (
         "no-dacl", "high", False, "There is no DACL: everybody gets everything, or the source left the DACL out.",
         "There is no DACL: everyone has full access. If the source fetched the owner alone, the real permissions are "
         "unknown.",
-        "high",
+        "high", "high",
     ),
     (
         "null-dacl", "high", False, "The DACL is null: everybody gets everything.",
-        "The DACL is null: everyone has full access, and nothing is refused.", "high",
+        "The DACL is null: everyone has full access, and nothing is refused.", "high", "high",
     ),
     (
         "empty-dacl", "note", False, "The DACL is empty: nobody but the owner gets anything.",
         "The DACL is empty: nobody has access, except that the owner may read and change the permissions.", "note",
+        "note",
     ),
     (
         "everyone-changes", "high", False, "Everybody, also without logging on, gets a right to change the object.",
-        "{who} can {rights}. That is everybody, also without logging on.", "high",
+        "{who} can {rights}. That is everybody, also without logging on.", "high", "medium",
     ),
     (
         "users-change", "high", False, "Nearly everybody who logs on gets a right to change the object.",
-        "{who} can {rights}. That is nearly everybody who logs on.", "high",
+        "{who} can {rights}. That is nearly everybody who logs on.", "high", "medium",
     ),
     (
         "apps-change", "medium", False, "Applications of the store get a right to change the object.",
-        "{who} can {rights}. That is any application which has it.", "high",
+        "{who} can {rights}. That is any application which has it.", "high", "medium",
     ),
     (
         "children-change", "medium", False,
         "Everybody gets a right to change what is made in the object, not the object itself.",
-        "{who} can {rights} in what is made below, though not here.", "medium",
+        "{who} can {rights} in what is made below, though not here.", "medium", "medium",
     ),
     (
         "takeover", "medium", False,
         "Somebody who isn't trusted can change permissions or the owner, or run code as the object's account.",
-        "{who} can {rights}. That is no administrator who is trusted.", "high",
+        "{who} can {rights}. That is no administrator who is trusted.", "high", "medium",
     ),
     (
         "foreign-owner", "medium", False, "The owner isn't trusted, and can change permissions.",
-        "{who} owns it, and so can {rights}. That is no administrator who is trusted.", "high",
+        "{who} owns it, and so can {rights}. That is no administrator who is trusted.", "high", "medium",
     ),
     (
         "acts-for-others", "high", False,
         "Somebody who isn't trusted may act for any user on the account (resource-based delegation).",
-        "{who} can {rights}. That is no administrator who is trusted.", "high",
+        "{who} can {rights}. That is no administrator who is trusted.", "high", "high",
     ),
     (
         "reads-password", "high", False,
         "Somebody who isn't trusted may read the password of a managed service account.",
-        "{who} can {rights} of the account. That is no administrator who is trusted.", "high",
+        "{who} can {rights} of the account. That is no administrator who is trusted.", "high", "high",
     ),
-    ("readable", "medium", True, "Everybody may read the object.", "{who} can {rights}.", "medium"),
+    ("readable", "medium", True, "Everybody may read the object.", "{who} can {rights}.", "medium", "medium"),
     (
         "order", "low", False,
-        "The ACEs are not in canonical order, so a tool that sorts them changes what they grant.", "", "low",
+        "The ACEs are not in canonical order, so a tool that sorts them changes what they grant.", "", "low", "low",
     ),
-    ("inheritance-cut", "note", False, "The DACL is protected: what the folder hands on doesn't arrive.", "", "note"),
-    ("unknown-sid", "low", False, "A SID has no name: its account was deleted or its system is unknown.", "", "low"),
+    (
+        "inheritance-cut", "note", False, "The DACL is protected: what the folder hands on doesn't arrive.", "", "note",
+        "note",
+    ),
+    (
+        "unknown-sid", "low", False, "A SID has no name: its account was deleted or its system is unknown.", "", "low",
+        "low",
+    ),
 )
 # What whoami says of a group that counts against its holder alone, and of one that is enabled.
 ATTRIBUTES: Dict[str, Tuple[str, ...]] = {
@@ -1456,9 +1459,9 @@ PRIVILEGES: Dict[str, Tuple[str, str]] = {
 RULE_OF: Dict[str, str] = {"anyone": "everyone-changes", "logged-on": "users-change", "application": "apps-change"}
 # and the risks of rights that count for it.
 RISKS_OF: Dict[str, Tuple[str, ...]] = {
-    "anyone": ("takeover", "everybody", "anyone", "anonymous"),
-    "logged-on": ("takeover", "everybody"),
-    "application": ("takeover", "everybody"),
+    "anyone": ("takeover", "everybody", "adding", "anyone", "anonymous"),
+    "logged-on": ("takeover", "everybody", "adding"),
+    "application": ("takeover", "everybody", "adding"),
 }
 # Classes whose having a right is no finding.
 QUIET: Tuple[str, ...] = ("stand-in", "package")

@@ -66,15 +66,16 @@ def notes():
 
 
 def wanted(row):
-    """The findings of a row: rule, trustee, and the rights that have to be among those found."""
-    return [(rule, sid, set(filter(None, words.split(", ")))) for rule, sid, words in
+    """The findings of a row: rule, trustee, the rights that have to be among those found, and the severity if it has
+    one."""
+    return [(rule, sid, set(filter(None, words.split(", "))), severity) for rule, sid, words, *severity in
             (one.split("|") for one in row.get("finds", ()))]
 
 
 def difference(found, row):
-    """What is wrong with findings, which are rule, trustee and the names of all rights."""
+    """What is wrong with findings, which are rule, trustee, the names of all rights, and what their severity may be."""
     missing = [one for one in wanted(row)
-               if not any(one[:2] == other[:2] and one[2] <= other[2] for other in found)]
+               if not any(one[:2] == other[:2] and one[2] <= other[2] and {*one[3]} <= {*other[3]} for other in found)]
     other = [one for one in found if one[:2] not in [expected[:2] for expected in wanted(row)]]
     said = []
     if missing:
@@ -104,9 +105,9 @@ def of_audit():
         found = []
         for one in answer.findings:
             if one.rule not in notes():
-                found.append((one.rule, sid_in(one.trustee), set(one.rights.split(", "))))
+                found.append((one.rule, sid_in(one.trustee), set(one.rights.split(", ")), [one.severity]))
         if answer.status == "unknown":
-            found.append(("unknown", answer.reason, set()))
+            found.append(("unknown", answer.reason, set(), []))
         yield row, found
 
 
@@ -184,10 +185,15 @@ def rights_of(kind):
     return {right["bit"]: right["name"] for right in [*own, *tables["standard"]]}
 
 
+SEVERITIES = {"danger": ["high"], "caution": ["medium", "low"]}  # by what the page calls them
+
+
 def named(found, row):
-    """What the page warns of: rule, trustee and the names of all rights, and whether that depends on the class."""
+    """What the page warns of: rule, trustee, the names of all rights and what its severity may be, and whether that
+    depends on the class."""
     rights = {name for bit, name in rights_of(found.get("kind") or row["kind"]).items() if bit & found.get("mask", 0)}
-    return (found["rule"], found.get("who", ""), rights), "onlyOf" in found or "exceptOf" in found
+    severities = SEVERITIES.get(found.get("level"), [])
+    return (found["rule"], found.get("who", ""), rights, severities), "onlyOf" in found or "exceptOf" in found
 
 
 # Names that say something only where the class is known.

@@ -86,6 +86,20 @@ def test_masks(place):
         judge_masks(place, kind["name"], found, masks, kind.get("owner") == "usual", ruling)
 
 
+def test_folders(place):
+    """Of a folder two ACEs are at least as grave as each of them, in either order."""
+    flags, masks = ("", "CI", "OI", "OICI", "CIIO", "OICIIO"), ("0x2", "0x6", "0x116", "0x46", "0x1200a9")
+    aces = [f"(A;{of_children};{mask};;;{sid})" for of_children, mask, sid
+            in itertools.product(flags, masks, ("S-1-5-32-545", EVERYONE))]
+    texts = [*aces, *map("".join, itertools.product(aces, aces))]
+    found = findings(place, "risks", place.table([(text, f"O:BAG:BAD:{text}") for text in texts]), "--type", "folder")
+    of_text = {text: max((SEVERITIES.index(severity) for *_, severity in found[text]), default=-1) for text in texts}
+    wrong = [(one, other) for one, other in itertools.product(aces, aces)
+             if of_text[one + other] < max(of_text[one], of_text[other])]
+    place.expect(wrong, [], "ACEs that are graver than what contains them")
+    place.expect({SEVERITIES[of_text[text]] for text in aces if of_text[text] >= 0}, {"medium", "high"}, "one ACE")
+
+
 def typed_objects(types):
     """A name and a text for each trustee, right and object type."""
     return [(f"{trustee} {right} {one}", f"O:BAG:BAD:(OA;;{right};{one};;{trustee})")
@@ -173,4 +187,4 @@ def test_fewer_rules(place):
 
 
 def main(count: preload.Count) -> None:
-    abilities.run_tests(count, (test_masks, test_classes, test_high, test_fewer_rules))
+    abilities.run_tests(count, (test_masks, test_folders, test_classes, test_high, test_fewer_rules))

@@ -1,7 +1,7 @@
 """What is risky about an object: rules with a name, a severity and a reason. windows/ has the rules and what they go
 by."""
 import functools
-from typing import Callable, Dict, Iterable, Iterator, List, NamedTuple, Optional, Sequence, Set, Tuple
+from typing import Callable, Dict, FrozenSet, Iterable, Iterator, List, NamedTuple, Optional, Sequence, Set, Tuple
 
 from sdtool._windows import RULES as _RULES
 from sdtool._windows import ABILITIES, QUIET, RISKS_OF, RULE_OF, SIDS
@@ -14,6 +14,7 @@ from sdtool.audit.library import (ALLOWS, CONTAINER_INHERIT, DENIES, INHERIT_ONL
                                   mapped_below, spelled)
 from sdtool.audit.masks import WITHOUT_MAPPING
 from sdtool.audit.protocols import Context
+from sdtool.audit.sources.items import BY_PATH, UNTOLD
 from sdtool.audit.sources.places import Place, known_place
 from sdtool.audit.windows import names as sids
 from sdtool.audit.windows import rights
@@ -28,6 +29,8 @@ RULES = (*(Rule(name, reason, severity) for name, severity, _, reason, *_ in _RU
 RULE_NAMES = tuple(rule.name for rule in RULES)
 SEVERITIES = {rule.name: rule.severity for rule in RULES}
 _OF_DIRECTORY = {**SEVERITIES, **{row[0]: row[5] for row in _RULES}}
+_OF_ADDING = {row[0]: row[6] for row in _RULES}
+_ADDING = rights.risk_of("folder", ("adding",))
 _OFF = frozenset(row[0] for row in _RULES if row[2])
 DEFAULT_RULES = tuple(name for name in RULE_NAMES if name not in _OFF)
 
@@ -162,6 +165,11 @@ class _Case(NamedTuple):
     here: Dict[str, _Wanted]
     below: Dict[str, List[Ace]]
     owner: str
+    adding: FrozenSet[str] = frozenset()  # of a folder: who gets no right to change its files by what counts here
+
+    def adds(self, sid: str, mask: int) -> bool:
+        """Whether rights of a trustee that are a finding let it add to a folder, and no more."""
+        return sid in self.adding and not mask & ~_ADDING
 
 
 class Risks:
@@ -283,6 +291,7 @@ class Risks:
         # What an ACE that denies takes here, children may get all the same; and a generic right may mean more for them.
         is_denied = any(ace.kind in DENIES for ace in descriptor.aces)
         kept: List[int] = []
+        filing: Set[str] = set()
         for number, ace in enumerate(descriptor.aces, 1):
             if ace.kind in ALLOWS:
                 sid = as_owner(ace.sid, descriptor)
@@ -292,12 +301,15 @@ class Risks:
                         continue
                     if ace.decides:
                         asked[sid] = wanted
+                        if ace.flags & OBJECT_INHERIT and mapped(ace.mask, kind) & wanted.mask:
+                            filing.add(sid)
                     has_more = (is_denied or ace.flags & INHERIT_ONLY
                                 or mapped_below(ace, kind) & ~mapped(ace.mask, kind))
                     if ace.flags & inheriting and (is_directory or has_more and sids.everybody_class(ace.sid)):
                         below.setdefault(sid, []).append(ace)
             kept.append(number)
-        case = _Case(place, groups, whole, whole, (), asked, below, self._asked_owner(descriptor, kind, place))
+        adding = frozenset(asked.keys() - filing if _is_folder(descriptor, kind) else ())
+        case = _Case(place, groups, whole, whole, (), asked, below, self._asked_owner(descriptor, kind, place), adding)
         return self._asked(views, descriptor, kind, case, kept) if asked or below or case.owner else case
 
     def _asked(self, views: _Views, descriptor: Descriptor, kind: str, case: _Case, kept: Sequence[int]) -> _Case:
@@ -347,15 +359,20 @@ class Risks:
                 because = case.own.because(case.owner, descriptor.aces, of_owner)
                 yield from self._of(_OWNER, case.owner, rights.text(of_owner, kind), "", of_owner, because,
                                     severity_of(_OWNER, kind, case.owner))
+            # Whoever may only add to a folder tells nothing of its files.
+            telling = {sid for sid, wanted in case.here.items()
+                       if not (case.adding and case.adds(sid, case.own.got(sid, wanted.mask).mask))}
             # Wider groups come first.
             for sid, wanted in sorted(case.here.items(),
                                       key=lambda one: RULE_NAMES.index(one[1].rule) if one[1].rule else 0):
                 if sid == descriptor.owner and rights.is_owner_usual(kind) and not sids.everybody_class(sid):
                     continue
                 about = _about(sid, case.own, case.whole, where, descriptor.aces)
-                got = self._beyond(case.own, sid, case.here, case.whole, kind, where)
+                among = case.here if sid in case.adding else telling
+                got = self._beyond(case.own, sid, among, case.whole, kind, where)
                 own = _without(got, Got(of_owner if sid == case.owner else 0, ()))
-                yield from self._of_got(sid, wanted, own, kind, case.place, about)
+                is_adding = case.adds(sid, own.mask & wanted.mask)
+                yield from self._of_got(sid, wanted, own, kind, case.place, about, is_adding)
             yield from self._of_below(case, descriptor.aces, kind, where)
             yield from self._of_list(descriptor)
         if self._context.names.given:
@@ -384,13 +401,14 @@ class Risks:
                 masks[object_type] = masks.get(object_type, 0) | one.mask
         return Got(masks.pop(""), tuple(masks.items()))
 
-    def _of_got(self, sid: str, wanted: _Wanted, got: Got, kind: str, place: Place, about: _About) -> Iterator[Finding]:
+    def _of_got(self, sid: str, wanted: _Wanted, got: Got, kind: str, place: Place, about: _About,
+                is_adding: bool = False) -> Iterator[Finding]:
         yield from self._of_mask("readable", sid, _only(got, wanted.read), kind, "", about.why, got.mask, wanted.read)
         if kind in rights.DIRECTORY:
             yield from self._of_directory(sid, wanted, got, kind, place, "", about)
         else:
             own = _only(got, wanted.mask)
-            yield from self._of_mask(wanted.rule, sid, own, kind, "", about.why, got.mask, wanted.mask)
+            yield from self._of_mask(wanted.rule, sid, own, kind, "", about.why, got.mask, wanted.mask, is_adding)
 
     def _of_directory(self, sid: str, wanted: _Wanted, got: Got, kind: str, place: Place, below: str,
                       about: _About) -> Iterator[Finding]:
@@ -467,9 +485,9 @@ class Risks:
             yield from self._of("unknown-sid", sid, "", f"in {', '.join(found)}")
 
     def _of_mask(self, rule: str, sid: str, got: Got, kind: str, text: str, why: _Why, had: int = 0,
-                 asked: int = 0) -> Iterator[Finding]:
+                 asked: int = 0, is_adding: bool = False) -> Iterator[Finding]:
         for share in shares_of(got, kind, text, had, asked) if rule in self._on else ():
-            severity = severity_of(rule, kind, sid)
+            severity = _OF_ADDING[rule] if is_adding else severity_of(rule, kind, sid)
             # A finding that is too slight is left out later.
             because = why(share.mask, share.object_type) if ORDER.index(severity) <= self._most_slight else ()
             yield from self._of(rule, sid, share.words, share.text, share.mask, because, severity)
@@ -483,6 +501,7 @@ class Risks:
 
 
 _OWNER = "foreign-owner"
+_FILES = ("file", UNTOLD, BY_PATH)
 
 
 def severity_of(rule: str, kind: str, sid: str) -> str:
@@ -515,6 +534,11 @@ def _is_quiet(sid: str, kind: str) -> bool:
         return True
     # The accounts that services share aren't trusted where a right runs code as another account.
     return who == sids.SERVICE and not (rights.runs_code(kind) and sid in SIDS)
+
+
+def _is_folder(descriptor: Descriptor, kind: str) -> bool:
+    """Whether an object is a folder: files hand nothing on."""
+    return kind == "folder" or kind in _FILES and any(ace.flags & rights.inherits(kind) for ace in descriptor.aces)
 
 
 def _joined(*texts: str) -> str:
