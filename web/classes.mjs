@@ -52,7 +52,9 @@ export function risksOfAny(library, model, options) {
     for (const [one, ...more] of groups) {
         for (const risk of risksOf(library, model, {...options, classes: [one]})) {
             const key = JSON.stringify({...risk, numbers: null});
-            found.set(key, {risk, of: [...new Set([...(found.get(key)?.of ?? []), one, ...more])]});
+            const {risk: before, of} = found.get(key) ?? {risk: {numbers: []}, of: []};
+            const numbers = [...new Set([...before.numbers, ...risk.numbers])].sort((first, second) => first - second);
+            found.set(key, {risk: {...risk, numbers}, of: [...new Set([...of, one, ...more])]});
         }
     }
     const classes = groups.flat();

@@ -325,8 +325,8 @@ function guessed(text) {
     return listing ? [{...listing, form: "sddl", dropped: [{what: "listing"}]}] : found;
 }
 
-// The descriptors in a text, at least one: {name, classes, form, line, dropped}. Of a text in which none is found the
-// whole is taken as SDDL, so that the library says what is wrong with it.
+// The descriptors in a text, at least one: {name, classes, isEntry, form, line, dropped}. Of a text in which none is
+// found the whole is taken as SDDL, so that the library says what is wrong with it.
 export function descriptorsIn(text, form) {
     const bare = text.replace(/^\uFEFF/, "").replace(/\0/g, "");
     // A text of null characters is no empty descriptor: it stays, and the library refuses it.
@@ -341,6 +341,6 @@ export function descriptorsIn(text, form) {
     const classes = classesIn(given);
     return all.map((one) => {
         one.dropped.unshift(...lost);
-        return Object.assign(one, {classes: classes.get(one.name) ?? NONE, isListing});
+        return Object.assign(one, {classes: classes.get(one.name) ?? NONE, isEntry: classes.has(one.name), isListing});
     });
 }

@@ -83,7 +83,7 @@ function read(library, {text, form, chosen}, domain) {
     const about = {
         found: found.length,
         names: found.slice(0, 1000).map(({name}) => name),
-        entry: {name: one.name, classes: one.classes},
+        entry: {name: one.name, classes: one.classes, isEntry: one.isEntry},
         chosen: Math.min(chosen ?? 0, found.length - 1),
         form: one.form,
         line: one.line,
@@ -132,13 +132,13 @@ function optionsOf(library, state, domain) {
 
 const kindTold = (text) => kindIn(text.slice(0, MOST_OF_KIND));
 
-// The kind that the user has chosen, or that the name of one of several, the text or the rights tell of, or else a
-// folder; and whether it is certain, or nothing tells it. icacls lists files alone.
-function kindOf({kind, isKindChosen, text}, {found, names, chosen, dropped}, model) {
+// The kind that the user has chosen, or that an entry of LDIF, the name of one of several, the text or the rights tell
+// of, or else a folder; and whether it is certain, or nothing tells it. icacls lists files alone.
+function kindOf({kind, isKindChosen, text}, {found, names, chosen, dropped, entry}, model) {
     if (isKindChosen || dropped.some(({what}) => what === "listing")) {
         return {kind: isKindChosen ? kind : "folder", isKindSure: true};
     }
-    const told = kindTold((found > 1 && names[chosen]) || "") ?? kindTold(text);
+    const told = entry.isEntry ? "ds" : kindTold((found > 1 && names[chosen]) || "") ?? kindTold(text);
     const byRights = told ?? kindByRights(acesIn(model));
     return {kind: byRights ?? "folder", isKindOpen: !byRights, isKindSure: (told ?? "folder") !== "folder"};
 }

@@ -10,6 +10,7 @@ import {
     inheritedBy,
     isDirectory,
     isTrusted,
+    levelOf,
     mappingOf,
     maskBelow,
     meaningOfSid,
@@ -263,6 +264,14 @@ function ofMask(rule, kind, sid, view, got, more = {}) {
     });
 }
 
+// The same of rights that were asked about, of all that somebody had of an object without object types. WHOLE is the
+// level of Windows' dialogs that these are the rights of which count, if there is one, and its ACEs.
+function ofLevel(rule, kind, sid, view, had, asked, more = {}) {
+    const [found, whole] = [(had & asked) >>> 0, levelOf(kind, had, asked)];
+    const level = whole === found ? {} : {whole: {mask: whole, numbers: view.granting(sid, whole, "")}};
+    return ofMask(rule, kind, sid, view, {mask: found, typed: []}, {...level, ...more});
+}
+
 const isOfEverybody = ({rule}) => rule !== "" && rule !== "takeover";
 
 // What a trustee of a directory object can do, by name, and the rest for everybody. WHERE is the object, and ANSWERS
@@ -283,8 +292,8 @@ function ofDirectory(sid, view, wanted, got, where, answers, {kind, domain}, mor
     return [...named, ...ofMask(wanted.rule, kind, sid, view, rest, more)];
 }
 
-// The findings about a descriptor, with the numbers of their ACEs: {rule, severity, who, mask, object, says, isBelow,
-// numbers}, and the kind that the mask is one of, if it is another. CLASSES are those of a directory object, if they
+// The findings about a descriptor, with the numbers of their ACEs: {rule, severity, who, mask, whole, object, says,
+// isBelow, numbers}, and the kind that the mask is one of, if it is another. CLASSES are those of a directory object, if they
 // are known.
 export function risksOf(library, model, {kind, domain, classes = [], named = "", hasAccounts = true}) {
     if (kind === "authority" && model.dacl.aces.some(({object}) => object)) {
@@ -343,7 +352,7 @@ function ofList(library, model, options) {
     const where = {classes, own: classes.slice(-1), hasAccounts};
     const ofSid = (sid, got) => (isDirectory(kind) ?
             ofDirectory(sid, own, wanted(sid), got, where, answersOf(own, whole, sid, where), options, {}) :
-            ofMask(wanted(sid).rule, kind, sid, own, only(got, wanted(sid).mask),
+            ofLevel(wanted(sid).rule, kind, sid, own, got.mask, wanted(sid).mask,
                 adds(sid, got.mask & wanted(sid).mask) ? {severity: valueIn(OF_ADDING, wanted(sid).rule)} : {}));
     for (const sid of here) {
         if (sid === ownerSid && tableOf(kind).owner === "usual" && !everybodyClass(sid)) {
@@ -391,9 +400,9 @@ function ofBelow(library, {below, kept, own, beyond, wanted, ofSid}, options) {
         return children.flatMap((child) => {
             const got = beyond(child, sid, below);
             if (!isDirectory(kind)) {
-                const more = only(without(got, had), wanted(sid).mask);
+                const more = without(got, had);
                 had = {...had, mask: had.mask | more.mask};
-                return ofMask("children-change", kind, sid, child, more, {isBelow: true});
+                return ofLevel("children-change", kind, sid, child, more.mask, wanted(sid).mask, {isBelow: true});
             }
             const answers = answersOf(child, child, sid, where);
             return ofDirectory(sid, child, wanted(sid), got, where, answers, options, {

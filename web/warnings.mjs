@@ -38,7 +38,7 @@ function ofRisks(library, model, options) {
         new Map([model.owner, ...model.dacl.aces].filter((one) => one?.alias).map(({sid, alias}) => [sid, alias]));
     const find = options.kind === "ds" && options.classes.length === 0 ? risksOfAny : risksOf;
     return find(library, model, options)
-        .map(({rule, severity, who, numbers, mask, object, says, isBelow, kind, onlyOf, exceptOf}) => ({
+        .map(({rule, severity, who, numbers, mask, whole, object, says, isBelow, kind, onlyOf, exceptOf}) => ({
             key: object && !says ? `${rule} type` : rule,
             rule,
             level: valueIn(LEVEL_OF, severity),
@@ -46,6 +46,7 @@ function ofRisks(library, model, options) {
             ...(who ? {who, alias: aliases.get(who) ?? null} : {}),
             ...(says ? {says} : {}),
             ...(mask === undefined ? {} : {mask}),
+            ...(whole ? {whole} : {}),
             ...(object ? {object} : {}),
             ...(isBelow ? {isBelow} : {}),
             ...(kind ? {kind} : {}),

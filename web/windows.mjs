@@ -1188,7 +1188,7 @@ export const PRIVILEGES = {
     "SeDebugPrivilege": ["", "open any process with every right"],
 };
 export const HINTS = [
-    {"kind": "template", "name": "CN=[^\\n]+?,CN=Certificate Templates,", "before": "^[ \\t]*(?:dn::?[ \\t]*)?"},
+    {"kind": "template", "name": "CN=[^\\n]+?,CN=Certificate Templates,", "before": "^[ \\t]*"},
     {"kind": "ds", "text": "^[ \\t]*dn::?\\s"},
     {"kind": "ds", "name": "(?:CN|OU|DC)=[^\\n]+?,(?:CN|OU|DC)=", "before": "^"},
     {"kind": "ds", "property": ["objectClass", "distinguishedName", "nTSecurityDescriptor"]},

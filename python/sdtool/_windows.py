@@ -1467,7 +1467,7 @@ RISKS_OF: Dict[str, Tuple[str, ...]] = {
 QUIET: Tuple[str, ...] = ("stand-in", "package")
 # What tells the kind of an object, the first that fits.
 HINTS: Tuple[Dict[str, Any], ...] = (
-    {"kind": "template", "name": "CN=[^\\n]+?,CN=Certificate Templates,", "before": "^[ \\t]*(?:dn::?[ \\t]*)?"},
+    {"kind": "template", "name": "CN=[^\\n]+?,CN=Certificate Templates,", "before": "^[ \\t]*"},
     {"kind": "ds", "text": "^[ \\t]*dn::?\\s"},
     {"kind": "ds", "name": "(?:CN|OU|DC)=[^\\n]+?,(?:CN|OU|DC)=", "before": "^"},
     {"kind": "ds", "name": "microsoft\\.activedirectory|AD:\\\\"},

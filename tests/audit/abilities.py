@@ -389,22 +389,23 @@ def rights_in(words, kind):
 
 
 def by_class(told):
-    """Of which classes each rule tells of each trustee and mask, in findings of these and a condition."""
+    """Of which classes each rule tells of each trustee, mask and ACEs, in findings of these and a condition."""
     found = {}
-    for rule, who, mask, condition in told:
-        found.setdefault((rule, who, hex(mask)), []).append(condition)
+    for rule, who, mask, aces, condition in told:
+        found.setdefault((rule, who, hex(mask), tuple(aces)), []).append(condition)
     return {key: classes_in(conditions, all_classes()) for key, conditions in found.items()}
 
 
 def otherwise_on_page(findings, warnings, kind="ds"):
-    """What the audit or the page says of a rule, a trustee, rights and classes, and the other one says otherwise."""
+    """What the audit or the page says of a rule, a trustee, rights, their ACEs and classes, and the other one says
+    otherwise."""
     def granted(finding):
         return functools.reduce(int.__or__, (rights_in(one["rights"], kind) for one in finding["because"]), 0)
 
-    own = by_class((one["rule"], sid_in(one["trustee"]), granted(one), condition_in(one["text"]))
+    own = by_class((one["rule"], sid_in(one["trustee"]), granted(one), one.get("aces", []), condition_in(one["text"]))
                    for one in findings if one["trustee"])
-    shown = by_class((one["rule"], one["who"], one.get("mask", 0), condition_on_page(one))
-                     for one in warnings if one.get("rule") and one.get("who"))
+    shown = by_class((one["rule"], one["who"], whole.get("mask", 0), whole["numbers"], condition_on_page(one))
+                     for one in warnings if one.get("rule") and one.get("who") for whole in [one.get("whole", one)])
     return {key: (own.get(key), shown.get(key)) for key in own.keys() | shown.keys() if own.get(key) != shown.get(key)}
 
 
@@ -495,8 +496,7 @@ def test_places(place):
         is_there, is_known = number // 2 % 2 == 0, number % 2 == 0
         place.expect(bool(one["findings"]) and is_there and is_known, False, f"in its place: {entry} {one}")
         found[is_there, is_known] = found.get((is_there, is_known), 0) + len(one["findings"])
-        # The page knows a template by its name, also without a class.
-        if looked is not None and (is_known or TEMPLATES not in entry):
+        if looked is not None:
             place.expect(otherwise_on_page(one["findings"], looked[number]["warnings"]), {},
                          f"in a place, by the audit and on the page: {entry}")
     place.expect([bool(count) for count in found.values()], [False, True, True, True], "what is found elsewhere")

@@ -103,7 +103,8 @@ TOLD = [(KEY, "key"), (OTHER_KEY, "key"), (FOLDER, "folder"), ("C:\\Data " + FOL
 BYTES = base64.b64encode(bytes.fromhex(IN_HEX)).decode()
 SEVERAL = [
     ("dn: CN=User,CN=Certificate Templates,CN=x\nnTSecurityDescriptor:: %s\n\ndn: CN=Ann,DC=x\n"
-     "nTSecurityDescriptor:: %s" % (BYTES, BYTES), ("template", "ds")),
+     "nTSecurityDescriptor:: %s" % (BYTES, BYTES), ("ds", "ds")),
+    ("CN=User,CN=Certificate Templates,CN=x %s\nCN=Ann,DC=x %s" % (FOLDER, FOLDER), ("template", "ds")),
     ("Path : Microsoft.PowerShell.Core\\Registry::HKEY_LOCAL_MACHINE\\X\nSddl : D:(A;;0x2;;;BU)\n\n"
      "Path : Microsoft.PowerShell.Core\\FileSystem::C:\\X\nSddl : D:(A;;FA;;;BU)", ("key", "folder")),
 ]

@@ -154,7 +154,7 @@ class Checks:
         for one in self._decided(at, token, mask, object_type, is_granted):
             number = numbers[one.number - 1] if numbers and one.number else one.number
             text = text_of(aces[number - 1]) if number else one.word
-            found.append(Because(number, text, rights.short_text(one.mask, self._kind), is_granted))
+            found.append(Because(number, text, rights.short_text(one.mask, self._kind), is_granted, one.mask))
         return tuple(found)
 
     def _decided(self, at: int, token: Token, mask: int, object_type: str, is_granted: bool) -> List[Decided]:
@@ -172,15 +172,17 @@ def as_owner(sid: str, descriptor: Descriptor) -> str:
     return descriptor.owner if sid == sids.OWNER_RIGHTS else sid
 
 
-def mark_of(because: Sequence[Because], aces: Sequence[Ace], kind: str) -> Mark:
-    """The ACEs of reasons. aces are those of the object."""
+def mark_of(because: Sequence[Because], aces: Sequence[Ace], kind: str, mask: int = -1) -> Mark:
+    """The ACEs of reasons. aces are those of the object. Those with rights of a mask say where it is set."""
     grants = any(one.grants for one in because)
-    numbers = sorted({one.number for one in because if one.number and one.grants == grants})
-    if not numbers:
+    named = sorted(one for one in because if one.number and one.grants == grants)
+    if not named:
         return NO_MARK
-    listed = [aces[number - 1] for number in numbers]
+    telling = [aces[one.number - 1] for one in named if one.mask & mask]
+    listed = telling or [aces[one.number - 1] for one in named]
     first = next((ace for ace in listed if not ace.flags & INHERITED), listed[0])
-    return Mark(tuple(numbers), key_of_ace(first, kind) if grants else "", bool(first.flags & INHERITED),
+    return Mark(tuple(dict.fromkeys(one.number for one in named)),
+                key_of_ace(first, kind) if grants and telling else "", bool(first.flags & INHERITED),
                 bool(first.flags & rights.inherits(kind)))
 
 

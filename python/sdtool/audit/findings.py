@@ -43,6 +43,7 @@ class Because(NamedTuple):
     text: str    # the ACE in SDDL; or owner, privilege, label, no DACL
     rights: str  # in words
     grants: bool = True
+    mask: int = 0  # of these rights
 
 
 _OWNER_KEY = "owner"

@@ -74,7 +74,7 @@ class Can:
         for share in shares_of(got, kind, text, checks.mask(at, self._token), mask):
             because = checks.because(at, self._token, share.claimed, descriptor.aces, share.object_type) + denied
             yield Finding("can", "", share.words, share.text, mask=share.mask,
-                          mark=mark_of(because, descriptor.aces, kind), because=because)
+                          mark=mark_of(because, descriptor.aces, kind, share.mask), because=because)
         # The label that every object has without one of its own stops no object in particular.
         if not got.all and (any(one.number for one in denied) or denied and _labels(descriptor)):
             yield Finding("stopped", "", ", ".join(dict.fromkeys(one.rights for one in denied)), "", False,

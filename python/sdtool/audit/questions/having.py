@@ -67,7 +67,7 @@ class Having:
             of_place = functools.partial(self._of, sid, checks, at, descriptor, kind)
             found = of_any((group, of_place(as_one_of(group, place))) for group in groups)
             for one in found if groups else of_place(here(place)):
-                yield sid, one._replace(mark=mark_of(one.because, descriptor.aces, kind))
+                yield sid, one._replace(mark=mark_of(one.because, descriptor.aces, kind, one.mask))
 
     def _of(self, sid: str, checks: Checks, at: int, descriptor: Descriptor, kind: str,
             where: Where) -> Iterator[Finding]:
@@ -87,7 +87,7 @@ class Having:
     @staticmethod
     def _because(checks: Checks, at: int, token: Token, had: Had, descriptor: Descriptor) -> Tuple[Because, ...]:
         """What gives an ability: one that needs several rights together has them by object type."""
-        found = [one for object_type in had.types for one in checks.because(at, token, had.mask, descriptor.aces,
+        found = [one for object_type in had.types for one in checks.because(at, token, had.claimed, descriptor.aces,
                                                                             object_type)]
         return tuple(dict.fromkeys(found))
 

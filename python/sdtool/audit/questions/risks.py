@@ -427,7 +427,7 @@ class Risks:
             bound = f", only for object type {sids.object_type(had.object_type)}" if had.object_type else ""
             said = _joined(had.says + bound, below, self._heirs(place, sid, had.object_type))
             of_types = about.why if had.types == (had.object_type,) else about.why_all
-            because = tuple(dict.fromkeys(found for one in had.types for found in of_types(had.mask, one)))
+            because = tuple(dict.fromkeys(found for one in had.types for found in of_types(had.claimed, one)))
             yield from self._of(had.rule, sid, rights.short_text(had.mask, kind), said, had.mask, because, had.severity)
         if _is_of_everybody(wanted):
             said = _joined(below, self._heirs(place, sid, ""))
@@ -489,7 +489,7 @@ class Risks:
         for share in shares_of(got, kind, text, had, asked) if rule in self._on else ():
             severity = _OF_ADDING[rule] if is_adding else severity_of(rule, kind, sid)
             # A finding that is too slight is left out later.
-            because = why(share.mask, share.object_type) if ORDER.index(severity) <= self._most_slight else ()
+            because = why(share.claimed, share.object_type) if ORDER.index(severity) <= self._most_slight else ()
             yield from self._of(rule, sid, share.words, share.text, share.mask, because, severity)
 
     def _of(self, rule: str, sid: str, words: str, text: str = "", mask: int = 0, because: Tuple[Because, ...] = (),
@@ -523,7 +523,7 @@ def _is_of_everybody(wanted: _Wanted) -> bool:
 
 def _mark(finding: Finding, descriptor: Descriptor, kind: str) -> Mark:
     """The ACEs of a finding. What is below an object usually has the same owner."""
-    mark = mark_of(finding.because, descriptor.aces, kind)
+    mark = mark_of(finding.because, descriptor.aces, kind, finding.mask)
     return mark._replace(key=owner_key(finding.sid)) if finding.rule == _OWNER else mark
 
 

@@ -133,7 +133,7 @@ class Who:
         for share in shares_of(kept, kind, text, checks.mask(at, token), self._wanted.all_of(kind)):
             because = checks.because(at, token, share.claimed, aces, share.object_type) if is_listed else ()
             yield Finding("who", self._context.names.named(sid), share.words, share.text, sid=sid, mask=share.mask,
-                          mark=mark_of(because, aces, kind), because=because)
+                          mark=mark_of(because, aces, kind, share.mask), because=because)
 
     def _stopped(self, sid: str, token: Token, missing: int, checks: Checks, at: int, trustees: "_Trustees", kind: str,
                  text: str) -> Iterator[Finding]:

@@ -60,10 +60,9 @@ def aces_text(numbers: Sequence[int]) -> str:
     return f"ACEs {', '.join(map(str, numbers[:-1]))} and {numbers[-1]}"
 
 
-def _rules_or_aces(because: Sequence[Because]) -> str:
-    """The ACEs of reasons, or what stands in their place."""
-    return (aces_text(sorted({one.number for one in because if one.number}))
-            or ", ".join(dict.fromkeys(one.text for one in because)))
+def _rules_of(because: Sequence[Because]) -> List[str]:
+    """The rules of reasons, such as that of an owner."""
+    return list(dict.fromkeys(one.text for one in because if not one.number))
 
 
 def place_text(group: Group) -> str:
@@ -71,10 +70,12 @@ def place_text(group: Group) -> str:
     if group.finding is None:
         return ""
     granting, denying = ([one for one in group.finding.because if one.grants == grants] for grants in (True, False))
-    denied = _rules_or_aces(denying)
+    aces = aces_text(sorted({one.number for one in denying if one.number}))
+    denied = ", ".join(filter(None, [aces, *_rules_of(denying)]))
     if denying and not granting:
-        return f"by {denied}" if any(one.number for one in denying) else denied
-    set_at = _set_text(group, group.finding.mark) or (_rules_or_aces(granting) if not group.finding.mark.key else "")
+        return f"by {denied}" if aces else denied
+    mark = group.finding.mark
+    set_at = "; ".join(filter(None, [*(() if mark.is_of_owner else _rules_of(granting)), _set_text(group, mark)]))
     return f"{set_at}; denied by {denied}" if denying else set_at
 
 

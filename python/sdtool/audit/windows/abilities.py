@@ -79,6 +79,7 @@ class Had(NamedTuple):
     says: str
     types: Tuple[str, ...]  # all object types by which it comes
     severity: str
+    claimed: int            # the mask that says tells of
 
 
 def _ability(row: Dict[str, Any], named_types: Dict[str, str]) -> Ability:
@@ -146,16 +147,18 @@ class Abilities:
                if mask & ability.right and (not one or one in ability.flat or is_own(one, where.own))]
         if not own or not where.has_accounts or not all(gives(ability.right, path) for path in ability.types):
             return None
-        return Had(ability.name, ability.right, "", ability.says + _by(ability, "", got) * (own[0] == ""),
-                   tuple(dict.fromkeys([*ability.flat, *own])), ability.severity)
+        by, claimed = _by(ability, own[0], got)
+        return Had(ability.name, ability.right, "", ability.says + by, tuple(dict.fromkeys([*ability.flat, *own])),
+                   ability.severity, claimed)
 
     def _first(self, ability: Ability, sid: str, got: Got, where: Where, gives: Gives) -> Optional[Had]:
         """The first way by which a trustee has an ability."""
         for object_type, mask in self._ways(ability, sid, got, where):
             paths = ability.paths(object_type) if mask & ability.right else ()
             if any(gives(ability.right, (*path, object_type)) for path in paths):
-                says = self._text(ability, object_type, where) + _by(ability, object_type, got)
-                return Had(ability.name, ability.right, object_type, says, (object_type,), ability.severity)
+                by, claimed = _by(ability, object_type, got)
+                return Had(ability.name, ability.right, object_type, self._text(ability, object_type, where) + by,
+                           (object_type,), ability.severity, claimed)
         return None
 
     def _is_told(self, right: int, sid: str) -> bool:
@@ -202,11 +205,12 @@ class Abilities:
         return Got(left[0][1], tuple((one, mask) for one, mask in left[1:] if mask))
 
 
-def _by(ability: Ability, object_type: str, got: Got) -> str:
-    """By what a trustee has an ability that has object types of its own."""
+def _by(ability: Ability, object_type: str, got: Got) -> Tuple[str, int]:
+    """By what a trustee has an ability that has object types of its own, in words and as a mask."""
+    full = FULL["ds"]
     if object_type or "" in ability.flat:
-        return ""
-    return f", by {'full control' if got.mask & FULL['ds'] == FULL['ds'] else _ALL_OF[ability.right]}"
+        return "", ability.right
+    return (", by full control", full) if got.mask & full == full else (f", by {_ALL_OF[ability.right]}", ability.right)
 
 
 def is_harmless(ace: Ace) -> bool:
