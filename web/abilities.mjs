@@ -36,11 +36,9 @@ const isBy = (ability, object) => ability.types.some((path) => path.includes(obj
 
 // The object types that decide about an ability together, where it comes by one of them, or by one that has all.
 function pathsOf(ability, object) {
-    if (isOfAll(ability) || isOfAny(ability) || isOfUnnamed(ability)) {
-        return [[object]];
-    }
     const own = ability.types.filter((path) => path.includes(object));
-    return own.length ? own : ability.types;
+    const others = isOfAll(ability) || isOfAny(ability) || isOfUnnamed(ability) ? [[object]] : ability.types;
+    return own.length ? own : others;
 }
 
 // Whether an object type is that of an object as a whole: none, or its own class, which is one of some, or isn't known.

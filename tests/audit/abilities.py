@@ -125,7 +125,8 @@ def givens(row, of_class):
         yield from of_several(right, [leaf for leaf, _ in paths], of_class)
         return
     if paths:
-        yield Given("".join(f"(OD;;{right};{leaf};;{{}})" for leaf, _ in paths) + f"(A;;{right};;;{{}})", False)
+        denied = "".join(f"(OD;;{right};{leaf};;{{}})" for leaf, _ in paths)
+        yield Given(f"{denied}(A;;{right};;;{{}})", "?" in row["types"])  # types without a known name are left
     for leaf, of_set in paths:
         yield from of_path(right, leaf, of_set, of_class)
 
@@ -504,8 +505,6 @@ def test_places(place):
 
 MEMBER = "bf9679c0-0de6-11d0-a285-00aa003049e2"
 FOR_MEMBERS = f"add members, only for object type member ({MEMBER})"
-FOR_TEMPLATES = (f"if this is a {TEMPLATE}: change a certificate template, only for object type "
-                 f"member ({MEMBER})")
 BY_ALL = "by full control"
 ZONES = ("dnsZone or dnsZoneScope or dnsZoneScopeContainer or msWMI-StringSetParam or msWMI-IntSetParam or "
          "msWMI-UintSetParam or msWMI-MergeablePolicyTemplate or msWMI-RangeParam or msWMI-SimplePolicyTemplate")
@@ -517,10 +516,10 @@ SAID = [
         f"if this is a serversContainer: register the server of a domain controller, {BY_ALL}"]),
     (("who", "add-member"), f"(OA;;WP;{MEMBER};;{{}})", [f"if this is a group or groupOfNames: {FOR_MEMBERS}"]),
     (("who", "write-properties"), "(A;;GA;;;{})", ["write all properties"]),
-    (("risks",), f"(OA;;WP;{MEMBER};;{{}})", [f"if this is a group or groupOfNames: {FOR_MEMBERS}", FOR_TEMPLATES]),
+    (("risks",), f"(OA;;WP;{MEMBER};;{{}})", [f"if this is a group or groupOfNames: {FOR_MEMBERS}"]),
     (("risks",), f"(OA;CI;WP;{MEMBER};;{{}})",
      [f"unless this is a group or groupOfNames: {FOR_MEMBERS}; in objects below",
-      f"if this is a group or groupOfNames: {FOR_MEMBERS}", FOR_TEMPLATES]),
+      f"if this is a group or groupOfNames: {FOR_MEMBERS}"]),
     (("risks",), "(A;;CC;;;{})", ["create objects in it"]),
     (("risks",), "(A;;CC;;;AU)", [f"unless this is a {ZONES}: create objects in it"]),
     (("risks",), "(A;;WP;;;{})", ["write all properties"]), (("risks",), "(A;;GA;;;{})", [""])]

@@ -740,7 +740,7 @@ def test_directory_objects(place: Place) -> None:
     place.expect(place.told("can", f"{DOMAIN}-7,WD", "write", source, "--type", "ds", "--self",
                             f"{DOMAIN}-7")["self"][0],
                  "found", "can, --self")
-    # Without a class it may be a group, a template or another object.
+    # Without a class it may be a group, or another object. A template has no property of this name: MS-ADSC.
     one = next(one for one in place.objects("risks", source, "--type", "ds", "--domain", DOMAIN)
                if one["name"] == "member")
     place.expect(sorted((found["rule"], found["trustee"], found["rights"], found["text"]) for found in one["findings"]),
@@ -748,9 +748,7 @@ def test_directory_objects(place: Place) -> None:
                      ("add-member", EVERYONE, "write properties",
                       f"if this is a group or groupOfNames: add members, {bound}"),
                      ("everyone-changes", EVERYONE, "write properties",
-                      f"unless this is a group or groupOfNames or pKICertificateTemplate: {bound}"),
-                     ("template-edit", EVERYONE, "write properties",
-                      f"if this is a pKICertificateTemplate: change a certificate template, {bound}")],
+                      f"unless this is a group or groupOfNames: {bound}")],
                  "risks, by object type")
 
 

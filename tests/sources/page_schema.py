@@ -1,7 +1,7 @@
 """Compares windows/schema.toml with the schema of Windows Server, as Debian's samba-ad-provision brings it: each entry,
 its name, what it is and the property set of an attribute; that no extended right, property set, validated write or
 class of the schema is missing, no GUID that an ACE there names, and no attribute with a descriptor in
-windows/directory.toml. Compares each ACE of windows/defaults.toml with the classes' defaultSecurityDescriptor, and with
+windows/directory.toml; and the properties of a certificate template. Compares each ACE of windows/defaults.toml with the classes' defaultSecurityDescriptor, and with
 the descriptors that Samba gives to heads and containers. Without the files it is skipped in a line.
 """
 import ast
@@ -139,6 +139,44 @@ def judge_descriptors(count, folder):
               f"attributes with descriptors: {named ^ ours}")
 
 
+CONTAINS = ("mustcontain", "maycontain", "systemmustcontain", "systemmaycontain")
+ABOVE = ("subclassof", "auxiliaryclass", "systemauxiliaryclass")
+
+
+def values_of(entry, keys):
+    """The names that some attributes of an entry have, several of them perhaps in one value."""
+    return {name.strip() for key in keys for _, value in entry.get(key, ()) for name in value.split(",")}
+
+
+def properties_of(folder, of_class):
+    """The attributes that objects of a class may have, with those of the classes above it."""
+    found = {}
+    for path in sorted(folder.glob("ad-schema/*[Cc]lass*")):
+        for entry in entries(text_of(path)):
+            if "ldapdisplayname" in entry and "subclassof" in entry:
+                found.setdefault(entry["ldapdisplayname"][0][1], []).append(entry)
+    waiting, seen, named = [of_class], set(), set()
+    while waiting:
+        name = waiting.pop()
+        seen.add(name)
+        for entry in found.get(name, ()):
+            named |= values_of(entry, CONTAINS)
+            waiting += values_of(entry, ABOVE) - seen
+    return named
+
+
+def judge_templates(count, folder):
+    """The properties that change a template are those of its class that can be written, and of which a name is known
+    here. Whoever renames an object writes its name."""
+    all_entries = [entry for path in folder.glob("ad-schema/*[Aa]ttributes*") for entry in entries(text_of(path))]
+    written = {entry["ldapdisplayname"][0][1] for entry in all_entries
+               if "ldapdisplayname" in entry and entry.get("systemonly", [("", "FALSE")])[0][1] == "FALSE"}
+    wanted = properties_of(folder, "pKICertificateTemplate") & (written | {"name"}) & set(rows()["attribute"])
+    with open(TOP / "windows/directory.toml", "rb") as file:
+        ours, = (row["types"] for row in tomllib.load(file)["ability"] if row["name"] == "template-edit")
+    count.add("cn" in wanted and {"?", *wanted} == set(ours), f"properties of templates: {wanted ^ set(ours)}")
+
+
 def mask_of(rights):
     return int(rights, 16) if rights.startswith("0x") else sum(RIGHTS[name] for name in re.findall("..", rights))
 
@@ -218,6 +256,7 @@ def main(count: preload.Count, given: preload.Given) -> None:
         judge(count, folder)
         judge_sets(count, folder)
         judge_descriptors(count, folder)
+        judge_templates(count, folder)
         judge_defaults(count, folder)
     else:
         print(f"skipped: no schema in {folder} (Debian: samba-ad-provision)")

@@ -65,9 +65,8 @@ class Ability(NamedTuple):
 
     def paths(self, object_type: str) -> Iterable[Tuple[str, ...]]:
         """The object types that decide about it together, where it comes by one of them, or by one that has all."""
-        if not {"", "*", "?"}.isdisjoint(self.flat):
-            return ((object_type,),)
-        return tuple(path for path in self.types if object_type in path) or self.types or ((object_type,),)
+        own = tuple(path for path in self.types if object_type in path)
+        return own or (((object_type,),) if not {"", "*", "?"}.isdisjoint(self.flat) or not self.types else self.types)
 
 
 class Had(NamedTuple):
