@@ -87,14 +87,13 @@ export const atRisk = (kind, risks) => maskOf(tableOf(kind).rights.filter((right
 const bitCount = (mask) => mask.toString(2).replaceAll("0", "").length;
 
 // What Windows' dialogs call masks, the widest first.
-const LEVELS = Object.fromEntries(Object.entries(KINDS).map(([kind, {masks}]) => [kind,
-    masks.map(([mask]) => mask).sort((one, other) => bitCount(other) - bitCount(one))]));
+const LEVELS = Object.fromEntries(Object.entries(KINDS).map(
+    ([kind, {masks}]) => [kind, masks.map(([mask]) => mask).sort((one, other) => bitCount(other) - bitCount(one))]));
 
 // The rights that were found of those asked about: or a level of Windows' dialogs that somebody had as a whole, if of
 // what it has the found rights alone were asked about.
-export const levelOf = (kind, had, asked) => valueIn(LEVELS, kind)
-                                                 .find((mask) => (mask & ~had) === 0 &&
-                                                     (mask & asked) === (had & asked)) ??
+export const levelOf = (kind, had, asked) =>
+    valueIn(LEVELS, kind).find((mask) => (mask & ~had) === 0 && (mask & asked) === (had & asked)) ??
     (had & asked) >>> 0;
 
 // Whether a right of a kind, beside the standard ones, runs code as another account.

@@ -293,8 +293,8 @@ function ofDirectory(sid, view, wanted, got, where, answers, {kind, domain}, mor
 }
 
 // The findings about a descriptor, with the numbers of their ACEs: {rule, severity, who, mask, whole, object, says,
-// isBelow, numbers}, and the kind that the mask is one of, if it is another. CLASSES are those of a directory object, if they
-// are known.
+// isBelow, numbers}, and the kind that the mask is one of, if it is another. CLASSES are those of a directory object,
+// if they are known.
 export function risksOf(library, model, {kind, domain, classes = [], named = "", hasAccounts = true}) {
     if (kind === "authority" && model.dacl.aces.some(({object}) => object)) {
         // The object of the authority in the directory.
@@ -337,7 +337,8 @@ function ofList(library, model, options) {
     const whole =
         viewOf(library, kind, ownerSid, model.dacl.aces.map((ace) => ({ace, mask: withoutGeneric(ace.mask, kind)})));
     const wanted = (sid) => wantedOf(sid, kind, domain);
-    // Whether rights of a trustee that are a finding let it add to a folder, and no more. That tells nothing of its files.
+    // Whether rights of a trustee that are a finding let it add to a folder, and no more. That tells nothing of its
+    // files.
     const adds = (sid, mask) => adding.has(sid) && (mask & ~ADDING) === 0;
     const telling =
         adding.size ? new Set([...here].filter((sid) => !adds(sid, own.mask(sid, "") & wanted(sid).mask))) : here;

@@ -188,12 +188,11 @@ def type_of(finding):
     return (found[1] or found[2]) if found else ""
 
 
-def expect_reasons(place, row, finding, ask, words, what, counted=0x1ffffff):
-    """A finding of rights: each one that its row claims, of those that count for its rule, is granted by what the
-    reference says, and by nothing else."""
+def expect_reasons(place, row, finding, ask, words, what):
+    """A finding of rights: each one that its row claims is granted by what the reference says, and by nothing else."""
     claimed, said = words.mask(finding["rights"]), told(finding, words)
     granted = {key: mask for key, mask in said.items() if key[2]}
-    place.expect(granted, row.decided(ask, claimed & counted), f"{what}: {finding}")
+    place.expect(granted, row.decided(ask, claimed), f"{what}: {finding}")
     place.expect(finding.get("aces", []), numbers(granted), f"{what}, its ACEs: {finding}")
     return claimed, {key: mask for key, mask in said.items() if not key[2]}
 
@@ -254,11 +253,8 @@ def of_risks(place, rows, words, source, kind):
                                                                                    finding["trustee"])[0]
             is_below = "in objects below" in finding["text"] or "in what is made in it" in finding["text"]
             claimed = words.mask(finding["rights"])
-            # Of the rights that a level of Windows' dialogs names, these count for the rule.
-            risky = {"takeover": 0xc0000, "no-dacl": claimed,
-                     "null-dacl": claimed}.get(finding["rule"], words.whole["every right to change"])
             if kind == "file" and not is_below:
-                expect_reasons(place, row, finding, row.ask(sid), words, what, risky)
+                expect_reasons(place, row, finding, row.ask(sid), words, what)
                 continue
             # A part of a list is asked about: what it says is checked with the ACEs by themselves.
             covered = 0
@@ -272,12 +268,12 @@ def of_risks(place, rows, words, source, kind):
                 place.expect((text, grants, mask & ~int(ace[3], 16),
                               whose in (sid, *ALSO.get(sid, ["S-1-1-0", "S-1-5-11"])), ("IO" in ace[2]) <= is_below),
                              (row.aces[number - 1], True, 0, True, True), f"{what}, an ACE: {finding}")
-            place.expect((claimed & risky & ~covered, finding.get("aces", [])), (0, numbers(said)),
+            place.expect((claimed & ~covered, finding.get("aces", [])), (0, numbers(said)),
                          f"{what}, its rights: {finding}")
 
 
 def of_forms(place, source, kind):
-    """The other forms of a report have the ACEs of JSON lines."""
+    """The other forms of a report have the ACEs and the rules of JSON lines."""
     for words in (("who", "permissions", source, "--all-trustees"), ("can", f"{ANN},WD", "0x60020", source),
                   ("risks", source)):
         words = (*words, "--type", kind)
@@ -292,9 +288,9 @@ def of_forms(place, source, kind):
                      f"ACEs in SARIF of {words}")
         for to in ("table", "markdown"):
             lines = place.ask(*words, "--each", "--most", "0", "--to", to).stdout.splitlines()
-            got = sorted((re.search("object [0-9]+", line)[0], *named_aces(where_of(line, to))) for line in lines
+            got = sorted((re.search("object [0-9]+", line)[0], *named(where_of(line, to))) for line in lines
                          if "object " in line[:40])
-            place.expect(got, sorted((name, *aces_of(finding)) for name, finding in findings),
+            place.expect(got, sorted((name, *reasons_of(finding)) for name, finding in findings),
                          f"ACEs in {to} of {words}")
 
 
@@ -307,19 +303,21 @@ def where_of(line, to):
     return (re.split("  +", line.strip()) + ["", ""])[2] if line.startswith("  ") else ""
 
 
-def named_aces(where):
-    """The ACEs that grant and those that deny, as a row names them."""
+def named(where):
+    """The ACEs that grant and those that deny, and the rules that grant, as a row names them."""
     first, _, denied = where.rpartition("denied by ") if "denied by " in where else (where, "", "")
     listed = [[int(number) for one in re.findall("ACEs? ([0-9, and]+)", part) for number in re.findall("[0-9]+", one)]
               for part in (first, denied)]
-    return (listed[1], listed[0]) if where.startswith("by ") else (listed[0], listed[1])
+    rules = sorted(one for one in first.split("; ") if one in OF_OWNERS)
+    return (*(listed[::-1] if where.startswith("by ") else listed), rules)
 
 
-def aces_of(finding):
-    """The same of a finding of JSON lines."""
-    because = finding.get("because", [])
-    return tuple(sorted({one["ace"] for one in because if one["ace"] and one["grants"] == grants})
-                 for grants in (True, False))
+def reasons_of(finding):
+    """The same of a finding of JSON lines. The rule of a foreign owner says so itself."""
+    said = finding.get("because", [])
+    rules = {one["text"] for one in said if not one["ace"] and one["grants"] and finding["rule"] != "foreign-owner"}
+    return (*(sorted({one["ace"] for one in said if one["ace"] and one["grants"] == grants})
+              for grants in (True, False)), sorted(rules))
 
 
 def test_many(place: Place) -> None:
@@ -344,6 +342,11 @@ ROWS: list = [
      [("who", EVERYONE, [(2, ALL, "write data", True)]),
       ("stopped", audit.USERS, [(1, WRITE, "write data", False)])]),
     (("who", "0x40000"), f"O:{ANN}D:(A;;FR;;;S-1-1-0)", [("who", ANN, [(None, "owner", "change permissions", True)])]),
+    (("who", "0x40000"), f"O:{ANN}D:(A;;FA;;;{ANN})",
+     [("who", ANN, [(1, f"(A;;0x1f01ff;;;{ANN})", "the rest", True), (None, "owner", "change permissions", True)])]),
+    (("risks",), "O:BAD:(A;;0x1200a9;;;S-1-1-0)(A;;0x110116;;;S-1-5-32-545)",
+     [("users-change", audit.USERS, [(1, "(A;;0x1200a9;;;S-1-1-0)", "Read and execute", True),
+                                     (2, "(A;;0x110116;;;S-1-5-32-545)", "the rest of Modify", True)])]),
     (("who", "0x2"), f"O:{ANN}", [("who", EVERYONE, [(None, "no DACL", "write data", True)])]),
     (("risks",), f"O:{ANN}D:(A;;FR;;;S-1-1-0)",
      [("foreign-owner", ANN, [(None, "owner", "change permissions", True)])]),

@@ -1,8 +1,8 @@
 // Asks the page's desk what stands out in rows of windows/examples.toml, which come as JSON, by each door that a user
 // has. For each row it prints what the page warns of: {paste, link, report}, lists of {rule, who, level, mask, whole,
 // numbers, kind, onlyOf, exceptOf}. A row with an entry of LDIF is pasted as that, and opened by a link that has its
-// class. Another row is pasted as SDDL, with its kind chosen. Each is opened in the report of sdtool-audit that is given,
-// if it has the object. Its argument is the library, sdtool.mjs beside its sdtool.wasm.
+// class. Another row is pasted as SDDL, with its kind chosen. Each is opened in the report of sdtool-audit that is
+// given, if it has the object. Its argument is the library, sdtool.mjs beside its sdtool.wasm.
 import fs from "node:fs";
 import {pathToFileURL} from "node:url";
 

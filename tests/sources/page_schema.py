@@ -1,8 +1,9 @@
 """Compares windows/schema.toml with the schema of Windows Server, as Debian's samba-ad-provision brings it: each entry,
 its name, what it is and the property set of an attribute; that no extended right, property set, validated write or
-class of the schema is missing, no GUID that an ACE there names, and no attribute with a descriptor in
-windows/directory.toml; and the properties of a certificate template. Compares each ACE of windows/defaults.toml with the classes' defaultSecurityDescriptor, and with
-the descriptors that Samba gives to heads and containers. Without the files it is skipped in a line.
+class of the schema is missing, no GUID that an ACE there names, no attribute with a descriptor in
+windows/directory.toml, and no property of a certificate template. Compares each ACE of windows/defaults.toml with the
+classes' defaultSecurityDescriptor, and with the descriptors that Samba gives to heads and containers. Without the files
+it is skipped in a line.
 """
 import ast
 import base64
