@@ -374,7 +374,7 @@ const answersOf = (view, whole, sid, {own}) => ({
                       .sort((one, other) => one - other),
 });
 
-const keyOf = ({rule, mask}) => `${rule} ${mask}`;
+const keyOf = ({rule, mask, object = ""}) => `${rule} ${mask} ${object}`;
 
 // What is granted in what is made in an object, and not here.
 function ofBelow(library, {below, kept, own, beyond, wanted, ofSid}, options) {
@@ -408,7 +408,7 @@ function ofBelow(library, {below, kept, own, beyond, wanted, ofSid}, options) {
             const answers = answersOf(child, child, sid, where);
             return ofDirectory(sid, child, wanted(sid), got, where, answers, options, {
                 isBelow: true
-            }).filter((one) => !told.has(keyOf(one)) && told.size < told.add(keyOf(one) + one.object).size);
+            }).filter((one) => !told.has(keyOf(one)) && told.add(keyOf(one)));
         });
     });
 }

@@ -15,11 +15,14 @@ UNIT = f"OU=Sales,{BASE}"
 MALLORY, ADMINS = f"{DOMAIN}-1105", f"{DOMAIN}-512"
 RESET, USER, COMPUTER = ("00299570-246d-11d0-a768-00aa006e0529", "bf967aba-0de6-11d0-a285-00aa003049e2",
                          "bf967a86-0de6-11d0-a285-00aa003049e2")
+FLAGS, TEMPLATE = "bf967976-0de6-11d0-a285-00aa003049e2", "e5209ca2-3bba-11d2-90cc-00c04fd91ab1"
 HEAD, OF_UNIT, OF_GROUP = ("top", "domain", "domainDNS"), ("top", "organizationalUnit"), ("top", "group")
 OF_USER = ("top", "person", "organizationalPerson", "user")
 OF_COMPUTER = (*OF_USER, "computer")
 RESETS = f"(OA;CI;CR;{RESET};;{MALLORY})"
 RESETS_INHERITED = RESETS.replace("CI", "CIID", 1)
+DENIED = "(D;CI;CR;;;WD)"
+DENIED_BELOW = DENIED.replace("CI", "CIID", 1)
 WORDS = ("--domain", DOMAIN)
 OF_LISTS = ("order", "inheritance-cut", "empty-dacl")
 
@@ -90,6 +93,17 @@ PAIRS = [
     ("of a unit that isn't supported", "D:(XA;;FR;;;WD;(a == 1))", OF_USER, f"D:AI{RESETS_INHERITED}", ["unknown"],
      ["reset-password"]),
     ("not inherited", f"D:{RESETS}", OF_USER, f"D:{RESETS}", ["reset-password"], ["reset-password"]),
+    ("denied by the unit before", f"D:{DENIED}{RESETS}", OF_USER, f"D:AI{DENIED_BELOW}{RESETS_INHERITED}", [], []),
+    ("without the deny of the unit", f"D:{DENIED}{RESETS}", OF_USER, f"D:AI{RESETS_INHERITED}", [],
+     ["reset-password"]),
+    ("before the deny of the unit", f"D:{DENIED}{RESETS}", OF_USER, f"D:AI{RESETS_INHERITED}{DENIED_BELOW}", [],
+     ["reset-password"]),
+    ("with less of the deny of the unit", f"D:{DENIED}{RESETS}", OF_USER,
+     f"D:AI{DENIED_BELOW.replace('CI', 'CIIO', 1)}{RESETS_INHERITED}", [], ["reset-password"]),
+    ("without a deny of the unit that comes behind", f"D:{RESETS}{DENIED}", OF_USER, f"D:AI{RESETS_INHERITED}",
+     ["reset-password"], []),
+    ("with a deny of its own", f"D:{RESETS}", OF_USER, f"D:AI(D;;CR;;;{MALLORY}){RESETS_INHERITED}", ["reset-password"],
+     []),
 ]
 
 
@@ -100,6 +114,31 @@ def test_pairs(place: Place) -> None:
         for order in (entries, entries[::-1]):
             got = found_in(place, order)
             place.expect((got[UNIT][:1], got[of("One")][:1]), (at_unit, at_object), f"{what}: {of_unit}, {dacl}")
+
+
+def test_templates(place: Place) -> None:
+    """A property of a template is told at the template, where what hands it on doesn't know its class."""
+    above = f"CN=Certificate Templates,CN=Public Key Services,CN=Services,CN=Configuration,{BASE}"
+    for of_class, at_template in (("", ["template-edit"]), (TEMPLATE, [])):
+        aces = f"(OA;CI;WP;{FLAGS};{of_class};{MALLORY})"
+        got = found_in(place, [entry(above, ("top", "container"), f"D:{aces}"),
+                               entry(f"CN=User,{above}", ("top", "pKICertificateTemplate"),
+                                     f"D:AI{aces.replace('CI', 'CIID', 1)}")])
+        place.expect((got[above], got[f"CN=User,{above}"]), ([] if at_template else ["template-edit"], at_template),
+                     f"a template's property for class {of_class!r}")
+
+
+def test_types_below(place: Place) -> None:
+    """What objects below inherit for another object type than what is found here is told too."""
+    for right, types, rule in (("WP", (FLAGS, f"{FLAGS[:-1]}1"), "everyone-changes"),
+                               ("CR", (f"{RESET[:-1]}1", f"{RESET[:-1]}2"), "unknown-type")):
+        who = "WD" if rule == "everyone-changes" else MALLORY
+        source = place.write("types.ldif", entry(UNIT, OF_COMPUTER, f"D:(OA;;{right};{types[0]};;{who})"
+                                                 f"(OA;CIIO;{right};{types[1]};;{who})"))
+        told, = place.objects("risks", source, *WORDS)
+        place.expect([(found["rule"], [one in found["text"] for one in types], "in objects below" in found["text"])
+                      for found in told["findings"]], [(rule, [True, False], False), (rule, [False, True], True)],
+                     f"{right} here and below")
 
 
 def test_owners(place: Place) -> None:
@@ -221,7 +260,7 @@ def test_machines(place: Place) -> None:
                  "what nobody knows to be a machine's")
 
 
-TESTS = (test_pairs, test_owners, test_levels, test_twice, test_many, test_machines)
+TESTS = (test_pairs, test_templates, test_types_below, test_owners, test_levels, test_twice, test_many, test_machines)
 
 
 def main(count: preload.Count) -> None:

@@ -69,6 +69,7 @@ class Finding(NamedTuple):
     mark: Mark = NO_MARK
     above: int = 0       # the number of the folder's ACE that it is about, from 1
     because: Tuple[Because, ...] = ()  # what grants the rights, or denies them
+    object_type: str = ""  # that alone of a directory object
 
 
 class Answer(NamedTuple):

@@ -1,12 +1,12 @@
 """What directory objects have of the objects above them, as the sources have these."""
 import functools
-from typing import Dict, Iterable, Literal, NamedTuple, Optional, Tuple
+from typing import Dict, Iterable, List, Literal, NamedTuple, Optional, Tuple
 
 import sdtool
 from sdtool._windows import CLASSES
 from sdtool.audit.directory.trails import places_of, read_descriptor
-from sdtool.audit.library import (CONTAINER_INHERIT, INHERIT_ONLY, INHERITED, PROTECTED, Ace, Descriptor, Refusal,
-                                  explained, mapped)
+from sdtool.audit.library import (CONTAINER_INHERIT, DENIES, INHERIT_ONLY, INHERITED, PROTECTED, Ace, Descriptor,
+                                  Refusal, explained, mapped)
 from sdtool.audit.sources import ldif
 from sdtool.audit.sources.items import HEX, Item
 from sdtool.audit.store.scratch import Scratch, restored, stored
@@ -30,6 +30,19 @@ class _Reach(NamedTuple):
     def covers(self, other: "_Reach") -> bool:
         return self.here >= other.here and self.below >= other.below
 
+    def plus(self, other: "_Reach") -> "_Reach":
+        return _Reach(self.here or other.here, self.below or other.below)
+
+
+_NOWHERE = _Reach(False, False)
+
+
+class _Handed(NamedTuple):
+    """What an object hands on: where each ACE counts, and which ones that deny come before it."""
+
+    reach: Dict[_Grant, _Reach]
+    denied: Dict[_Grant, Tuple[Tuple[_Grant, _Reach], ...]]
+
 
 def _grant_of(ace: Ace) -> _Grant:
     return ace.kind, mapped(ace.mask, _KIND), ace.object_type, ace.inherited_type, ace.sid
@@ -44,6 +57,9 @@ def _is_of_class(guid: str, of_class: str) -> bool:
     if not guid or not of_class:
         return not guid
     return CLASSES[of_class] == guid if of_class in CLASSES else guid not in _OF_KNOWN_CLASSES
+
+
+_NOTHING = _Handed({}, {})
 
 
 class Parents:
@@ -64,16 +80,21 @@ class Parents:
 
     def handed_on(self, name: str, found: Descriptor, of_class: str) -> Tuple[int, ...]:
         """The numbers, from 1, of the inherited ACEs of an object that the object above hands on, as far as its
-        descriptor is known. What stood for the creator there, or stands for the owner, belongs to the object alone, and
-        nothing arrives at a protected DACL."""
-        inherited = [(number, ace) for number, ace in enumerate(found.aces, 1) if ace.flags & INHERITED
-                     and ace.sid != sids.OWNER_RIGHTS]
-        if not inherited or found.control & PROTECTED:
-            return ()
+        descriptor is known, with what it denies before. What stood for the creator there, or stands for the owner,
+        belongs to the object alone, and nothing arrives at a protected DACL."""
         above = ldif.parent_of(name).casefold()
-        handed = self._handed(above, of_class) if above else {}
-        return tuple(number for number, ace in inherited
-                     if handed.get(_grant_of(ace), _Reach(False, False)).covers(_reach_of(ace)))
+        if not above or found.control & PROTECTED or not any(ace.flags & INHERITED for ace in found.aces):
+            return ()
+        handed, numbers = self._handed(above, of_class), []
+        seen: Dict[_Grant, _Reach] = {}
+        for number, ace in enumerate(found.aces, 1):
+            grant, reach = _grant_of(ace), _reach_of(ace)
+            if (ace.flags & INHERITED and ace.sid != sids.OWNER_RIGHTS
+                    and handed.reach.get(grant, _NOWHERE).covers(reach)
+                    and all(seen.get(one, _NOWHERE).covers(where) for one, where in handed.denied[grant])):
+                numbers.append(number)
+            seen[grant] = seen.get(grant, _NOWHERE).plus(reach)
+        return tuple(numbers)
 
     def _looked_up(self, key: str) -> Optional[sdtool.SecurityDescriptor]:
         """The descriptor of an object, if the sources have one for it that can be read."""
@@ -89,22 +110,24 @@ class Parents:
         except (sdtool.Error, ValueError):
             return None
 
-    def _derived(self, key: str, of_class: str) -> Dict[_Grant, _Reach]:
+    def _derived(self, key: str, of_class: str) -> _Handed:
         """What an object hands on to those of a class below it."""
         above = self._descriptor(key)
         if above is None or not above.dacl.is_list:
-            return {}
+            return _NOTHING
         try:
             handed = explained(HEX, [above.derive(_NOBODY, _NOBODY, kind="container", mapping=_KIND).bytes.hex()])[0]
             numbers = places_of(above, True, _NOBODY, _NOBODY, _KIND)
         except sdtool.Fault:
-            return {}
+            return _NOTHING
         assert not isinstance(handed, Refusal)
-        found: Dict[_Grant, _Reach] = {}
+        found, denies = _Handed({}, {}), []  # type: _Handed, List[Tuple[_Grant, _Reach]]
         for number, ace in zip(numbers, handed.aces):
-            here, below = _reach_of(ace)
+            grant, (here, below) = _grant_of(ace), _reach_of(ace)
             here = (here and _is_of_class(ace.inherited_type, of_class)
                     and str(above.dacl[number - 1].sid) not in _CREATORS)
-            before = found.get(_grant_of(ace), _Reach(False, False))
-            found[_grant_of(ace)] = _Reach(here or before.here, below or before.below)
+            found.reach[grant] = found.reach.get(grant, _NOWHERE).plus(_Reach(here, below))
+            found.denied[grant] = tuple(denies)
+            if ace.kind in DENIES and ace.sid != _NOBODY:
+                denies.append((grant, _Reach(here, below)))
         return found

@@ -297,7 +297,9 @@ class Risks:
                 sid = as_owner(ace.sid, descriptor)
                 wanted = self._wanted(sid, kind) if sid else _NOTHING_WANTED
                 if sid and self._concerns(ace, sid, wanted, kind):
-                    if number in place.handed_on or sid in place.makers or self._defaults.excuse(ace, kind, place):
+                    is_told = number in place.handed_on and not (
+                        place.classes and self._abilities.needs_class(ace, place.classes))
+                    if is_told or sid in place.makers or self._defaults.excuse(ace, kind, place):
                         continue
                     if ace.decides:
                         asked[sid] = wanted
@@ -428,7 +430,8 @@ class Risks:
             said = _joined(had.says + bound, below, self._heirs(place, sid, had.object_type))
             of_types = about.why if had.types == (had.object_type,) else about.why_all
             because = tuple(dict.fromkeys(found for one in had.types for found in of_types(had.claimed, one)))
-            yield from self._of(had.rule, sid, rights.short_text(had.mask, kind), said, had.mask, because, had.severity)
+            yield from self._of(had.rule, sid, rights.short_text(had.mask, kind), said, had.mask, because, had.severity,
+                                had.object_type)
         if _is_of_everybody(wanted):
             said = _joined(below, self._heirs(place, sid, ""))
             rest = self._abilities.rest(got, all_had, where)
@@ -449,7 +452,8 @@ class Risks:
             wanted = self._wanted(sid, kind)
             had = case.own.got(sid, rights.EVERYTHING[kind])
             of_object = _about(sid, case.own, case.whole, where, ())
-            told = {(one.rule, one.rights) for one in self._of_got(sid, wanted, had, kind, place, of_object)} \
+            told = {(one.rule, one.rights, one.object_type)
+                    for one in self._of_got(sid, wanted, had, kind, place, of_object)} \
                 if kind in rights.DIRECTORY else set()
             known: Set[Tuple[str, str, str]] = set()
             for child in case.children:
@@ -463,7 +467,8 @@ class Risks:
                                              wanted.below)
                     continue
                 for one in self._of_directory(sid, wanted, got, kind, place, below, about):
-                    if (one.rule, one.rights) not in told and (one.rule, one.rights, one.text) not in known:
+                    is_new = (one.rule, one.rights, one.object_type) not in told
+                    if is_new and (one.rule, one.rights, one.text) not in known:
                         known.add((one.rule, one.rights, one.text))
                         yield one
 
@@ -490,14 +495,15 @@ class Risks:
             severity = _OF_ADDING[rule] if is_adding else severity_of(rule, kind, sid)
             # A finding that is too slight is left out later.
             because = why(share.claimed, share.object_type) if ORDER.index(severity) <= self._most_slight else ()
-            yield from self._of(rule, sid, share.words, share.text, share.mask, because, severity)
+            yield from self._of(rule, sid, share.words, share.text, share.mask, because, severity, share.object_type)
 
     def _of(self, rule: str, sid: str, words: str, text: str = "", mask: int = 0, because: Tuple[Because, ...] = (),
-            severity: str = "") -> Iterator[Finding]:
+            severity: str = "", object_type: str = "") -> Iterator[Finding]:
         severity = severity or SEVERITIES[rule]
         if rule in self._on:
             named = self._context.names.named(sid) if sid else ""
-            yield Finding(rule, named, words, text, severity != "note", "", severity, sid, mask, because=because)
+            yield Finding(rule, named, words, text, severity != "note", "", severity, sid, mask, because=because,
+                          object_type=object_type)
 
 
 _OWNER = "foreign-owner"

@@ -118,6 +118,12 @@ class Abilities:
         return any(mask & one.right and (is_whole or one.is_by(ace.object_type)) and self._is_for(one, sid, False)
                    for one in self._all)
 
+    def needs_class(self, ace: Ace, classes: Sequence[str]) -> bool:
+        """Whether an ACE may give an ability that is told where the class is known, as it is here."""
+        mask = mapped(ace.mask, "ds")
+        return bool(ace.object_type) and any(one.known and mask & one.right and one.means(classes)
+                                             and one.is_by(ace.object_type) for one in self._all)
+
     def bound(self, descriptor: Descriptor) -> List[Ability]:
         """The abilities of objects of some classes alone that somebody may have."""
         given = {(ace.object_type, mapped(ace.mask, "ds")) for ace in descriptor.aces}
