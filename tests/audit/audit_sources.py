@@ -759,6 +759,10 @@ def test_drawn(place: Place) -> None:
                         ("SQLite", ["|".join(row) for row in rows[1:]]),
                         ("SQLite with its head", ["|".join(row) for row in rows])):
         place.answers(f"a table of {what}", "\n".join(lines) + "\n", wanted)
+    # A short one has more lines for the eye than rows.
+    of_one = [border, of_markdown[0], border, of_markdown[2], border]
+    place.answers("SQLite, one row in a box", "\n".join(of_one) + "\n", wanted[:1])
+    place.answers("MySQL, one row", "\n".join([*of_one, "1 row in set (0.00 sec)", ""]), wanted[:1])
     place.answers("a table with an empty first column", f",C:\\a,{FR}\n,C:\\b,{FR}\n",
                   [("C:\\a", READ), ("C:\\b", READ)])
     place.answers("a row whose name is in another column", f"Path,Name,Sddl\na,x,{FR}\n,y,{FR}\n,,{FR}\n",

@@ -24,8 +24,8 @@ _TYPE_LINE = re.compile(r'"?#TYPE [^\s,;|"]+"?\s*\Z', re.I)
 _BLANK, _TITLES = ("blank lines before the first row and behind the last",
                    "titles, also again, dashes below them, a count of rows")
 _HEAD = "a line '#TYPE ..' or 'sep=..' before them"
-# Lines of dashes of a table that is drawn, and the count of its rows as psql prints it.
-_RULE = re.compile(r"[ \t\r]*(?::?[-+=\u2500-\u257f]{3,}:?|\([0-9]+ \w+\))[ \t\r]*\Z")
+# Lines of dashes of a table that is drawn, and the count of its rows as psql and MySQL print it.
+_RULE = re.compile(r"[ \t\r]*(?::?[-+=\u2500-\u257f]{3,}:?|\([0-9]+ \w+\)|[0-9]+ rows? in set\b.*)[ \t\r]*\Z")
 _SDDL_INSIDE = re.compile(r"[OGDS]:(?![\\/])", re.I)
 _BYTES_INSIDE = re.compile(r"01[0-9a-f]{38}|A[Q-Za-f][A-Za-z0-9+/]{25}", re.I)
 READ_AS = "; read as csv"
@@ -135,7 +135,7 @@ def _quoting(quotes: bool) -> int:
 def _sample_rows(sample: List[str], delimiter: str, quotes: bool = True) -> List[List[str]]:
     whole = _records_of_lines(sample, delimiter, _quoting(quotes), 0)
     found = whole if whole is not None else _records_of_block(sample, iter(()), delimiter, _quoting(quotes), 0)
-    return [record[1] for record in found if record[1]]
+    return [record[1] for record in found if record[1] and not (len(record[1]) == 1 and _RULE.match(record[1][0]))]
 
 
 def _has_descriptor(line: str) -> bool:

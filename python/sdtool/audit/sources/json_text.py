@@ -794,10 +794,10 @@ def _of_line(line: str, label: str, number: int, options: SourceOptions) -> Tupl
             or unreadable(place, label, number, "the list is empty", "look at the source"), False)
 
 
-_BEGIN = re.compile(r'\s*(?:\{|\[\s*(?:[{\["\]\d-]|true|false|null|\Z))')
+_BEGIN = re.compile(r'\s*(?:\{|\[(?:\s*\[)*\s*(?:[{"\]\d-]|true|false|null|\Z))')
 _TEXT = re.compile(r'\s*"(?:[^"\\]|\\.)*"\s*\Z')
 _LINE = re.compile(r'\s*(?:[{}\[\]]|"(?:[^"\\]|\\.)*"\s*:)')
-_SECOND = re.compile(r'\s*(?:\[\s*)?\{\s*"|\s*\[\s*["\[]')
+_SECOND = re.compile(r'\s*(?:\[\s*)?\{\s*"|\s*\[(?:\s*\[)*\s*"')
 
 
 def _recognizes(look: Look) -> bool:

@@ -13,10 +13,10 @@ from sdtool.audit.sources.options import SourceOptions
 
 _TITLE = re.compile(r"""(?P<front>[ \t]*(?:-[ \t]+)?)(?P<mark>["']?)(?P<title>[A-Za-z][\w .()/-]{0,60}?)(?P=mark)"""
                     r"(?P<padding>[ \t]*)(?:=[ \t]*|[:|](?:[ \t]+|\Z))(?P<value>.*)\Z")
-# Between records and above them: of YAML, of psql, of MySQL, and of a file of settings.
+# Between records and above them: of YAML, of psql, of MySQL, of a file of settings, and of TOML.
 _HEAD_LINE = re.compile(
     r"""(?:---|\.\.\.|%YAML.*|-\[ RECORD [0-9]+ \][-+]*|\*+ [0-9]+\. row \*+|[0-9]+ rows? in set.*|"""
-    r"""\[[^\[\]]+\])\s*\Z|\s*(?:"[^"]*"|'[^']*'|[^\s"'#-][^#"]*):\s*\Z""")
+    r"""\[[^\[\]]+\]|\[\[[^\[\]]+\]\])\s*\Z|\s*(?:"[^"]*"|'[^']*'|[^\s"'#-][^#"]*):\s*\Z""")
 _RECORD = re.compile(r"-\[ RECORD 1 \]")
 _BLOCK = re.compile(r"[|>][+-]?\s*\Z")
 _OF_ACLS = {"access", "owner", "audit"}  # what Get-Acl lists beside the path
@@ -133,7 +133,8 @@ def _read(source: Lines, label: str, options: SourceOptions) -> Iterator[Piece]:
         elif _HEAD_LINE.match(line):
             yield Piece(number, number + 1, _HEAD)
             title = line.strip()
-            above = _unquoted(title.strip("[]").rstrip(":")) if title[-1] in ":]" and title[0] not in "-*" else ""
+            is_name = title[-1] in ":]" and title[0] not in "-*" and title[:2] != "[["
+            above = _unquoted(title.strip("[]").rstrip(":")) if is_name else ""
         elif found:
             record, end = _Record(number, column, "" if is_item else above), number + 1
             record.add(found)
