@@ -194,7 +194,7 @@ class Abilities:
             return ability.says
         more = dict.fromkeys(one.name for one in _EVERY
                              if one.right == ability.right and one.on and one.means(where.classes)
-                             and not one.needs_all and one.only == "" and "?" not in one.flat)
+                             and not one.needs_all and one.only == "" and one.flat != ("?",))
         return ability.says + (f", so {', '.join(more)}" if more else "")
 
     @staticmethod
