@@ -1,3 +1,4 @@
 pub mod Ace
+pub mod AceHead
 pub mod AceLayout
 pub mod GuidText

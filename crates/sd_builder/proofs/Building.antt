@@ -19,9 +19,10 @@ use Rattle.sd_acl_view.specs.AclLayout.{acl_bytes, acl_header, revision_if}
 use Rattle.sd_builder.specs.Builds.{Builds}
 use Rattle.sd_builder.specs.Inner.Building.{Building, OpenAt, OpenIsFree, OpenStands, PartStands, PartsStand}
 use Rattle.sd_builder.specs.Inner.Building.{StandsInOrder}
-use Rattle.sd_builder.specs.Inner.Building.{given, given_acl, list, nothing, placed, sid}
+use Rattle.sd_builder.specs.Inner.Building.{given, given_acl, given_sid, list, nothing, placed, sid}
 use Rattle.sd_builder.specs.Draft.{CanBegin, Draft, DraftParts, IsOpen, IsOpenIn, acl_for, begun, closed_in, ended}
-use Rattle.sd_builder.specs.Draft.{ended_in, nothing_given, open_size, open_size_in, with_ace, with_acl, with_sid}
+use Rattle.sd_builder.specs.Draft.{ended_in, nothing_given, open_size, open_size_in, sid_for, with_ace, with_acl}
+use Rattle.sd_builder.specs.Draft.{with_sid}
 use Rattle.sd_view.specs.declared.acl_part.AclPart.{AclPart}
 use Rattle.sd_view.specs.declared.acl_part.AclPart.TheVariants as acl
 use Rattle.sd_builder.specs.declared.builder.Builder.{Builder}
@@ -131,6 +132,11 @@ new-builds bytes long =
     refl refl
 
 -- a SID that is not given yet
+pub free-sid : (t : DraftParts) (p : SidPart) → sid_for p t ≡ None → given t (sid_part_of p) ≡ nothing
+free-sid t sids.Owner e = ap given_sid e
+free-sid t sids.Group e = ap given_sid e
+
+-- there is room for it
 pub sid-room : (b : Builder) (bytes : List ℕ) (t : Draft) (p : SidPart) → Builds b bytes t
     → given t.parts (sid_part_of p) ≡ nothing → t.parts.«open» ≡ None → length bytes + 68 ≤ 131226
 unfolding Builds

@@ -11,7 +11,7 @@ use Rattle.sd_parts.specs.Header.{header_bytes}
 use Rattle.sd_view.specs.Layout.{acl_part, sid_part}
 use Rattle.sd_view.specs.declared.acl_part.AclPart.{AclPart}
 use Rattle.sd_view.specs.declared.acl_part.AclPart.TheVariants as acl
-use Rattle.sd_parts.specs.Parts.{part_of, same_part}
+use Rattle.sd_parts.specs.Parts.{part_of, same_part, sid_part_of}
 use Rattle.sd_parts.specs.declared.part.Part.{Part}
 use Rattle.sd_parts.specs.declared.part.Part.TheVariants as part
 use Rattle.sd_parts.specs.declared.part.SidPart.{SidPart}
@@ -35,6 +35,10 @@ no_parts = record { owner = None; group = None; sacl = acl.Absent; dacl = acl.Ab
 abbrev pub with_sid : SidPart → SecurityId → DraftParts → DraftParts
 with_sid sids.Owner s t = record t { owner = Some s }
 with_sid sids.Group s t = record t { group = Some s }
+
+abbrev pub sid_for : SidPart → DraftParts → Option SecurityId
+sid_for sids.Owner t = t.owner
+sid_for sids.Group t = t.group
 
 abbrev pub acl_for : Which → DraftParts → AclPart
 acl_for which.Sacl t = t.sacl
@@ -95,11 +99,14 @@ pub record Draft : Type 0 where
 abbrev pub nothing_given : Draft
 nothing_given = record { parts = no_parts; order = [] }
 
+abbrev pub with_owner_or_group : SidPart → SecurityId → Draft → Draft
+with_owner_or_group p s t = record { parts = with_sid p s t.parts; order = t.order ++ sid_part_of p ∷ [] }
+
 abbrev pub with_owner : SecurityId → Draft → Draft
-with_owner s t = record { parts = with_sid sids.Owner s t.parts; order = t.order ++ part.Owner ∷ [] }
+with_owner s t = with_owner_or_group sids.Owner s t
 
 abbrev pub with_group : SecurityId → Draft → Draft
-with_group s t = record { parts = with_sid sids.Group s t.parts; order = t.order ++ part.Group ∷ [] }
+with_group s t = with_owner_or_group sids.Group s t
 
 abbrev pub ended_in : Option (Which × List AccessControlEntry) → Draft → Draft
 ended_in None t = t

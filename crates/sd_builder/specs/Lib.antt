@@ -1,5 +1,4 @@
-pub mod AccountAce
 pub mod Builds
 pub mod Draft
 pub mod Inner
-pub mod NamedAce
+pub mod Trustee

@@ -1,36 +1,31 @@
 //! Descriptors built part by part in a buffer.
 
-ghost use Rattle.std.specs.Prelude.{◌≡◌, ◌≤◌, ◌+◌, ◌/◌, ◌%◌, ◌^◌, ◌++◌, ◌↔◌, length, false, None, IsErr, OnOk, OnErr};
+ghost use Rattle.std.specs.Prelude.{◌≡◌, ◌≤◌, ◌+◌, ◌^◌, ◌++◌, ◌↔◌, length, None, IsErr, OnOk, OnErr};
 ghost use Rattle.sd_ace.specs.Ace.{AccessControlEntry, IsAce, ace_size};
+ghost use Rattle.sd_ace.specs.AceHead.{plain_ace};
 ghost use Rattle.sd_ace.specs.AceLayout.{ace_bytes};
 ghost use Rattle.sd_kinds.specs.Kinds.{is_object};
-ghost use Rattle.sd_sid.specs.Account.{account_sid};
 ghost use Rattle.sd_parts.specs.declared.limits.TheConstants.{CAPACITY};
-ghost use Rattle.sd_builder.specs.AccountAce.{account_entry};
-ghost use Rattle.sd_builder.specs.NamedAce.{named_entry};
 ghost use Rattle.sd_builder.specs.Builds.{Builds};
 ghost use Rattle.sd_builder.specs.Inner.Building.{placed};
-ghost use Rattle.sd_sid.specs.SidText.{known_sid};
+ghost use Rattle.sd_builder.specs.Trustee.{IsTrustee, trustee_sid};
 ghost use Rattle.sd_view.specs.Descriptor.{Shows};
 ghost use Rattle.sd_view.specs.WrittenForm.{IsWrittenForm};
 ghost use Rattle.sd_builder.specs.Draft.{CanBegin, Draft, IsOpen, begun, built, built_bytes, ended, nothing_given};
-ghost use Rattle.sd_builder.specs.Draft.{open_size, with_ace, with_acl, with_group, with_owner};
+ghost use Rattle.sd_builder.specs.Draft.{open_size, sid_for, with_ace, with_acl, with_group, with_owner};
+ghost use Rattle.sd_builder.specs.Draft.{with_owner_or_group};
 ghost use Rattle.sd_view.specs.declared.acl_part.AclPart.TheVariants as acl;
 
-use crate::append::{
-    account_ace_size, append_account_ace, append_account_sid_at, append_ace, append_named_ace,
-    append_named_sid_at, append_sid_at, named_ace_size,
-};
+use crate::append::{append_ace, append_parts, append_sid_at, plain_size};
 use crate::changed::{ChangedAce, append_changed};
-use sd_ace::{Ace, AceParts};
-use sd_alias::WellKnown;
+use crate::trustee::Trustee;
+use sd_ace::{Ace, AceHead, AceParts};
 use sd_buffer::SdBuf;
-use sd_kinds::AceKind;
 use sd_layout::acl_header;
 use sd_parts::{
-    ACL_HEADER_SIZE, HEADER_SIZE, MOST_ACL_SIZE, Part, Parts, Which, control_of, header,
+    ACL_HEADER_SIZE, HEADER_SIZE, MOST_ACL_SIZE, Part, Parts, SidPart, Which, control_of, header,
 };
-use sd_sid::{Account, Sid};
+use sd_sid::Sid;
 
 /// The ACL would pass 65,535 bytes.
 #[derive(Clone, Copy, Debug, PartialEq, Eq)]
@@ -88,8 +83,7 @@ impl Builder {
         requires { (t : Draft) × Builds self.old buf.old t × (t.parts.owner ≡ None) × (t.parts.«open» ≡ None) }
         ensures value { (t : Draft) → Builds self.old buf.old t → Builds self.new buf.new (with_owner sid.now t) }
     {
-        let offset = append_sid_at(buf, sid);
-        self.keep(Part::Owner, offset);
+        self.sid(buf, SidPart::Owner, Trustee::Sid(sid));
     }
 
     /// Appends the SID of the primary group (MS-DTYP 2.4.2).
@@ -97,52 +91,20 @@ impl Builder {
         requires { (t : Draft) × Builds self.old buf.old t × (t.parts.group ≡ None) × (t.parts.«open» ≡ None) }
         ensures value { (t : Draft) → Builds self.old buf.old t → Builds self.new buf.new (with_group sid.now t) }
     {
-        let offset = append_sid_at(buf, sid);
-        self.keep(Part::Group, offset);
+        self.sid(buf, SidPart::Group, Trustee::Sid(sid));
     }
 
-    /// Appends the SID of the owner, as `owner` does, where it is an account's.
+    /// Appends the SID of the owner or of the primary group, as `owner` and `group` do.
     #[inline(always)]
-    pub fn account_owner(&mut self, buf: &mut SdBuf, account: Account)
-        requires { (t : Draft) × Builds self.old buf.old t × (t.parts.owner ≡ None) × (t.parts.«open» ≡ None) }
+    pub fn sid(&mut self, buf: &mut SdBuf, part: SidPart, trustee: Trustee<'_>)
+        requires trustee { IsTrustee trustee }
+        requires held { (t : Draft) × Builds self.old buf.old t × (sid_for part t.parts ≡ None)
+            × (t.parts.«open» ≡ None) }
         ensures value { (t : Draft) → Builds self.old buf.old t
-            → Builds self.new buf.new (with_owner (account_sid account) t) }
+            → Builds self.new buf.new (with_owner_or_group part (trustee_sid trustee.entry) t) }
     {
-        self.keep(Part::Owner, append_account_sid_at(buf, account));
-    }
-
-    /// Appends the SID of the primary group, as `group` does, where it is an account's.
-    #[inline(always)]
-    pub fn account_group(&mut self, buf: &mut SdBuf, account: Account)
-        requires { (t : Draft) × Builds self.old buf.old t × (t.parts.group ≡ None) × (t.parts.«open» ≡ None) }
-        ensures value { (t : Draft) → Builds self.old buf.old t
-            → Builds self.new buf.new (with_group (account_sid account) t) }
-    {
-        self.keep(Part::Group, append_account_sid_at(buf, account));
-    }
-
-    /// Appends the SID of the owner, as `owner` does, where two letters name it everywhere.
-    #[inline(always)]
-    pub fn named_owner(&mut self, buf: &mut SdBuf, name: &WellKnown)
-        requires count { name.now.count ≤ 6 }
-        requires held { (t : Draft) × Builds self.old buf.old t × (t.parts.owner ≡ None) × (t.parts.«open» ≡ None) }
-        ensures value { (t : Draft) → Builds self.old buf.old t
-            → Builds self.new buf.new (with_owner (known_sid name.now) t) }
-    {
-        let start = append_named_sid_at(buf, name);
-        self.keep(Part::Owner, start);
-    }
-
-    /// Appends the SID of the primary group, as `group` does, where two letters name it everywhere.
-    #[inline(always)]
-    pub fn named_group(&mut self, buf: &mut SdBuf, name: &WellKnown)
-        requires count { name.now.count ≤ 6 }
-        requires held { (t : Draft) × Builds self.old buf.old t × (t.parts.group ≡ None) × (t.parts.«open» ≡ None) }
-        ensures value { (t : Draft) → Builds self.old buf.old t
-            → Builds self.new buf.new (with_group (known_sid name.now) t) }
-    {
-        let start = append_named_sid_at(buf, name);
-        self.keep(Part::Group, start);
+        let offset = append_sid_at(buf, trustee);
+        self.keep(part.into(), offset);
     }
 
     /// Begins an ACL (MS-DTYP 2.4.5), to which `ace` appends, until `end_acl`.
@@ -187,60 +149,29 @@ impl Builder {
         ensures same { OnErr result ((self.new ≡ self.old) × (buf.new ≡ buf.old)) }
     {
         self.count_ace(buf, ace.size(), ace.kind().is_object())?;
-        append_ace(buf, ace);
+        append_parts(buf, ace);
         Ok(())
     }
 
-    /// Appends an ACE without object types for an account, as `ace` appends one.
+    /// Appends an ACE without object types, as `ace` appends one.
     #[inline(always)]
-    pub fn account_ace(
+    pub fn plain_ace(
         &mut self,
         buf: &mut SdBuf,
-        kind: AceKind,
-        flags: u8,
-        mask: u32,
-        account: Account,
+        head: AceHead,
+        trustee: Trustee<'_>,
     ) -> Result<(), AclTooLarge>
-        requires clear { flags / 0x20 % 2 ≡ 0 }
-        requires plain { is_object kind ≡ false }
+        requires trustee { IsTrustee trustee }
         requires held { (t : Draft) × Builds self.old buf.old t × IsOpen t.parts }
-        ensures full { (t : Draft) → Builds self.old buf.old t
-            → (IsErr result ↔ (2 ^ 16 ≤ open_size t.parts + ace_size (account_entry kind flags mask account))) }
+        ensures full { (t : Draft) → Builds self.old buf.old t → (IsErr result
+            ↔ (2 ^ 16 ≤ open_size t.parts + ace_size (plain_ace head (trustee_sid trustee.entry)))) }
         ensures ok { (t : Draft) → Builds self.old buf.old t
             → OnOk result (Builds self.new buf.new
-            (record t { parts = with_ace (account_entry kind flags mask account) t.parts })) }
+            (record t { parts = with_ace (plain_ace head (trustee_sid trustee.entry)) t.parts })) }
         ensures same { OnErr result ((self.new ≡ self.old) × (buf.new ≡ buf.old)) }
     {
-        let size = account_ace_size(kind, flags, mask, account);
-        self.count_ace(buf, size, false)?;
-        append_account_ace(buf, kind, flags, mask, account);
-        Ok(())
-    }
-
-    /// Appends an ACE without object types for a SID that two letters name everywhere, as `ace` appends one.
-    #[inline(always)]
-    pub fn named_ace(
-        &mut self,
-        buf: &mut SdBuf,
-        kind: AceKind,
-        flags: u8,
-        mask: u32,
-        name: &WellKnown,
-    ) -> Result<(), AclTooLarge>
-        requires clear { flags / 0x20 % 2 ≡ 0 }
-        requires plain { is_object kind ≡ false }
-        requires count { name.now.count ≤ 6 }
-        requires held { (t : Draft) × Builds self.old buf.old t × IsOpen t.parts }
-        ensures full { (t : Draft) → Builds self.old buf.old t
-            → (IsErr result ↔ (2 ^ 16 ≤ open_size t.parts + ace_size (named_entry kind flags mask name.now))) }
-        ensures ok { (t : Draft) → Builds self.old buf.old t
-            → OnOk result (Builds self.new buf.new
-            (record t { parts = with_ace (named_entry kind flags mask name.now) t.parts })) }
-        ensures same { OnErr result ((self.new ≡ self.old) × (buf.new ≡ buf.old)) }
-    {
-        let whole = named_ace_size(kind, flags, mask, name);
-        self.count_ace(buf, whole, false)?;
-        append_named_ace(buf, kind, flags, mask, name);
+        self.count_ace(buf, plain_size(head, trustee), false)?;
+        append_ace(buf, head, trustee);
         Ok(())
     }
 

@@ -6,7 +6,7 @@ ghost use Rattle.sd_ace.specs.Ace.{IsAce, ace_size};
 ghost use Rattle.sd_ace.specs.AceLayout.{ace_bytes, ace_front};
 ghost use Rattle.sd_parts.specs.declared.limits.TheConstants.{CAPACITY};
 
-use crate::append::append_ace;
+use crate::append::append_parts;
 use sd_ace::{Ace, AceFront, object_flags};
 use sd_acl_view::AceView;
 use sd_buffer::SdBuf;
@@ -110,7 +110,7 @@ fn front_with(ace: &AceView<'_>, flags: u8, mask: u32) -> AceFront
 
 // Appends it (MS-DTYP 2.4.4).
 pub(crate) fn append_changed(buf: &mut SdBuf, ace: &ChangedAce<'_>)
-    requires { length buf.old + ace_size ace.now ≤ CAPACITY }
+    requires { length buf.old + 4 + ace_size ace.now ≤ CAPACITY }
     ensures { buf.new ≡ buf.old ++ ace_bytes ace.now }
 {
     match ace.sid {
@@ -121,7 +121,7 @@ pub(crate) fn append_changed(buf: &mut SdBuf, ace: &ChangedAce<'_>)
         }
         Some(sid) => {
             let made = ace.with_sid(sid);
-            append_ace(buf, &made.parts());
+            append_parts(buf, &made.parts());
         }
     }
 }

@@ -4,8 +4,10 @@
 mod append;
 mod builder;
 mod changed;
+mod trustee;
 mod written;
 
 pub use builder::{AclTooLarge, Builder};
 pub use changed::ChangedAce;
+pub use trustee::Trustee;
 pub use written::write_layout;

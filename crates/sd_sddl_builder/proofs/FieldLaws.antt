@@ -4,12 +4,13 @@ use Rattle.std.proofs.Common.{◌∙◌}
 use Rattle.std.specs.Prelude.{◌&&◌, Ok}
 use Rattle.std.specs.Option.{option_map}
 use Rattle.sd_ace.specs.Ace.{AccessControlEntry, GuidsFit}
+use Rattle.sd_ace.specs.AceHead.{IsPlainHead, PlainHead}
 use Rattle.sd_kinds.specs.Kinds.{is_object}
 use Rattle.sd_kinds.specs.declared.kinds.AceKind.{AceKind}
 use Rattle.sd_builder.specs.Draft.{DraftParts, built, closed}
 use Rattle.sd_builder.specs.declared.builder.Builder.{Builder}
-use Rattle.sd_sddl_builder.specs.FoldedReading.{FieldsRead, begun_or_null, described, finished, no_fields, take_front}
-use Rattle.sd_sddl_builder.specs.FoldedReading.{with_flags}
+use Rattle.sd_sddl_builder.specs.FoldedReading.{FieldsRead, begun_or_null, described, finished, no_fields}
+use Rattle.sd_sddl_builder.specs.FoldedReading.{plain_fields, take_front, with_flags}
 use Rattle.sd_sddl_builder.specs.declared.kept.KeptDomains.{KeptDomains}
 use Rattle.sd_sddl_fields.specs.FieldTexts.{object_reads}
 use Rattle.sd_sddl_builder.specs.Meaning.{control_flags, unless_large}
@@ -103,6 +104,9 @@ sound-flags f flags s clear = record { clear = clear; fit = s.fit }
 
 pub sound-mask : (f : AceFields) (mask : ℕ) → AreAceFields f → AreAceFields (record f { mask = mask })
 sound-mask f mask s = record { clear = s.clear; fit = s.fit }
+
+pub head-sound : (h : PlainHead) → IsPlainHead h → AreAceFields (plain_fields h)
+head-sound h limits = sound-mask _ h.mask (sound-flags _ h.flags (sound-kind h.kind) limits.clear)
 
 -- a GUID stands in object kinds alone
 guid_stands : (kind : AceKind) (text : List ℕ) (g : List ℕ) → object_reads kind text ≡ Some (Some g)

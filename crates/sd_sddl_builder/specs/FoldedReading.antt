@@ -6,6 +6,7 @@ use Rattle.std.specs.Prelude.{None, Result, Ok, Err}
 use Rattle.std.specs.List.{flat_map}
 use Rattle.sd_text.specs.Limits.{most_acl}
 use Rattle.sd_ace.specs.Ace.{AccessControlEntry}
+use Rattle.sd_ace.specs.AceHead.{PlainHead}
 use Rattle.sd_kinds.specs.Flags.{flags_reads}
 use Rattle.sd_rights.specs.Rights.{rights_reads}
 use Rattle.sd_sid.specs.Sid.{SecurityId}
@@ -16,6 +17,7 @@ use Rattle.sd_sid.specs.declared.sid_text.SidFault.TheVariants.{SidForm}
 use Rattle.sd_acl_view.specs.Acl.{acl_size}
 use Rattle.sd_view.specs.Descriptor.{Descriptor}
 use Rattle.sd_builder.specs.Draft.{DraftParts, begun, built, closed, no_parts, with_ace, with_acl}
+use Rattle.sd_builder.specs.Draft.{with_sid as with_sid_part}
 use Rattle.sd_view.specs.declared.acl_part.AclPart.TheVariants as acl
 use Rattle.sd_parts.specs.declared.part.Which.{Which}
 use Rattle.sd_parts.specs.declared.part.Which.TheVariants as which
@@ -34,7 +36,6 @@ use Rattle.sd_sddl_builder.specs.declared.slot.AceField.TheVariants as field
 use Rattle.sd_sddl_builder.specs.declared.slot.Head.{Head}
 use Rattle.sd_sddl_builder.specs.declared.slot.Head.TheVariants as head
 use Rattle.sd_parts.specs.declared.part.SidPart.{SidPart}
-use Rattle.sd_parts.specs.declared.part.SidPart.TheVariants as sid_part
 use Rattle.sd_sddl_builder.specs.declared.slot.Slot.{Slot}
 use Rattle.sd_sddl_builder.specs.declared.slot.Slot.TheVariants as slot
 use Rattle.sd_sddl_builder.specs.declared.reading.AceFields.{AceFields}
@@ -109,8 +110,7 @@ with_sid with (Err e) = Err (fault.Sid e)
 
 -- an owner or a group; the ACL before it is closed
 abbrev pub with_owner_or_group : SidPart → FieldsRead → SecurityId → FieldsRead
-with_owner_or_group sid_part.Owner r s = record r { parts = record (closed r.parts) { owner = Some s } }
-with_owner_or_group sid_part.Group r s = record r { parts = record (closed r.parts) { group = Some s } }
+with_owner_or_group p r s = record r { parts = with_sid_part p s (closed r.parts) }
 
 abbrev pub with_flags : Which → AclFlags → FieldsRead → FieldsRead
 with_flags which.Sacl f r = record r { sacl = f }
@@ -126,6 +126,10 @@ take_front w has_aces r None = Err fault.Flags
 take_front w has_aces r (Some f) =
     if f.null && has_aces then Err fault.Flags
     else Ok (with_flags w f.flags (record r { parts = begun_or_null w f.null (closed r.parts) }))
+
+-- those of an ACE without object types
+abbrev pub plain_fields : PlainHead → AceFields
+plain_fields h = record no_fields { kind = h.kind; flags = h.flags; mask = h.mask }
 
 abbrev pub ace_of_fields : AceFields → SecurityId → AccessControlEntry
 ace_of_fields f s =

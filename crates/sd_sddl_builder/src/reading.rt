@@ -1,11 +1,10 @@
 //! The fields of a line, read one after the other.
 
-ghost use Rattle.std.specs.Prelude.{◌≡◌, ◌≤◌, ◌/◌, ◌%◌, Option, Ok, None, false, MatchOption};
-ghost use Rattle.sd_kinds.specs.Kinds.{is_object};
-ghost use Rattle.sd_sid.specs.Account.{account_sid};
-ghost use Rattle.sd_sid.specs.SidText.{known_sid, sid_reads};
-ghost use Rattle.sd_sddl_builder.specs.FoldedReading.{FieldsRead, fault_of, no_fields, take_ace_field, take_field};
-ghost use Rattle.sd_sddl_builder.specs.FoldedReading.{take_front, with_sid, with_trustee};
+ghost use Rattle.std.specs.Prelude.{◌≡◌, ◌/◌, ◌%◌, Option, Ok, None, false, MatchOption};
+ghost use Rattle.sd_builder.specs.Trustee.{IsTrustee, trustee_sid};
+ghost use Rattle.sd_sid.specs.SidText.{sid_reads};
+ghost use Rattle.sd_sddl_builder.specs.FoldedReading.{FieldsRead, fault_of, plain_fields, no_fields, take_ace_field};
+ghost use Rattle.sd_sddl_builder.specs.FoldedReading.{take_field, take_front, with_sid, with_trustee};
 ghost use Rattle.sd_sddl_builder.specs.Meaning.{control_flags, is_unreadable};
 ghost use Rattle.sd_sddl_fields.specs.FieldTexts.{front_reads};
 ghost use Rattle.sd_sddl_builder.specs.Inner.AceEnds.{EndsAce, EndsWithObjects};
@@ -15,10 +14,9 @@ use crate::fault::SddlFault;
 use crate::kept::KeptDomains;
 use crate::name::front_name;
 use crate::slot::{AceField, Slot};
-use sd_ace::AceParts;
-use sd_alias::WellKnown;
+use sd_ace::{AceHead, AceParts};
 use sd_buffer::SdBuf;
-use sd_builder::Builder;
+use sd_builder::{Builder, Trustee};
 use sd_kinds::{AceKind, flags_from_text};
 use sd_parts::{AclFlags, SidPart, Which};
 use sd_rights::rights_from_text;
@@ -26,7 +24,7 @@ use sd_sddl_fields::{
     AclFront, NO_FLAGS, after, behind, front_flags, front_from_text, front_kind, front_objects,
     front_rights, object_from_text,
 };
-use sd_sid::{Account, Sid, SidFault};
+use sd_sid::{Sid, SidFault};
 use uuid::Uuid;
 
 /// The fields of an ACE before its SID.
@@ -125,61 +123,26 @@ impl FieldReader {
     {
         match Sid::from_text(text, self.domain.as_ref()) {
             Ok(sid) => {
-                self.put_sid(buf, part, &sid);
+                self.put_sid(buf, part, Trustee::Sid(&sid));
                 Ok(())
             }
             Err(fault) => Err(SddlFault::Sid(fault)),
         }
     }
 
-    /// Takes the SID of an owner or a group.
-    pub fn put_sid(&mut self, buf: &mut SdBuf, part: SidPart, sid: &Sid)
-        requires { (t : FieldsRead) × HasReadFields self.old buf.old t × Lacks (head.Sid part) t }
-        ensures held { (t : FieldsRead) → HasReadFields self.old buf.old t
-            → HasReadFields self.new buf.new (with_owner_or_group part t sid.now) }
-        ensures domain { self.new.domain ≡ self.old.domain }
-    {
-        self.close_acl(buf);
-        if self.large.is_none() {
-            match part {
-                SidPart::Owner => self.builder.owner(buf, sid),
-                SidPart::Group => self.builder.group(buf, sid),
-            }
-        }
-    }
-
-    /// Takes the SID of an owner or a group that is an account. Its numbers are not kept in a SID on their way.
+    /// Takes the SID of an owner or a group. Inlined, so that the numbers of an account are not kept in a SID on their
+    /// way.
     #[inline(always)]
-    pub fn put_account_sid(&mut self, buf: &mut SdBuf, part: SidPart, account: Account)
-        requires { (t : FieldsRead) × HasReadFields self.old buf.old t × Lacks (head.Sid part) t }
-        ensures held { (t : FieldsRead) → HasReadFields self.old buf.old t
-            → HasReadFields self.new buf.new (with_owner_or_group part t (account_sid account)) }
-        ensures domain { self.new.domain ≡ self.old.domain }
-    {
-        self.close_acl(buf);
-        if self.large.is_none() {
-            match part {
-                SidPart::Owner => self.builder.account_owner(buf, account),
-                SidPart::Group => self.builder.account_group(buf, account),
-            }
-        }
-    }
-
-    /// Takes the SID of an owner or a group that two letters name everywhere.
-    #[inline(always)]
-    pub fn put_named_sid(&mut self, buf: &mut SdBuf, part: SidPart, name: &WellKnown)
-        requires count { name.now.count ≤ 6 }
+    pub fn put_sid(&mut self, buf: &mut SdBuf, part: SidPart, trustee: Trustee<'_>)
+        requires trustee { IsTrustee trustee }
         requires held { (t : FieldsRead) × HasReadFields self.old buf.old t × Lacks (head.Sid part) t }
         ensures held { (t : FieldsRead) → HasReadFields self.old buf.old t
-            → HasReadFields self.new buf.new (with_owner_or_group part t (known_sid name.now)) }
+            → HasReadFields self.new buf.new (with_owner_or_group part t (trustee_sid trustee.entry)) }
         ensures domain { self.new.domain ≡ self.old.domain }
     {
         self.close_acl(buf);
         if self.large.is_none() {
-            match part {
-                SidPart::Owner => self.builder.named_owner(buf, name),
-                SidPart::Group => self.builder.named_group(buf, name),
-            }
+            self.builder.sid(buf, part, trustee);
         }
     }
 
@@ -372,8 +335,7 @@ impl FieldReader {
         }
     }
 
-    // Reads the SID of an ACE of this kind without object types, with these flags and this mask, and appends the ACE,
-    // where the SID is an account or has a name everywhere. Most ACEs are such.
+    // The same without object types, where the SID is an account or has a name everywhere. Most ACEs are such.
     #[inline(always)]
     fn end_usual<'a>(
         &mut self,
@@ -390,45 +352,36 @@ impl FieldReader {
             self.new buf.new rest.now) }
         ensures domain { self.new.domain ≡ self.old.domain }
     {
-        if kind.is_object() || text.len() < 2 {
+        let head = AceHead::new(kind, flags, mask)?;
+        if text.len() < 2 {
             return None;
         }
         // A name such as BA has a letter where the text of an account has its first dash.
         if text[1] == b'-' {
-            let rest = self.append_account(buf, kind, flags, mask, text)?;
+            let rest = self.append_account(buf, head, text)?;
             return Some(rest);
         }
-        let rest = self.append_named(buf, kind, flags, mask, text)?;
+        let rest = self.append_named(buf, head, text)?;
         Some(rest)
     }
 
-    // The same for a kind that has no object types. The numbers of the account are not kept in a SID on their way.
+    // The same for an account. Its numbers are not kept in a SID on their way.
     #[inline(always)]
     fn append_account<'a>(
         &mut self,
         buf: &mut SdBuf,
-        kind: AceKind,
-        flags: u8,
-        mask: u32,
+        head: AceHead,
         text: &'a [u8],
     ) -> Option<&'a [u8]>
-        requires plain { is_object kind ≡ false }
-        requires clear { flags / 0x20 % 2 ≡ 0 }
-        requires held { (t : FieldsRead) × HasReadFields self.old buf.old t × IsOpen t.parts }
+        requires { (t : FieldsRead) × HasReadFields self.old buf.old t × IsOpen t.parts }
         ensures read { MatchOption result ((self.new ≡ self.old) × (buf.new ≡ buf.old))
-            (λ rest. EndsAce self.old buf.old (record no_fields { kind = kind; flags = flags; mask = mask }) text.now
-            self.new buf.new rest.now) }
+            (λ rest. EndsAce self.old buf.old (plain_fields head) text.now self.new buf.new rest.now) }
         ensures domain { self.new.domain ≡ self.old.domain }
     {
         let (account, domain, behind) = self.kept.front_account(text)?;
         let rest = after(behind, b")")?;
         self.kept.note(&text[..domain], account);
-        self.ace = AceFields {
-            flags,
-            mask,
-            ..no_fields(kind)
-        };
-        self.put_account(buf, account);
+        self.put_plain(buf, head, Trustee::Account(account));
         Some(rest)
     }
 
@@ -437,27 +390,17 @@ impl FieldReader {
     fn append_named<'a>(
         &mut self,
         buf: &mut SdBuf,
-        kind: AceKind,
-        flags: u8,
-        mask: u32,
+        head: AceHead,
         text: &'a [u8],
     ) -> Option<&'a [u8]>
-        requires plain { is_object kind ≡ false }
-        requires clear { flags / 0x20 % 2 ≡ 0 }
-        requires held { (t : FieldsRead) × HasReadFields self.old buf.old t × IsOpen t.parts }
+        requires { (t : FieldsRead) × HasReadFields self.old buf.old t × IsOpen t.parts }
         ensures read { MatchOption result ((self.new ≡ self.old) × (buf.new ≡ buf.old))
-            (λ rest. EndsAce self.old buf.old (record no_fields { kind = kind; flags = flags; mask = mask }) text.now
-            self.new buf.new rest.now) }
+            (λ rest. EndsAce self.old buf.old (plain_fields head) text.now self.new buf.new rest.now) }
         ensures domain { self.new.domain ≡ self.old.domain }
     {
         let (name, end) = front_name(text)?;
         let rest = after(end, b")")?;
-        self.ace = AceFields {
-            flags,
-            mask,
-            ..no_fields(kind)
-        };
-        self.put_named(buf, name);
+        self.put_plain(buf, head, Trustee::Named(name));
         Some(rest)
     }
 
@@ -496,45 +439,24 @@ impl FieldReader {
         }
     }
 
-    // The same for an account, where the ACE has no object types.
+    // The same for an ACE without object types, which becomes the ACE at hand.
     #[inline(always)]
-    fn put_account(&mut self, buf: &mut SdBuf, account: Account)
-        requires plain { is_object self.old.ace.kind ≡ false }
-        requires none { (self.old.ace.object ≡ None) × (self.old.ace.inherited ≡ None) }
+    fn put_plain(&mut self, buf: &mut SdBuf, head: AceHead, trustee: Trustee<'_>)
+        requires trustee { IsTrustee trustee }
         requires held { (t : FieldsRead) × HasReadFields self.old buf.old t × IsOpen t.parts }
-        ensures held { (t : FieldsRead) → HasReadFields self.old buf.old t
-            → HasReadFields self.new buf.new (with_trustee t (account_sid account)) }
+        ensures held { (t : FieldsRead) → HasReadFields self.old buf.old t → HasReadFields self.new buf.new
+            (with_trustee (record t { ace = plain_fields head }) (trustee_sid trustee.entry)) }
         ensures domain { self.new.domain ≡ self.old.domain }
     {
+        self.ace = AceFields {
+            flags: head.flags(),
+            mask: head.mask(),
+            ..no_fields(head.kind())
+        };
         if self.large.is_some() {
             return;
         }
-        let f = &self.ace;
-        if let Err(_) = self
-            .builder
-            .account_ace(buf, f.kind, f.flags, f.mask, account)
-        {
-            let too_large = self.open_acl;
-            self.large = too_large;
-        }
-    }
-
-    // The same for a name, where the ACE has no object types.
-    #[inline(always)]
-    fn put_named(&mut self, buf: &mut SdBuf, name: &WellKnown)
-        requires plain { is_object self.old.ace.kind ≡ false }
-        requires none { (self.old.ace.object ≡ None) × (self.old.ace.inherited ≡ None) }
-        requires count { name.now.count ≤ 6 }
-        requires held { (t : FieldsRead) × HasReadFields self.old buf.old t × IsOpen t.parts }
-        ensures held { (t : FieldsRead) → HasReadFields self.old buf.old t
-            → HasReadFields self.new buf.new (with_trustee t (known_sid name.now)) }
-        ensures domain { self.new.domain ≡ self.old.domain }
-    {
-        if self.large.is_some() {
-            return;
-        }
-        let f = &self.ace;
-        if let Err(_) = self.builder.named_ace(buf, f.kind, f.flags, f.mask, name) {
+        if let Err(_) = self.builder.plain_ace(buf, head, trustee) {
             let full = self.open_acl;
             self.large = full;
         }

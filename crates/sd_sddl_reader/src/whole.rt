@@ -15,6 +15,7 @@ use crate::line::{
 };
 use crate::reader::SddlReader;
 use sd_buffer::SdBuf;
+use sd_builder::Trustee;
 use sd_parts::{SidPart, Which};
 use sd_sddl_builder::{AceField, Slot};
 
@@ -189,7 +190,7 @@ impl SddlReader {
             (λ rest. Feeds self.old buf.old text.now self.new buf.new rest.now) }
     {
         let (account, head, rest) = next_account(text, &self.fields.kept)?;
-        self.fields.put_account_sid(buf, part, account);
+        self.fields.put_sid(buf, part, Trustee::Account(account));
         self.note_head(head);
         Some(rest)
     }
@@ -204,7 +205,7 @@ impl SddlReader {
             (λ rest. Feeds self.old buf.old text.now self.new buf.new rest.now) }
     {
         let (name, head, rest) = next_named(text)?;
-        self.fields.put_named_sid(buf, part, name);
+        self.fields.put_sid(buf, part, Trustee::Named(name));
         self.note_head(head);
         Some(rest)
     }

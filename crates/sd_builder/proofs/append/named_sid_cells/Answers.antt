@@ -22,7 +22,7 @@ returns c =
       c.copy_from_slice.ensures.after,
       c.copy_from_slice-2.ensures.after,
       c.copy_from_slice-3.ensures.after,
-      c.named_header.ensures,
+      c.sid_header.ensures,
       c.to_le_bytes.ensures,
       c.to_le_bytes-2.ensures,
     )

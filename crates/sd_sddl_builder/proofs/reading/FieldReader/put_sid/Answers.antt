@@ -1,27 +1,25 @@
-use Rattle.std.proofs.Common.{[], ◌∷◌, ◌++◌, Some, refl}
-use Rattle.sd_parts.specs.declared.part.Part.TheVariants as part
-use Rattle.sd_builder.specs.Draft.{closed}
+use Rattle.std.proofs.Common.{◌≡◌, [], ◌∷◌, ◌++◌, refl}
+use Rattle.sd_builder.specs.Draft.{DraftParts, closed, with_sid}
+use Rattle.sd_builder.specs.Trustee.{trustee_sid}
+use Rattle.sd_parts.specs.Parts.{sid_part_of}
+use Rattle.sd_parts.specs.declared.part.SidPart.{SidPart}
+use Rattle.sd_parts.specs.declared.part.SidPart.TheVariants.{Group, Owner}
 use Rattle.sd_sddl_builder.proofs.FieldLaws.{holds-parts}
+use Rattle.sd_sid.specs.Sid.{SecurityId}
 use Rattle.sd_sddl_builder.proofs.reading.FieldReader.put_sid.Goals as goal
 
-pub returns-in-Owner-clause-held : goal.returns-in-Owner-clause-held
-returns-in-Owner-clause-held c = λ t h.
-    rw c.in-Owner.is
-    (holds-parts c.close_acl.new.self c.close_acl.new.buf c.owner.new.buf c.owner.new.self
-    (record t { parts = closed t.parts }) (record (closed t.parts) { owner = Some c.args.sid.now })
-    (c.close_acl.ensures.held t h) refl
-    (λ b. (
-      b.0 ++ part.Owner ∷ [],
-      c.owner.ensures.value (record { parts = closed t.parts; order = b.0 }) b.1,
-    )))
+same-open : (p : SidPart) (s : SecurityId) (t : DraftParts) → (with_sid p s t).«open» ≡ t.«open»
+same-open Owner s t = refl
+same-open Group s t = refl
 
-pub returns-in-Group-clause-held : goal.returns-in-Group-clause-held
-returns-in-Group-clause-held c = λ t h.
-    rw c.in-Group.is
-    (holds-parts c.close_acl.new.self c.close_acl.new.buf c.group.new.buf c.group.new.self
-    (record t { parts = closed t.parts }) (record (closed t.parts) { group = Some c.args.sid.now })
-    (c.close_acl.ensures.held t h) refl
+pub returns-then-is_none-clause-held : goal.returns-then-is_none-clause-held
+returns-then-is_none-clause-held c = λ t h.
+    let p = c.args.part in
+    let s = trustee_sid c.args.trustee in
+    holds-parts c.close_acl.new.self c.close_acl.new.buf c.sid.new.buf c.sid.new.self
+    (record t { parts = closed t.parts }) (with_sid p s (closed t.parts)) (c.close_acl.ensures.held t h)
+    (same-open p s (closed t.parts))
     (λ b. (
-      b.0 ++ part.Group ∷ [],
-      c.group.ensures.value (record { parts = closed t.parts; order = b.0 }) b.1,
-    )))
+      b.0 ++ sid_part_of p ∷ [],
+      c.sid.ensures.value (record { parts = closed t.parts; order = b.0 }) b.1,
+    ))

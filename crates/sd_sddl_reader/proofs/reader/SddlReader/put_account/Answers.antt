@@ -13,18 +13,18 @@ returns c =
     let at = c.in_ok-account.ensures in
     let plain = at.before.whole in
     let noted = c.note_head.ensures in
-    let taken : SddlReader = record s { fields = c.put_account_sid.new.self } in
+    let taken : SddlReader = record s { fields = c.put_sid.new.self } in
     let readable = whole-readable at.field (text-inside at.field plain.plain) plain.fits in
     let over =
-    steps-sid s taken c.note_head.new.self c.args.buf.now c.put_account_sid.new.buf at.field c.in_ok-account.rest.now
+    steps-sid s taken c.note_head.new.self c.args.buf.now c.put_sid.new.buf at.field c.in_ok-account.rest.now
     c.args.text.now c.args.part c.in_ok-account.head c.requires.here c.requires.fresh at.before
     (record {
       read = λ t k. (
         with_owner_or_group c.args.part t (account_sid c.in_ok-account.account),
-        λ none. c.put_account_sid.ensures.held t k,
+        λ none. c.put_sid.ensures.held t k,
         rw (c.requires.fresh.clear, readable, at.reads s.fields.domain) refl,
       );
-      domain = c.put_account_sid.ensures.domain;
+      domain = c.put_sid.ensures.domain;
       same = refl;
     })
     (record {
@@ -34,5 +34,5 @@ returns c =
       fault = noted.fault;
       same = noted.same;
     }) in
-    feeds-to s c.note_head.new.self c.args.buf.now c.args.text.now c.put_account_sid.new.buf c.in_ok-account.rest.now
+    feeds-to s c.note_head.new.self c.args.buf.now c.args.text.now c.put_sid.new.buf c.in_ok-account.rest.now
     c.requires.fresh.none c.requires.reader over

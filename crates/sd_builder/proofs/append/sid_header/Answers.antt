@@ -1,6 +1,6 @@
 use Rattle.std.proofs.Common.{◌≡◌, ◌<◌, ℕ, ◌/◌, ◌%◌, [], ◌∷◌, refl, arith}
 use Rattle.byteorder.specs.Endian.{big_bytes}
-use Rattle.sd_builder.proofs.append.named_header.Goals as goal
+use Rattle.sd_builder.proofs.append.sid_header.Goals as goal
 
 -- a number of one byte has no other
 one-byte : (a : ℕ) → a < 256 → big_bytes 6 a ≡ 0 ∷ 0 ∷ 0 ∷ 0 ∷ 0 ∷ a ∷ []
