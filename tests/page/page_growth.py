@@ -1,11 +1,13 @@
 """Doubles the length of each construct of each reader of the page. In Node, twice as long a text may take 2.3 times the
 instructions: valgrind counts them, and what else the machine does changes nothing. Lengths are short, so what does no
 more with each character than copy it is not seen. What takes more is doubled again, since a limit of a reader may lie
-between two lengths. The measure has to refuse two readers that are slow. It needs Node and Debian's valgrind.
+between two lengths. What the library reads, where `make wasm` has built it, may take 2.6 times the processor's time for
+longer texts. Both measures have to refuse readers that are slow. It needs Node and Debian's valgrind.
 """
 import concurrent.futures
 import itertools
 import json
+import os
 import pathlib
 import shutil
 import subprocess
@@ -18,7 +20,7 @@ SCRIPT = str(pathlib.Path(__file__).resolve().parent / "web/growth.mjs")
 MOST_FOR_EACH = 2.3  # twice the instructions are linear, four times are quadratic
 DOUBLINGS = 2
 TOGETHER = 8  # constructs that are counted at once
-JOBS = 2  # side by side
+JOBS = len(os.sched_getaffinity(0))  # side by side
 
 
 def slow_ones(counted, reader, places):
@@ -33,12 +35,28 @@ def slow_ones(counted, reader, places):
     return list(itertools.chain(*(slow_ones(counted, reader, part) for part in parts))) or [(places, counts)]
 
 
+def told(*words):
+    return json.loads(subprocess.run(["node", SCRIPT, *words], stdout=subprocess.PIPE, check=True).stdout)
+
+
+def time_library(count, readers, slow):
+    """Measures the readers of the library, and what the measure has to refuse."""
+    if not readers:
+        print("skipped: the readers of the library, which make wasm builds")
+        return
+    chosen = [reader for reader in (*readers, *slow) if preload.is_chosen(reader)]
+    with concurrent.futures.ThreadPoolExecutor(JOBS) as pool:
+        for reader, found in zip(chosen, pool.map(lambda reader: told("--time", reader), chosen)):
+            count.add(bool(found) == (reader in slow), f"{reader}: {found[:5]} microseconds")
+
+
 def main(count):
     if not shutil.which("node") or not shutil.which("valgrind"):
         print("skipped: node (Debian: nodejs), or valgrind")
         return
-    told = subprocess.run(["node", SCRIPT], stdout=subprocess.PIPE, check=True).stdout
-    readers, slow, constructs = json.loads(told)
+    of_page, of_library, slow, constructs = told()
+    time_library(count, of_library, slow)
+    readers = [*of_page, *slow]
     groups = [list(range(len(constructs)))[at:at + TOGETHER] for at in range(0, len(constructs), TOGETHER)]
     pairs = [pair for pair in itertools.product(readers, groups) if preload.is_chosen(pair[0])]
 

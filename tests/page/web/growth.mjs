@@ -1,15 +1,20 @@
-// growth.mjs [--answer]
+// growth.mjs [--answer | --time READER]
 //
-// Prints the readers of the page, what the measure has to refuse, and the constructs of which texts are made. With
-// --answer it reads texts, as the lines of JSON say that page_growth.py sends: the reader, the numbers of constructs,
-// and how often their least length is doubled. What marks the readings for valgrind are two calls of the C library.
-import {readSync} from "node:fs";
+// Prints the readers of the page, those of the library where it is built, what the measure has to refuse, and the
+// constructs of which texts are made. With --answer it reads texts, as the lines of JSON say that page_growth.py sends:
+// the reader, the numbers of constructs, and how often their least length is doubled. What marks the readings for
+// valgrind are two calls of the C library. With --time it prints the constructs for which a reader takes more time than
+// their lengths give reason for.
+import {existsSync, readSync} from "node:fs";
 import {getPriority} from "node:os";
 
+import {questionOf} from "../../../web/desk.mjs";
+import {freshState} from "../../../web/state.mjs";
 import {REPORT} from "../../../web/windows.mjs";
 import {PIECES} from "./hostile.mjs";
 import {READERS} from "./readers.mjs";
 
+const MODULE = new URL("../../../out/systems/wasm/sdtool.mjs", import.meta.url);
 const MASK = 0o22; // of files, of which this makes none
 const SLOW = {
     "a slow pattern": (text) => /=+$/.test(text),
@@ -17,6 +22,45 @@ const SLOW = {
 };
 const LEAST = 1000;            // characters
 const [FEW, FEWEST] = [3, 50]; // repetitions: those that show a process what it has to do, and of the least length
+// What a library reads is too much for valgrind, so the processor's time is measured, in microseconds. A reading that
+// takes less of a text of the greatest length is no slow one.
+const [LEAST_TIME, LONGEST] = [5_000, 1 << 17];
+const MOST_FOR_EACH = 2.6;
+const DOUBLINGS = 3; // of which each takes too much: a limit of a reader may lie between two lengths
+const TRIES = 5;     // of which the shortest time counts
+const ENCODER = new TextEncoder();
+const itemsOf = (text) => text.split(",");
+const stateOf = (text) => ({...freshState(), text, kind: "ds", isKindChosen: true});
+
+// What calls of the library, and questions of the page over it, read. What a call refuses is read too.
+function readersOf(library) {
+    const empty = library.fromSddl("");
+    const calls = {
+        "a text of SDDL": (text) => library.fromSddl(text),
+        "a text of a SID": (text) => library.sidFromText(text),
+        "names of options": (text) => library.fromSddl("", Object.fromEntries(itemsOf(text).map((one) => [one, 1]))),
+        "the SIDs of a check": (text) => library.check(empty, itemsOf(text), {wanted: 1}),
+        "the ACEs of a list": (text) =>
+            library.build({dacl: itemsOf(text).map((sid) => ({kind: 0, flags: 0, mask: 1, sid}))}),
+        "many descriptors": (text) => library.checkMany(itemsOf(text).map(() => empty), ["WD"], {wanted: 1}),
+        "lines of the program": (text) => library.run(["convert", "--from", "sddl"], ENCODER.encode(text)),
+        "the first view": (text) => questionOf(library, "look", stateOf(text)),
+        "a comparison": (text) =>
+            questionOf(library, "compare", {state: stateOf(text), other: {text: "D:", form: "auto"}}),
+        "a new object": (text) => questionOf(library, "inherit", {state: stateOf(text), made: freshState().made}),
+    };
+    const read = (call) => (text) => {
+        try {
+            call(text);
+        } catch (fault) {
+            if (fault.number === undefined) {
+                throw fault;
+            }
+            fault.excerpt?.();
+        }
+    };
+    return Object.fromEntries(Object.entries(calls).map(([name, call]) => [name, read(call)]));
+}
 
 const VALUES = {
     text: "x",
@@ -66,7 +110,10 @@ const CONSTRUCTS = [
 
 // A text in one piece.
 function textOf([front, unit, end], count) {
-    const text = front + Array.from({length: count}, (_, at) => unit.replaceAll("#", String(at))).join("") + end;
+    const units = unit.includes("#") ?
+        Array.from({length: count}, (_, at) => unit.replaceAll("#", String(at))).join("") :
+        unit.repeat(count);
+    const text = front + units + end;
     return Buffer.from(text, "utf16le").toString("utf16le");
 }
 
@@ -97,12 +144,46 @@ function answer() {
     }
 }
 
+// The least time that a reading takes.
+function timeOf(reader, text, tries = TRIES) {
+    const times = Array.from({length: tries}, () => {
+        const before = process.cpuUsage();
+        reader(text);
+        const {user, system} = process.cpuUsage(before);
+        return user + system;
+    });
+    return Math.min(...times);
+}
+
+// The times of lengths of which each is twice the one before, if each is too long.
+function slowTimes(reader, construct) {
+    let count = lengthOf(construct);
+    const readingOf = () => timeOf(reader, textOf(construct, count), 1);
+    while (readingOf() < LEAST_TIME && count * construct[1].length < LONGEST) {
+        count *= 2;
+    }
+    const times = [timeOf(reader, textOf(construct, count))];
+    while (times.length <= DOUBLINGS) {
+        count *= 2;
+        times.push(timeOf(reader, textOf(construct, count)));
+        if (times.at(-1) < LEAST_TIME || times.at(-1) <= MOST_FOR_EACH * times.at(-2)) {
+            return null;
+        }
+    }
+    return times;
+}
+
+const ofLibrary = existsSync(MODULE) ? readersOf(await (await import(MODULE)).load()) : {};
 const readers = {
     ...READERS,
+    ...ofLibrary,
     ...SLOW
 };
 if (process.argv[2] === "--answer") {
     answer();
+} else if (process.argv[2] === "--time") {
+    const slow = CONSTRUCTS.map((one) => [one, slowTimes(readers[process.argv[3]], one)]).filter(([, times]) => times);
+    console.log(JSON.stringify(slow));
 } else {
-    console.log(JSON.stringify([Object.keys(readers), Object.keys(SLOW), CONSTRUCTS]));
+    console.log(JSON.stringify([Object.keys(READERS), Object.keys(ofLibrary), Object.keys(SLOW), CONSTRUCTS]));
 }
