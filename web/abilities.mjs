@@ -57,11 +57,13 @@ export const partsOf = ({mask, typed}) => [{object: "", mask}, ...typed];
 
 const isTemplate = ({classes}) => classes.at(-1) === TEMPLATE;
 
-// One of the rights that an ability needs together has to be the trustee's own.
-function hasAll({types, right}, got, where, givesAll) {
-    const hasOne = partsOf(got).some(({object, mask}) => (mask & right) !== 0 &&
+// The object types by which a trustee has an ability that needs several together, or nothing if it hasn't. One of these
+// rights has to be its own.
+function typesOfAll({types, right}, got, where, givesAll) {
+    const own = partsOf(got).filter(({object, mask}) => (mask & right) !== 0 &&
             (types.some((path) => path.includes(object)) || isOwn(object, where.own)));
-    return hasOne && where.hasAccounts && types.every((path) => givesAll(right, path));
+    const hasAll = own.length > 0 && where.hasAccounts && types.every((path) => givesAll(right, path));
+    return hasAll ? [...new Set([...types.flat(), ...own.map(({object}) => object)])] : [];
 }
 
 // The rights that may give an ability, with their object types. What is told of all object types isn't told of each,
@@ -88,13 +90,13 @@ export function abilitiesOf(sid, got, where, {gives, givesAll}, isTold, domain) 
             rule: ability.name,
             mask: ability.right,
             object: "",
-            types: ability.types.flat(),
             severity: ability.severity,
             says: ability.says,
         };
         if (ability.all) {
-            if (hasAll(ability, got, where, givesAll)) {
-                found.set(ability.name, told);
+            const types = typesOfAll(ability, got, where, givesAll);
+            if (types.length) {
+                found.set(ability.name, {...told, types});
             }
             continue;
         }

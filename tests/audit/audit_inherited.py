@@ -15,7 +15,8 @@ UNIT = f"OU=Sales,{BASE}"
 MALLORY, ADMINS = f"{DOMAIN}-1105", f"{DOMAIN}-512"
 RESET, USER, COMPUTER = ("00299570-246d-11d0-a768-00aa006e0529", "bf967aba-0de6-11d0-a285-00aa003049e2",
                          "bf967a86-0de6-11d0-a285-00aa003049e2")
-FLAGS, TEMPLATE = "bf967976-0de6-11d0-a285-00aa003049e2", "e5209ca2-3bba-11d2-90cc-00c04fd91ab1"
+FLAGS, DESCRIPTION, TEMPLATE = ("bf967976-0de6-11d0-a285-00aa003049e2", "bf967950-0de6-11d0-a285-00aa003049e2",
+                                "e5209ca2-3bba-11d2-90cc-00c04fd91ab1")
 HEAD, OF_UNIT, OF_GROUP = ("top", "domain", "domainDNS"), ("top", "organizationalUnit"), ("top", "group")
 OF_USER = ("top", "person", "organizationalPerson", "user")
 OF_COMPUTER = (*OF_USER, "computer")
@@ -117,20 +118,20 @@ def test_pairs(place: Place) -> None:
 
 
 def test_templates(place: Place) -> None:
-    """A property of a template is told at the template, where what hands it on doesn't know its class."""
+    """A property of a template is told at the template too, since what hands it on may not know its class."""
     above = f"CN=Certificate Templates,CN=Public Key Services,CN=Services,CN=Configuration,{BASE}"
-    for of_class, at_template in (("", ["template-edit"]), (TEMPLATE, [])):
+    for of_class, at_container in (("", []), (TEMPLATE, ["template-edit"])):
         aces = f"(OA;CI;WP;{FLAGS};{of_class};{MALLORY})"
         got = found_in(place, [entry(above, ("top", "container"), f"D:{aces}"),
                                entry(f"CN=User,{above}", ("top", "pKICertificateTemplate"),
                                      f"D:AI{aces.replace('CI', 'CIID', 1)}")])
-        place.expect((got[above], got[f"CN=User,{above}"]), ([] if at_template else ["template-edit"], at_template),
+        place.expect((got[above], got[f"CN=User,{above}"]), (at_container, ["template-edit"]),
                      f"a template's property for class {of_class!r}")
 
 
 def test_types_below(place: Place) -> None:
     """What objects below inherit for another object type than what is found here is told too."""
-    for right, types, rule in (("WP", (FLAGS, f"{FLAGS[:-1]}1"), "everyone-changes"),
+    for right, types, rule in (("WP", (FLAGS, DESCRIPTION), "everyone-changes"),
                                ("CR", (f"{RESET[:-1]}1", f"{RESET[:-1]}2"), "unknown-type")):
         who = "WD" if rule == "everyone-changes" else MALLORY
         source = place.write("types.ldif", entry(UNIT, OF_COMPUTER, f"D:(OA;;{right};{types[0]};;{who})"

@@ -351,7 +351,8 @@ ROWS: list = [
     (("risks",), f"O:{ANN}D:(A;;FR;;;S-1-1-0)",
      [("foreign-owner", ANN, [(None, "owner", "change permissions", True)])]),
     (("risks",), "O:BAD:(D;;0x2;;;S-1-5-7)(A;;FR;;;S-1-1-0)(A;;0x116;;;S-1-1-0)",
-     [("everyone-changes", EVERYONE, [(3, "(A;;0x116;;;S-1-1-0)", "write", True)])]),
+     [("everyone-changes", EVERYONE, [(2, "(A;;0x120089;;;S-1-1-0)", "Read", True),
+                                      (3, "(A;;0x116;;;S-1-1-0)", "the rest of Read and write", True)])]),
 ]
 
 
