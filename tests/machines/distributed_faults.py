@@ -75,6 +75,14 @@ def replace(old, new):
     time.sleep(1)
 os.replace = replace
 """
+# Behind the stub of a driver: what is named `hangs` cannot be listed.
+HANGS_IN_LS = """
+right_scandir = os.scandir
+def scandir(path="."):
+    if "hangs" in str(path): time.sleep(1000)
+    return right_scandir(path)
+os.scandir = scandir
+"""
 # Makes and removes files in the folder d.
 COMES_AND_GOES = """
 import os
@@ -591,13 +599,13 @@ def test_scheduler_of_dask(count, place):
 # What a driver does for an input of many parts, without a cluster: blocks that are answered, compared and put together.
 PARTS = """
 import argparse, time
-from sdtool.distributed.crew import Crew
+from sdtool.distributed.engine import Engine
 from sdtool.distributed.work import Given
 
 def seconds(blocks):
     given = Given(None, "/x", None, "/out/x", "/out/x", {"size": blocks, "ino": 1})
     wanted = argparse.Namespace(block=1, retries=0, wait=60, slowest=1)
-    made, methods = Crew(argparse.Namespace(is_parts=True), [given], wanted, print), []
+    made, methods = Engine(argparse.Namespace(is_parts=True), [given], wanted, print), []
     made.begin(made.jobs[0])
     began = time.process_time()
     while made.fresh:
@@ -631,110 +639,93 @@ def test_killed_worker(count, place):
 # Who may still do a task of which one worker has said that it failed, without a cluster: so it is the same each time.
 HOPES = """
 import argparse, time
-from sdtool.distributed.crew import Crew, Sent, Task, Worker, see
+from sdtool.distributed.engine import Engine, Sent, Task, Worker
 from sdtool.distributed.work import Given
 
-class Future:
-    def release(self): pass
-
-def crew(retries, **others):
-    # A crew of the worker `one` and others, and a task of an input.
+def engine(retries, **others):
+    # An engine with the worker `one` and others, and a task of an input.
     given = Given(None, "/x", None, "/out/x", "/out/_sdtool/inputs/x", {"size": 1})
     given.__class__.url = "x"
-    made = Crew(None, [given], argparse.Namespace(block=9, retries=retries, wait=60, slowest=1), lambda line: None)
-    made.workers = {"one": Worker("one", is_fit=True), **{name: Worker(name, **has) for name, has in others.items()}}
+    made = Engine(None, [given], argparse.Namespace(block=9, retries=retries, wait=60, slowest=1), lambda line: None)
+    made.workers = {"one": Worker("one"), **{name: Worker(name, **has) for name, has in others.items()}}
+    made.was_retired = lambda address: address == "retired"
     return made, Task(made.jobs[0], "answer_whole", (), 1)
 
 def is_open(made):
     return made.jobs[0].came is None
 
 def failed(made, task, name="one"):
-    made.fail(task, made.workers[name], "it failed")
+    made.take_outcome(task, name, "failed", "it failed")
     return is_open(made)
 
-def has(made, task, name, *more):
-    worker = made.workers[name]
-    worker.tasks["key"] = Sent(Future(), [task, *more], 0, 1)
-    return worker
+def hung(made, task, name="one"):
+    made.take_outcome(task, name, "hung", 30)
+    return is_open(made)
 
-FIT, LEFT_OUT = {"is_fit": True}, {"unfit_at": time.monotonic()}
+def died(made, name, *tasks):
+    made.bury(Sent(None, list(tasks)), name)
+    return is_open(made)
+
+LEFT_OUT = {"unfit_at": time.monotonic(), "delay": 30}
 time.sleep(0.01)
 told = {
-    "nobody else": failed(*crew(0)),
-    "nobody else, a retry": failed(*crew(1)),
-    "a fit one": failed(*crew(0, two=FIT)),
-    "one that is looked at": failed(*crew(0, two={})),
-    "one that was left out before": failed(*crew(0, two=LEFT_OUT)),
-    "one that is paused and was never fit": failed(*crew(0, two={"is_able": False})),
+    "nobody else": failed(*engine(0)),
+    "nobody else, a retry": failed(*engine(1)),
+    "a fit one": failed(*engine(0, two={})),
+    "one that was left out before": failed(*engine(0, two=LEFT_OUT)),
+    "one that is paused": failed(*engine(0, two={"status": "paused"})),
+    "one that is silent": failed(*engine(0, two={"is_stuck": True})),
 }
-made, task = crew(0, two=LEFT_OUT)
+made, task = engine(0, two={})
 failed(made, task)
 made.leave_out(made.workers["two"], "it is no good")
 told["one that is found unfit since"] = failed(made, task)
-made, task = crew(0, two=FIT)
+made, task = engine(0, two={})
 failed(made, task)
 task.failed_at -= 61
 told["a fit one that does not come to it"] = failed(made, task)
-made, task = crew(0, two=FIT, three=FIT)
+made, task = engine(0, two={}, three={})
 failed(made, task)
 told["a third one"] = failed(made, task, "two")
-made, task = crew(0, two=FIT)
-made.bury(has(made, task, "one"))
-told["a fit one, after a death"] = is_open(made)
-made.bury(has(made, task, "two"))
-told["nobody after two deaths"] = is_open(made)
-made, task = crew(3, two={})
-for _ in range(2):
-    made.end_hung(has(made, task, "one"), ["key"])
-told["one that is looked at, after two hangs"] = is_open(made)
-made.end_hung(has(made, task, "two"), ["key"])
-told["nobody, after hangs of two"] = is_open(made)
-made, task = crew(0)
-other = Task(made.jobs[0], "answer_whole", (), 1)
-made.end_hung(has(made, task, "one", other), ["key"])
-told["nobody else, one of two has failed"] = is_open(made)
-made.end_hung(has(made, task, "one"), [])
-told["a task that is not executed any more"] = is_open(made)
-made.end_hung(has(made, task, "one"), ["key"])
-told["nobody else, it alone"] = is_open(made)
-made, task = crew(0)
+made, task = engine(0, two={})
+told["a fit one, after a death"] = died(made, "one", task)
+told["nobody after two deaths"] = died(made, "two", task)
+made, task = engine(0)
+told["a retirement"] = died(made, "retired", task) and not task.is_alone
+made, task = engine(0)
+told["nobody else, one of two has killed it"] = died(made, "one", task, Task(made.jobs[0], "answer_whole", (), 1))
+made, task = engine(3, two={})
+told["one that is fit, after two hangs"] = hung(made, task) and hung(made, task)
+told["nobody, after hangs of two"] = hung(made, task, "two")
+made, task = engine(0)
 made.jobs[0].turn = 1
-failed(made, task)
-told["a task of an earlier turn that fails"] = is_open(made)
-made.bury(has(made, task, "one"))
-told["a task of an earlier turn whose worker dies"] = is_open(made)
-made, task = crew(1, two=dict(is_fit=True, hung={"key"}))
-failed(made, task)
-task.not_before = 0
-told["nobody else has a thread that does not hang"] = made.next_for(made.workers["one"]) == [task]
-made, task = crew(0)
+told["a task of an earlier turn that fails"] = failed(made, task)
+told["a task of an earlier turn whose worker dies"] = died(made, "one", task)
+made, task = engine(0)
 made.later = [Task(made.jobs[0], "answer", (), 1, turn=-1) for _ in range(5000)] + [task]
-told["a task behind many that ended"] = made.next_for(made.workers["one"]) == [task]
-
-class Some:
-    # What the scheduler has of a task, and of a worker.
-    metrics, last_seen, nthreads = {}, 0, 1
-    def __init__(self, **has): vars(self).update(has)
-
-own, other = Some(key="run-1"), Some(key=("x", 0))
-worker = Some(executing={own: 0, other: 0}, processing=[own, other], status=Some(name="running"))
-told["tasks of others whose keys are no texts"] = see(
-    "run", (), Some(workers={"one": worker}))["one"][3:5] == (["run-1"], 1)
+told["a task behind many that ended"] = made.next_tasks() == [task]
+made, task = engine(0, two={})
+made.take_outcome(task, "two", "done", {"lines": 1})
+for what in "failed", "done", "unfit", "touched", "hung":
+    made.work, made.require_ownership = None, lambda: None
+    made.take_outcome(task, "one", what, 30)
+died(made, "one", task)
+told["what comes of a task that was done"] = (made.jobs[0].came, made.later, made.left) == ({"lines": 1}, [], 0)
+made, task = engine(3, two={})
+made.fresh.append(Task(made.jobs[0], "answer_whole", (), 1))
+died(made, "one", task)
+told["one that may have killed, behind all others"] = [made.next_tasks() == [task] for _ in "12"] == [False, True]
 for what, is_so in told.items():
     print(int(is_so), what)
 """
-HOPED = {"nobody else": 0, "nobody else, a retry": 1, "a fit one": 1, "one that is looked at": 1,
-         "one that was left out before": 1,
-         "one that is paused and was never fit": 0, "one that is found unfit since": 0,
-         "a fit one that does not come to it": 0,
-         "a third one": 0, "a fit one, after a death": 1, "nobody after two deaths": 0,
-         "one that is looked at, after two hangs": 1,
-         "nobody, after hangs of two": 0, "nobody else, one of two has failed": 1,
-         "a task that is not executed any more": 1,
-         "nobody else, it alone": 0, "a task of an earlier turn that fails": 1,
-         "a task of an earlier turn whose worker dies": 1,
-         "nobody else has a thread that does not hang": 1, "a task behind many that ended": 1,
-         "tasks of others whose keys are no texts": 1}
+HOPED = {"nobody else": 0, "nobody else, a retry": 1, "a fit one": 1, "one that was left out before": 1,
+         "one that is paused": 0, "one that is silent": 0, "one that is found unfit since": 0,
+         "a fit one that does not come to it": 0, "a third one": 0, "a fit one, after a death": 1,
+         "nobody after two deaths": 0, "a retirement": 1, "nobody else, one of two has killed it": 1,
+         "one that is fit, after two hangs": 1, "nobody, after hangs of two": 0,
+         "a task of an earlier turn that fails": 1, "a task of an earlier turn whose worker dies": 1,
+         "a task behind many that ended": 1, "what comes of a task that was done": 1,
+         "one that may have killed, behind all others": 1}
 
 
 def test_hopes(count, place):
@@ -766,10 +757,6 @@ def test_hanging(count, place):
     judge(count, place, "a task that hangs", got, out, {"x": "x", "y": "y"})
     is_told = not (place.folder / "hung").exists() or "another one gets it" in got.stderr and "x" in got.stderr
     count.add(is_told, f"a task that hangs is told of: {got}")
-    code = ("from sdtool.distributed import crew\nprint(sorted(told[5] for told in client.run_on_scheduler(crew.see, "
-            "'sdtool-').values()))")
-    busy = place.asked(address, code).strip()
-    count.add(busy == f"[False, {(place.folder / 'hung').exists()}]", f"which workers do what was taken back: {busy}")
     out = place.out()
     both = place.start_run(out, ["convert"], ["x", "y"], ["--block", "100000", *SOON], place.patched("hangs", HANGS))
     got = runs.ended(both)
@@ -859,7 +846,7 @@ def test_waiting(count, place):
     end(other)
     child = place.start_run(place.out(), ["convert"], ["x"], ["--scheduler", address, "--block", "100", "--wait", "60"])
     # its thread is still held
-    wait_until(child, lambda: "no worker is fit of 1" in said_by(child), "a run that has connected")
+    wait_until(child, lambda: "tasks of others" in said_by(child), "a run that has connected")
     os.kill(scheduler.pid, signal.SIGSTOP)
     got = runs.ended(child)
     count.add(got.status == 3 and "the scheduler does not answer" in got.stderr and "x has no answers" in got.stderr,
@@ -897,6 +884,67 @@ def test_paused_with_task(count, place):
     out = place.out()
     got = place.run(out, ["convert"], ["x"], ["--scheduler", address, "--wait", "60"])
     judge(count, place, "a worker that pauses", got, out, {"x": "x"})
+
+
+# A cluster that grows and shrinks. It says how many workers it has, until it has none again.
+ADAPTIVE = """
+import pathlib, sys, time
+from distributed import LocalCluster
+if __name__ == "__main__":
+    cluster = LocalCluster(n_workers=0, threads_per_worker=1, processes=True, dashboard_address=None)
+    cluster.adapt(minimum=0, maximum=3, interval="500ms", wait_count=4, target_duration="1s")
+    pathlib.Path("adaptive").write_text(cluster.scheduler_address)
+    most = 0
+    while not (pathlib.Path("go").exists() and not cluster.scheduler.workers):
+        most = max(most, len(cluster.scheduler.workers))
+        time.sleep(0.1)
+    print(most)
+"""
+
+
+def test_adaptive(count, place):
+    """A cluster without a worker grows to its most for a run, and shrinks to none behind it. Nothing fails by that."""
+    place.write("x", LINE * 1500)
+    place.hold()
+    (place.folder / "adaptive.py").write_text(ADAPTIVE)
+    cluster = place.start([place.python, "adaptive.py"], place.patched("sleeps a while", "time.sleep(0.3)"),
+                          stdout=subprocess.PIPE, stderr=subprocess.DEVNULL)
+    file = place.folder / "adaptive"
+    wait_for(lambda: file.exists() and file.read_text() or cluster.poll() is not None, what="an adaptive cluster")
+    out = place.out()
+    got = place.run(out, ["convert"], ["x"], ["--scheduler", file.read_text(), "--retries", "0"])
+    judge(count, place, "an adaptive cluster", got, out, {"x": "x"})
+    place.go()
+    most = cluster.communicate(timeout=runs.SECONDS)[0]
+    count.add(most.split() == [b"3"] and "left out" not in got.stderr, f"an adaptive cluster has had {most}: {got}")
+
+
+def test_hanging_calls(count, place):
+    """The driver's calls of file systems hang: what hangs is named, and all else is answered."""
+    place.tree({"d/a": LINE * 3, "d/hangs/b": LINE, "d/c/b": LINE * 2, "out1/_sdtool/inputs/x": b""})
+    hangs = place.behind("hangs in ls", HANGS_IN_LS)
+    out = place.out()
+    got = place.run(out, ["convert"], ["d"], ["--wait", "20"], hangs)
+    judge(count, place, "a folder that hangs", got, out, {"a": "d/a", "c/b": "d/c/b"}, ["d/hangs"])
+    count.add("the listing of" in got.stderr, f"a folder that hangs: {got}")
+    out = place.folder / "hangs"
+    got = place.run(out, ["convert"], ["d/a"], ["--wait", "5"], hangs)
+    count.add(got.status == 3 and f"--out: {out}" in got.stderr and "d/a has no answers" in got.stderr,
+              f"an output that hangs: {got}")
+    server = runs.servers(place, place.folder)["sftp"]
+    hung = server._replace(words=[word.replace("internal-sftp", "/bin/sleep 1000") for word in server.words])
+    url = runs.started_server(place, hung)
+    if url is None:
+        print(f"skipped: no sftp (Debian: {server.package})")
+        return
+    home = {"HOME": str(place.folder / "home")}
+    got = place.run(place.out(), ["convert"], [f"{url}/d/a"], ["--wait", "10"], home)
+    count.add(got.status == 3 and f"{url}/d/a has taken more than 10 seconds" in got.stderr,
+              f"a server of SFTP that hangs: {got}")
+    address, _ = place.cluster({})
+    out = place.out()
+    got = place.run(f"{url}/out", ["convert"], ["d/a"], ["--wait", "10", "--scheduler", address], home)
+    count.add(got.status == 3 and "has taken more than 10 seconds" in got.stderr, f"--out on such a server: {got}")
 
 
 def test_restart(count, place):
@@ -1036,8 +1084,9 @@ GROUPS = {
     "others": (test_parts, test_files_of_others, test_stopped_in_tidy, test_two_at_once, test_file_that_comes,
                test_records, test_touched),
     "workers": (test_other_modules, test_failing_worker, test_failed_read, test_retired, test_scheduler_of_dask,
-                test_killed_worker, test_hopes, test_many_parts, test_file_limit, test_deadly_input, test_restart),
-    "lost": (test_hanging, test_long_packed, test_gone_output, test_many),
+                test_killed_worker, test_hopes, test_many_parts, test_file_limit, test_deadly_input, test_restart,
+                test_adaptive),
+    "lost": (test_hanging, test_hanging_calls, test_long_packed, test_gone_output, test_many),
     "waiting": (test_waiting, test_paused, test_paused_with_task),
 }
 

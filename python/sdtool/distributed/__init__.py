@@ -9,12 +9,7 @@ task for each input checks the parts and puts them together. docs/DISTRIBUTED.md
     crew.py       which worker does what, and what follows a failure
     __main__.py   the command line and the report
 """
-import sys
 from typing import List
-
-import cloudpickle
-
-cloudpickle.register_pickle_by_value(sys.modules[__name__])  # so workers run the code of the driver
 
 
 def main(words: List[str]) -> int:

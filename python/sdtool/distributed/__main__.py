@@ -21,9 +21,10 @@ from dask.system import CPU_COUNT
 from distributed import CancelledError, Client
 from distributed.comm import CommClosedError
 
-from .crew import PATIENT_SECONDS, Crew
+from .engine import PATIENT_SECONDS, Engine
 from .inputs import Refused, Taking, opened
-from .work import OURS, RUN, UNFINISHED, Given, Place, Unfit, Work, entries, modules_digest, printable, reason_of
+from .work import (OURS, RUN, UNFINISHED, Bounded, Given, Place, Unfit, Work, entries, modules_digest, printable,
+                   reason_of, within)
 
 CLOSE_SECONDS = 5
 LEAST_THREADS = 4  # without a cluster: a task that hangs keeps its thread, and others go on
@@ -71,9 +72,8 @@ def claim(work: Work) -> None:
     remove_run(place, folder)
 
 
-def take_over(work: Work, crew: Crew) -> None:
-    """Makes this run the owner of the output, and removes what earlier ones have not finished. An input whose answers
-    cannot have their place costs no other one.
+def take_over(work: Work) -> None:
+    """Makes this run the owner of the output, and removes what earlier ones have not finished.
 
     A run has its folder only when it has owned the output. So the folders that are there while this one owns it are its
     own and those of earlier runs, also where several begin at once."""
@@ -91,13 +91,17 @@ def take_over(work: Work, crew: Crew) -> None:
     for folder in folders:
         if RUN.fullmatch(os.path.basename(folder)) and folder != work.mine:
             remove_run(place, folder)
-    for job in crew.jobs:
+
+
+def make_places(work: Work, engine: Engine, bounded: Bounded) -> None:
+    """Makes the folders of the answers. An input whose answers cannot have their place costs no other one."""
+    for job in engine.jobs:
         try:
-            make_folders(work, job.given)
+            bounded(f"the folder of {job.given.answers}", make_folders, work, job.given)
         except Unfit:
             raise
         except Exception as error:  # file systems have many
-            crew.close(job, reason_of(error))
+            engine.close(job, reason_of(error))
 
 
 def make_folders(work: Work, given: Given) -> None:
@@ -144,29 +148,30 @@ def quiet() -> Iterator[None]:
             log.disabled = was_disabled
 
 
-def drive(wanted: argparse.Namespace, work: Work, taking: Taking) -> Crew:
+def drive(wanted: argparse.Namespace, work: Work, taking: Taking) -> Engine:
     """Answers the inputs. Each has then what came of it, or the reason why nothing did."""
-    crew, client = Crew(work, taking.inputs, wanted, say), None
+    engine, client = Engine(work, taking.inputs, wanted, say), None
     where = wanted.scheduler or "the one in this process"
     waiting = threading.Timer(PATIENT_SECONDS, say, [f"the scheduler does not answer: {where}"])
     try:
-        take_over(work, crew)
+        taking.bounded(f"--out: {wanted.out}", take_over, work)
+        make_places(work, engine, taking.bounded)
         waiting.start()
         client = client_of(wanted)
         waiting.cancel()
-        crew.run(client)
+        engine.run(client)
     except (CommClosedError, CancelledError):  # which may name all tasks
-        crew.end(f"OSError: the scheduler is lost: {where}")
+        engine.end(f"OSError: the scheduler is lost: {where}")
     except Exception as error:
-        crew.end(f"{type(error).__name__}: {error}")
+        engine.end(f"{type(error).__name__}: {error}")
     finally:
         waiting.cancel()
         with contextlib.suppress(Exception), quiet():
             if client is not None:
                 client.close(timeout=CLOSE_SECONDS)
         with contextlib.suppress(Exception):
-            remove_run(work.place, work.mine)
-    return crew
+            within(wanted.wait, "the end", remove_run, work.place, work.mine)
+    return engine
 
 
 def positive(word: str) -> float:
@@ -218,24 +223,24 @@ def wanted_of(words: List[str]) -> argparse.Namespace:
 @dataclasses.dataclass
 class Report:
     """What a run says in the end: a line for each thing that was listed."""
-    crew: Optional[Crew]
+    engine: Optional[Engine]
     refused: List[Refused]
 
     def status(self) -> int:
-        came = [job.came for job in self.crew.jobs] if self.crew else []
+        came = [job.came for job in self.engine.jobs] if self.engine else []
         if self.refused or any(not isinstance(each, dict) for each in came):
             return 3
         return int(any(each["errors"] for each in came))
 
     def say_unanswered(self) -> None:
-        for job in self.crew.jobs if self.crew else ():
+        for job in self.engine.jobs if self.engine else ():
             if not isinstance(job.came, dict):
                 say(f"{job.given.url} has no answers: {job.came}")
         for each in self.refused:
             say(f"{each.url} has no answers: it {each.reason}")
 
     def print_counts(self) -> None:
-        for job in self.crew.jobs if self.crew else ():
+        for job in self.engine.jobs if self.engine else ():
             if isinstance(job.came, dict):
                 print(f"{job.came['lines']:15,} lines {job.came['errors']:15,} errors  {job.given.url}")
         sys.stdout.flush()
@@ -243,16 +248,17 @@ class Report:
 
 def answered(wanted: argparse.Namespace) -> Report:
     """Finds the inputs and answers them. Wrong words are a ValueError."""
-    place = Place(*opened(wanted.out))
-    taking = Taking(place, wanted.parts)
-    words = place.words_of_run()
+    bounded = Bounded(wanted.wait)
+    place = Place(*bounded(f"--out: {wanted.out}", opened, wanted.out))
+    taking = Taking(place, wanted.parts, bounded)
+    words = bounded(f"--out: {wanted.out}", place.words_of_run)
     if words not in (None, wanted.words):
         raise ValueError(f"--out: {wanted.out} has answers of 'sdtool {' '.join(words or ())}'; give another folder")
     taking.take_all(wanted.urls)
     if not taking.inputs:
         return Report(None, taking.refused)
-    work = Work(f"sdtool-{uuid.uuid4().hex}", wanted.words, sdtool._library.digest(), modules_digest(), wanted.out,
-                wanted.parts)
+    work = bounded(f"--out: {wanted.out}", Work, f"sdtool-{uuid.uuid4().hex}", wanted.words, sdtool._library.digest(),
+                   modules_digest(), wanted.out, wanted.parts)
     with contextlib.redirect_stdout(sys.stderr):  # for what Dask prints
         return Report(drive(wanted, work, taking), taking.refused)
 

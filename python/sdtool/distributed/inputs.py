@@ -10,7 +10,7 @@ from fsspec.implementations.local import LocalFileSystem
 from fsspec.registry import known_implementations
 
 from . import packed
-from .work import OURS, Given, Place, entries, look, shown_url
+from .work import OURS, Bounded, Given, Place, entries, is_same, look, shown_url
 
 MAGIC = re.compile(r"[*?\[]")
 # The files that runs write beside answers. Their content says whether a run wrote them.
@@ -41,21 +41,21 @@ def words_of(error: BaseException) -> str:
 class Finder:
     """Finds what is below a folder or has a pattern's form. What it cannot look into is found too, with the reason."""
 
-    def __init__(self, fs: Any, above: str) -> None:
-        self.fs, self.above = fs, above  # names are those below this folder
+    def __init__(self, fs: Any, above: str, bounded: Bounded) -> None:
+        self.fs, self.above, self.bounded = fs, above, bounded  # names are those below this folder
 
     def name(self, path: str) -> str:
         return os.path.relpath(path, self.above)
 
     def listed(self, folder: str) -> List[Dict[str, Any]]:
-        told = entries(self.fs, folder)
+        told = self.bounded(f"the listing of {folder}", entries, self.fs, folder)
         return sorted((each for each in told if each["name"].rstrip("/") != folder.rstrip("/")),
                       key=lambda each: str(each["name"]))
 
     def below(self, folder: str) -> Iterator[Found]:
         try:
             listed = self.listed(folder)
-            is_output = folder != self.above and has_run(self.fs, folder)
+            is_output = folder != self.above and self.has_run(folder)
         except Exception as error:  # file systems have many
             yield Found(folder, self.name(folder), f"cannot be listed: {words_of(error)}")
             return
@@ -69,9 +69,12 @@ class Finder:
             else:
                 yield self.file(path)
 
+    def has_run(self, folder: str) -> bool:
+        return bool(self.bounded(f"a look at {folder}", has_run, self.fs, folder))
+
     def file(self, path: str) -> Found:
         try:
-            kind = self.fs.info(path)["type"]
+            kind = self.bounded(f"a look at {path}", self.fs.info, path)["type"]
         except FileNotFoundError:
             return Found(path, self.name(path), "is a link that leads nowhere, or is gone")
         except Exception as error:
@@ -114,8 +117,8 @@ class Finder:
         """What the parts lead to in a folder that a pattern has found and nobody has named. One of runs is not read."""
         name = os.path.basename(folder)
         try:
-            is_output = has_run(self.fs, folder)
-            is_of_run = name == OURS and has_run(self.fs, os.path.dirname(folder))
+            is_output = self.has_run(folder)
+            is_of_run = name == OURS and self.has_run(os.path.dirname(folder))
         except Exception as error:
             yield Found(folder, name, f"cannot be looked at: {words_of(error)}")
             return
@@ -126,11 +129,10 @@ class Finder:
 
     def named(self, path: str) -> Iterator[Found]:
         """A file that a pattern names, if it is there. Where that cannot be seen, it says so."""
-        if is_there(self.fs, path):
-            yield self.match(path)
-            return
         try:
-            self.fs.info(path)
+            if not self.bounded(f"a look at {path}", is_there, self.fs, path):
+                self.bounded(f"a look at {path}", self.fs.info, path)
+            yield self.match(path)
         except (FileNotFoundError, NotADirectoryError):
             return
         except Exception as error:
@@ -144,17 +146,22 @@ def has_run(fs: Any, folder: str) -> bool:
     return Place(fs, folder).words_of_run() is not None
 
 
-def found(fs: Any, path: str) -> Iterator[Found]:
+def found(fs: Any, path: str, kind: Optional[str], bounded: Bounded) -> Iterator[Found]:
     """What a URL names: a file, all of a folder, or what a pattern matches."""
-    if is_folder(fs, path):
-        yield from Finder(fs, path).below(path)
-    elif is_there(fs, path):
-        yield Finder(fs, os.path.dirname(path)).file(path)
+    if kind == "directory":
+        yield from Finder(fs, path, bounded).below(path)
+    elif kind:
+        yield Finder(fs, os.path.dirname(path), bounded).file(path)
     elif MAGIC.search(path):
         at = MAGIC.search(path).start()  # type: ignore[union-attr]
         above, _, pattern = path[:at].rpartition("/")
-        by_path = {one.path: one for one in Finder(fs, above).matches(above, (pattern + path[at:]).split("/"))}
-        yield from by_path.values()  # ** may lead to a file in several ways
+        matches = Finder(fs, above, bounded).matches(above, (pattern + path[at:]).split("/"))
+        yield from {one.path: one for one in matches}.values()  # ** may lead to a file in several ways
+
+
+def kind_at(fs: Any, path: str) -> Optional[str]:
+    """`directory` or another kind of file; None where there is none."""
+    return "directory" if is_folder(fs, path) else "file" if is_there(fs, path) else None
 
 
 def is_there(fs: Any, path: str) -> bool:
@@ -180,8 +187,8 @@ def opened(url: str) -> Any:
 class Taking:
     """Takes inputs for an output, each with a place for its answers that nothing else has."""
 
-    def __init__(self, place: Place, is_parts: bool) -> None:
-        self.place, self.is_parts = place, is_parts
+    def __init__(self, place: Place, is_parts: bool, bounded: Bounded) -> None:
+        self.place, self.is_parts, self.bounded = place, is_parts, bounded
         self.inputs: List[Given] = []
         self.refused: List[Refused] = []
         # the paths of answers, and with / behind them the folders above, by the argument
@@ -189,15 +196,17 @@ class Taking:
 
     def take_all(self, urls: List[str]) -> None:
         for number, url in enumerate(urls):
-            fs, path = opened(url)
-            self.require_apart(fs, path, url)
-            count, is_named = 0, is_there(fs, path) and not is_folder(fs, path)
-            for one in found(fs, path):
+            fs, path = self.bounded(url, opened, url)
+            kind = self.bounded(f"a look at {url}", kind_at, fs, path)
+            if kind == "directory":
+                self.bounded(f"a look at {url}", self.require_apart, fs, path, url)
+            count = 0
+            for one in found(fs, path, kind, self.bounded):
                 count += 1
                 if self.is_record(fs, path, one):
                     continue
                 problem = one.problem or self.take(fs, one, number)
-                if problem and is_named:
+                if problem and kind not in ("directory", None):
                     raise ValueError(f"{shown_url(fs, one.path)} {problem}")
                 if problem:
                     self.refused.append(Refused(shown_url(fs, one.path), problem))
@@ -208,7 +217,7 @@ class Taking:
 
     def require_apart(self, fs: Any, path: str, url: str) -> None:
         """The output is in no input, whatever links lead there."""
-        if is_folder(fs, path) and fs == self.place.fs:
+        if is_same(fs, self.place.fs):
             root, folder = self.place.root, path
             if self.place.is_local:
                 root, folder = os.path.realpath(root), os.path.realpath(path)
@@ -218,7 +227,7 @@ class Taking:
     def is_record(self, fs: Any, folder: str, one: Found) -> bool:
         """Whether a run wrote this beside its answers. What cannot be read is no such thing, and is named."""
         try:
-            return self.is_of_run(fs, folder, one)
+            return bool(self.bounded(f"a look at {one.path}", self.is_of_run, fs, folder, one))
         except Exception:  # file systems have many
             return False
 
@@ -235,8 +244,8 @@ class Taking:
     def take(self, fs: Any, one: Found, number: int) -> str:
         """Takes a file. Gives the reason if it cannot be an input."""
         try:
-            told = look(fs, one.path)
-            beginning = beginning_of(fs, one.path, told["size"])
+            told = self.bounded(f"a look at {one.path}", look, fs, one.path)
+            beginning = self.bounded(f"the beginning of {one.path}", beginning_of, fs, one.path, told["size"])
             kind = packed.kind_of(one.path, beginning)
         except Exception as error:
             return str(error) if type(error) is ValueError else f"cannot be read: {words_of(error)}"
@@ -247,7 +256,7 @@ class Taking:
         folder = answers if self.is_parts else f"{self.place.ours}/inputs/{name}"
         given = Given(fs, one.path, kind, answers, folder, told)
         try:
-            problem = self.problem_of(given, name, number)
+            problem: str = self.bounded(f"a look at {answers}", self.problem_of, given, name, number)
         except Exception as error:
             if type(error) is ValueError:
                 raise

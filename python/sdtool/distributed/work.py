@@ -6,8 +6,12 @@ import functools
 import hashlib
 import itertools
 import json
+import math
 import os
+import pickle
+import queue
 import re
+import threading
 import time
 import uuid
 from typing import Any, Callable, Counter, Dict, Iterator, List, Optional, Tuple
@@ -31,6 +35,9 @@ TIME_KEYS = {"created", "mtime", "modified", "modify", "modificationTime", "last
 # What may change of a local file though its content does not: `created` is the time of the last change of attributes.
 ATTRIBUTES = {"mode", "uid", "gid", "nlink", "created"}
 LONGEST_RECORD = 1 << 30  # bytes
+SHORT_SECONDS = 30  # for what is done beside a task
+MOST_HUNG = 3
+PROCESS = uuid.uuid4().hex
 new_digest = functools.partial(hashlib.blake2b, digest_size=32)
 
 
@@ -44,6 +51,83 @@ class Damaged(Exception):
 
 class Unfit(Exception):
     """The worker cannot work: it has another library, or another output, or cannot write there."""
+
+
+class Overdue(TimeoutError):
+    """A call has not ended in its time."""
+
+
+class Helper:
+    """A thread that makes the calls of another one, which can so stop to wait for them. File systems have connections
+    for each thread, so it stays the same one until a call hangs."""
+    of = threading.local()
+
+    def __init__(self) -> None:
+        self.calls: "queue.SimpleQueue[Any]" = queue.SimpleQueue()
+        threading.Thread(target=self.run, args=(self.calls,), daemon=True).start()
+
+    def __del__(self) -> None:
+        self.calls.put(None)
+
+    @staticmethod
+    def run(calls: "queue.SimpleQueue[Any]") -> None:
+        while True:
+            given = calls.get()
+            if given is None:
+                return
+            call, arguments, came = given
+            try:
+                came.put((call(*arguments), None))
+            except BaseException as error:
+                came.put((None, error))
+            del given, call, arguments, came  # which may be large
+
+
+def within(seconds: float, what: str, call: Callable[..., Any], *arguments: Any, each: float = math.inf,
+           tell: Callable[[float], Any] = abs) -> Any:
+    """What a call gives, or Overdue: file systems may hang for ever. The call then goes on in its thread, and nothing
+    comes of it. Meanwhile, every few seconds, it tells how long the call has taken."""
+    helper = getattr(Helper.of, "thread", None) or Helper()
+    Helper.of.thread = helper
+    came: "queue.SimpleQueue[Tuple[Any, Optional[BaseException]]]" = queue.SimpleQueue()
+    helper.calls.put((call, arguments, came))
+    began = time.monotonic()
+    while True:
+        try:
+            value, error = came.get(timeout=max(0, min(each, began + seconds - time.monotonic())))
+        except queue.Empty:
+            taken = time.monotonic() - began
+            if taken >= seconds:
+                del Helper.of.thread
+                raise Overdue(f"{what} has taken more than {seconds:g} seconds") from None
+            tell(taken)
+            continue
+        if error is not None:
+            raise error
+        return value
+
+
+class Bounded:
+    """The calls that a driver makes of file systems. Behind some that hang it tries no more, so that it comes to its
+    end."""
+
+    def __init__(self, seconds: float) -> None:
+        self.seconds, self.left = seconds, MOST_HUNG
+
+    def __call__(self, what: str, call: Callable[..., Any], *arguments: Any) -> Any:
+        if not self.left:
+            raise Overdue(f"{what} was not tried, since {MOST_HUNG} such calls have hung")
+        try:
+            return within(self.seconds, what, call, *arguments)
+        except Overdue:
+            self.left -= 1
+            raise
+
+
+def is_same(fs: Any, other: Any) -> bool:
+    """Whether two file systems are the same one. Those of other threads are not equal for fsspec."""
+    return type(fs) is type(other) and (fs.storage_args, fs.storage_options) == (other.storage_args,
+                                                                                 other.storage_options)
 
 
 def chunks_of(fs: Any, path: str, start: int, end: int, size: int = READ) -> Iterator[bytes]:
@@ -222,7 +306,8 @@ class Place:
                     return f"would have its answers behind a link, at {folder}"
             if os.path.islink(given.folder):
                 return f"would have its answers behind a link, at {given.folder}"
-        if (given.fs, given.path) == (self.fs, given.answers) or not self.is_there(given.answers):
+        is_itself = is_same(given.fs, self.fs) and given.path == given.answers
+        if is_itself or not self.is_there(given.answers):
             return f"has answers at {given.answers}, which no run wrote" if self.is_there(given.answers) else ""
         manifest = self.manifest_of(given.folder)
         other = f"{self.ours}/inputs/{given.answers[len(self.root) + 1:]}" if is_parts else given.answers
@@ -291,18 +376,16 @@ class Work:
     def __post_init__(self) -> None:
         self.place = Place(*url_to_fs(self.out))
         self.mine = f"{self.place.ours}/{self.run}"
+        self.is_fit = False
         self.manifests: Dict[str, List[Dict[str, Any]]] = {}
 
-    def check(self) -> None:
-        """Raises Unfit if this worker has another library, or another output, or cannot write to it."""
-        from sdtool import _library  # here, as a worker may have none
-        if _library.digest() != self.library:
-            raise Unfit(f"its library is not the driver's, but has the digest {_library.digest()}")
-        if modules_digest() != self.modules:
-            raise Unfit(f"its module is not the driver's, but has the digest {modules_digest()}")
-        self.check_output()
+    @property
+    def fields(self) -> Tuple[Any, ...]:
+        return tuple(getattr(self, field.name) for field in dataclasses.fields(self))
 
-    def check_output(self) -> None:
+    def check(self) -> None:
+        """Raises Unfit if this worker has another library or module, or another output, or cannot write to it."""
+        self.check_library()
         try:
             self.require_ownership()
             probe = f"{self.mine}/{uuid.uuid4().hex}"
@@ -311,7 +394,17 @@ class Work:
         except Unfit:
             raise
         except Exception as error:  # file systems have many
-            raise Unfit(f"it cannot write to {self.out}: {type(error).__name__}: {error}") from None
+            raise self.unwritable(error) from None
+
+    def check_library(self) -> None:
+        from sdtool import _library  # here, as a worker may have none
+        if _library.digest() != self.library:
+            raise Unfit(f"its library is not the driver's, but has the digest {_library.digest()}")
+        if modules_digest() != self.modules:
+            raise Unfit(f"its module is not the driver's, but has the digest {modules_digest()}")
+
+    def unwritable(self, error: Exception) -> Unfit:
+        return Unfit(f"it cannot write to {self.out}: {reason_of(error)}")
 
     def require_ownership(self) -> None:
         record = self.place.content(f"{self.place.ours}/run.json")
@@ -351,23 +444,44 @@ class Work:
             return bool(self.copy(record) == record["digest"])
         return False
 
-    def do(self, tasks: List[Tuple[str, Tuple[Any, ...], Tuple[Any, ...]]]) -> List[Tuple[str, Any]]:
-        """What came of each task, which has a method, the fields of an input and arguments: `done` and a value,
-        `touched`, `again` and numbers of parts, `failed` and why, or `unfit` and why, if it is the worker that cannot
-        go on. Small inputs come together. They are answered side by side, as each waits for a disk or a server."""
-        with concurrent.futures.ThreadPoolExecutor(min(len(tasks), AT_ONCE)) as threads:
-            return list(threads.map(self.outcome, *zip(*tasks)))
-
-    def outcome(self, method: str, fields: Tuple[Any, ...], arguments: Tuple[Any, ...]) -> Tuple[str, Any]:
+    def begin(self, key: str, worker: str) -> Optional[str]:
+        """Marks a task as begun, which needs a library, a module and an output that are the driver's. Gives the worker
+        that has begun it before and is gone, if one has: the scheduler sends a task again when its worker has died."""
+        if not self.is_fit:
+            self.check_library()
+            self.is_fit = True
+        self.require_ownership()
         try:
-            return "done", getattr(self, method)(Given(*fields), *arguments)
+            mark = json.loads(self.place.fs.cat_file(self.mark(key)))
+        except FileNotFoundError:
+            mark = {"process": PROCESS}
+        if mark["process"] != PROCESS:
+            return str(mark["worker"])
+        try:
+            self.place.fs.pipe_file(self.mark(key), json.dumps({"process": PROCESS, "worker": worker}).encode())
+        except Exception as error:  # file systems have many
+            raise self.unwritable(error) from None
+        return None
+
+    def mark(self, key: str) -> str:
+        return f"{self.mine}/{hashlib.blake2b(key.encode(), digest_size=16).hexdigest()}"
+
+    def outcome(self, tell: Callable[[float], Any], each: float, method: str, fields: Tuple[Any, ...],
+                arguments: Tuple[Any, ...], limit: float) -> Tuple[str, Any]:
+        """What came of a task: `done` and a value, `touched`, `again` and numbers of parts, `hung` and its limit,
+        `failed` and why, or `unfit` and why, if it is the worker that cannot go on."""
+        try:
+            return "done", within(limit, method, getattr(self, method), Given(*fields), *arguments, each=each,
+                                  tell=tell)
         except Touched:
             return "touched", None
         except Damaged as error:
             return "again", list(error.args)
+        except Overdue:
+            return "hung", limit
         except Exception as error:  # the file systems' and the decompressors', which are many
             try:
-                self.check()
+                within(SHORT_SECONDS, "a look at the output", self.check)
             except Exception as problem:
                 return "unfit", reason_of(problem)
             return "failed", reason_of(error)
@@ -475,6 +589,37 @@ class Work:
             self.place.move(path, unneeded)
             path = unneeded
         self.place.fs.rm_file(path)
+
+
+WORKS: Dict[str, Work] = {}  # of this process, by their runs
+
+
+def done(worker: Any, fields: Tuple[Any, ...], pickled: bytes, key: str, avoided: Tuple[str, ...],
+         each: float) -> Tuple[str, str, Any]:
+    """What a worker does for one task of Dask: it answers small inputs side by side, as each waits for a disk or a
+    server. Gives its address and the outcomes, or why there are none."""
+    if worker.address in avoided:  # it was stolen by a worker that has failed
+        time.sleep(0.2)
+        return worker.address, "elsewhere", None
+    if fields[0] not in WORKS:
+        WORKS[fields[0]] = within(SHORT_SECONDS, "a connection to the output", Work, *fields)
+    work, calls = WORKS[fields[0]], within(SHORT_SECONDS, "a connection to the inputs", pickle.loads, pickled)
+    before = within(SHORT_SECONDS, f"a look at {work.out}", work.begin, key, worker.address)
+    if before is not None:
+        return worker.address, "begun", before
+
+    def outcome(number: int) -> Tuple[str, Any]:
+        def tell(taken: float) -> None:
+            worker.log_event("sdtool", {"key": key, "number": number, "worker": worker.address, "taken": taken,
+                                        "limit": calls[number][3]})
+        return work.outcome(tell, each, *calls[number])
+
+    try:
+        with concurrent.futures.ThreadPoolExecutor(AT_ONCE) as threads:
+            return worker.address, "outcomes", list(threads.map(outcome, range(len(calls))))
+    finally:
+        with contextlib.suppress(Exception):
+            within(SHORT_SECONDS, "the removal of a mark", work.place.fs.rm_file, work.mark(key))
 
 
 def seen(pieces: Iterator[bytes], see: Callable[[bytes], Any]) -> Iterator[bytes]:

@@ -1,0 +1,603 @@
+"""The tasks of a run in Dask, and what follows a failure.
+
+Dask's scheduler has a window of tasks that are bound to no worker. So it chooses the workers, moves tasks from slow and
+retired ones, and an adaptive cluster sees what waits. Here is what Dask lacks:
+
+- Who failed: each outcome has the worker's address. A task that failed is sent to the others, and a worker whose task
+  another one does is left out for a while.
+- Who died: a worker marks what it begins. Dask sends the tasks of a dead worker to the next one, which sees the mark
+  and leaves such a task to the end, since it may be the cause.
+- A limit of time: the worker gives up a task that hangs. Every few seconds it tells of one that goes on.
+- A worker that is silent or paused: what it has is sent to others too, and the first outcome counts. Dask waits for the
+  time to live of workers, and for a paused one without an end.
+"""
+import collections
+import dataclasses
+import itertools
+import pickle
+import queue
+import time
+from typing import Any, Callable, Deque, Dict, List, Optional, Set, Tuple
+
+from distributed import Client, Future, as_completed
+
+from .work import Given, Overdue, Touched, Work, look, within
+
+LEAST_WINDOW = 100  # tasks, besides two for each thread of the cluster
+SILENT_SECONDS = 15  # of a worker that says nothing, until others get what it has
+PAUSED_SECONDS = 10  # of one that begins nothing
+PATIENT_SECONDS = 10  # without progress, a line says what is waited for
+LOOK_SECONDS, REPORT_SECONDS, REST_SECONDS = 1, 10, 0.05
+LOST_SECONDS = 30  # for the outcome of a task that Dask says is done
+FIRST_SECONDS = 30  # each task has these, besides those for its bytes
+LONG_SECONDS = 45  # of a task that takes so long a line tells, though it may have more
+MOST_LEFT_OUT = 30  # seconds until a worker that was left out is looked at again
+MOST_TURNS = 10  # how often an input is begun anew because its attributes have changed
+BATCH, BATCH_BYTES = 50, 4 << 20  # small inputs in one task
+UNPACKED = 20  # how often as long as its file a compressed input may be, for the time that its task has
+TOPIC = "sdtool"  # of the events by which workers tell of long tasks
+SILENT_SCHEDULER = "the scheduler does not answer"
+RETIRED = ("retired", "closing_gracefully")  # how Dask's events call a worker that was to go
+Say = Callable[[str], None]
+
+
+class Lost(OSError):
+    """The run cannot go on."""
+
+
+@dataclasses.dataclass(eq=False)
+class Task:
+    job: "Job"
+    method: str  # of Work
+    arguments: Tuple[Any, ...]
+    bytes: int
+    index: int = 0
+    turn: int = 0  # of the job
+    failed: Dict[str, str] = dataclasses.field(default_factory=dict)  # the last failure of each worker
+    failures: int = 0
+    failed_at: float = 0  # for the first time
+    deaths: int = 0
+    hangs: int = 0
+    is_alone: bool = False  # it may have killed a worker
+    is_done: bool = False
+    not_before: float = 0
+
+    @property
+    def is_stale(self) -> bool:
+        """Nothing that comes of it counts: it is done, or its input has ended or was begun anew."""
+        return self.is_done or self.job.came is not None or self.turn != self.job.turn
+
+    @property
+    def words(self) -> str:
+        what = {"finish": "the answers", "answer_whole": "all"}.get(self.method, f"block {self.index}")
+        return f"{what} of {self.job.given.url}"
+
+
+@dataclasses.dataclass(eq=False)
+class Job:
+    """An input, and what there is of its answers."""
+    given: Given
+    cuts: List[Tuple[int, Optional[int]]]
+    blocks: Dict[int, Dict[str, Any]] = dataclasses.field(default_factory=dict)
+    answered: List[int] = dataclasses.field(default_factory=list)  # blocks that nobody compares yet
+    compared: int = 0
+    is_long: bool = False  # a line has told that a task takes long
+    turn: int = 0
+    repairs: int = 0
+    came: Any = None  # counts, or the reason why it has no answers
+
+
+@dataclasses.dataclass(eq=False)
+class Sent:
+    """What is one task for Dask: a task, or some small ones."""
+    future: Future
+    tasks: List[Task]
+    is_twin: bool = False  # its tasks were sent once more
+    done_at: float = 0  # when Dask first said so
+
+
+@dataclasses.dataclass(eq=False)
+class Worker:
+    address: str
+    threads: int = 1
+    status: str = "running"
+    last_seen: Any = None  # by the scheduler's clock
+    heard_at: float = 0  # when that has changed, by this one's
+    idle_at: float = 0  # since when it begins nothing
+    is_stuck: bool = False
+    unfit_at: float = 0  # when it was last found not to be fit
+    delay: float = 0  # for which it then gets nothing
+
+    @property
+    def is_fit(self) -> bool:
+        return not self.is_stuck and time.monotonic() >= self.unfit_at + self.delay
+
+    def is_hopeful(self, since: float) -> bool:
+        """It works, or nothing says since then that it does not."""
+        return self.status == "running" and not self.is_stuck and (self.is_fit or self.unfit_at < since)
+
+    def follow(self, told: Dict[str, Any], now: float) -> None:
+        """Takes what the scheduler says of it."""
+        self.threads, self.status = told["nthreads"], told.get("status", "running")
+        if told["last_seen"] != self.last_seen:
+            self.last_seen, self.heard_at = told["last_seen"], now
+        self.idle_at = 0 if self.status == "running" else self.idle_at or now
+        self.is_stuck = self.is_silent(now) or bool(self.idle_at and now - self.idle_at > PAUSED_SECONDS)
+
+    def is_silent(self, now: float) -> bool:
+        return now - self.heard_at > SILENT_SECONDS
+
+
+def task_of_dask() -> Callable[..., Any]:
+    """What Dask calls. It goes to the workers as code, since it is made in a function: so a worker that has no such
+    package, or a broken one, can say which it is."""
+    def do(*arguments: Any) -> Tuple[str, str, Any]:
+        import time
+
+        from distributed import get_worker
+        try:
+            from sdtool.distributed import work
+            return work.done(get_worker(), *arguments)
+        except Exception as error:
+            time.sleep(0.2)  # so that it does not take all tasks before it is left out
+            return get_worker().address, "unfit", f"{type(error).__name__}: {error}"
+    return do
+
+
+class Engine:
+    """The jobs of a run, and the workers of its cluster."""
+
+    client: Client
+    done: as_completed
+
+    def __init__(self, work: Work, inputs: List[Given], wanted: Any, say: Say) -> None:
+        self.work, self.wanted, self.say = work, wanted, say
+        self.jobs = [Job(given, cuts_of(given, wanted.block)) for given in inputs]
+        self.workers: Dict[str, Worker] = {}
+        self.fresh: Deque[Task] = collections.deque()
+        self.later: List[Task] = []
+        self.sent: Dict[str, Sent] = {}
+        self.numbers = itertools.count()
+        self.heard: "queue.SimpleQueue[Tuple[Any, Dict[str, Any]]]" = queue.SimpleQueue()
+        self.do = task_of_dask()
+        self.began = self.progress = self.seen = time.monotonic()
+        self.told: Set[str] = set()
+        self.is_patient = False
+        self.left = len(self.jobs)
+        self.blocks_done = self.bytes_done = 0
+
+    def run(self, client: Client) -> None:
+        """Does all jobs. Each has then what came of it."""
+        self.client = client
+        self.done = as_completed([], loop=client.loop, with_results=True, raise_errors=False)
+        client.subscribe_topic(TOPIC, self.heard.put)
+        for job in self.jobs:
+            self.begin(job)
+        self.began = self.progress = self.seen = reported = time.monotonic()
+        looked = 0.0
+        while self.left:
+            is_idle = not self.take()
+            if time.monotonic() - looked >= LOOK_SECONDS:
+                self.look()
+                self.be_patient()
+                looked = time.monotonic()
+            if time.monotonic() - reported >= REPORT_SECONDS:
+                reported = time.monotonic()
+                self.report()
+            self.fill()
+            if is_idle:
+                time.sleep(REST_SECONDS)
+
+    def end(self, reason: str) -> None:
+        """No job stays without a word."""
+        for job in self.jobs:
+            job.came = reason if job.came is None else job.came
+
+    def report(self) -> None:
+        blocks, failed = sum(len(job.cuts) for job in self.jobs), sum(isinstance(job.came, str) for job in self.jobs)
+        rate = self.bytes_done / 1e6 / (time.monotonic() - self.began)
+        out = sum(not worker.is_fit for worker in self.workers.values())
+        self.say(f"{len(self.jobs) - self.left:,} of {len(self.jobs):,} inputs, {self.blocks_done:,} of {blocks:,} "
+                 f"blocks, {rate:.1f} MB/s, {len(self.workers):,} workers"
+                 + f", {out:,} of them without work" * bool(out) + f", {failed:,} inputs have failed" * bool(failed))
+
+    # Jobs.
+
+    def begin(self, job: Job) -> None:
+        self.blocks_done -= len(job.blocks)
+        job.blocks.clear()
+        job.answered.clear()
+        job.compared = 0
+        if len(job.cuts) == 1:
+            size = job.given.told["size"] or 0
+            self.add(job, "answer_whole", (job.cuts[0][1],), size * UNPACKED if job.given.compression else size)
+            return
+        for index in range(len(job.cuts)):
+            self.answer(job, index)
+
+    def answer(self, job: Job, index: int) -> None:
+        start, end = job.cuts[index]
+        self.add(job, "answer", (index, start, end), (end or 0) - start, index)
+
+    def add(self, job: Job, method: str, arguments: Tuple[Any, ...], size: int, index: int = 0) -> None:
+        self.fresh.append(Task(job, method, arguments, size, index, job.turn))
+
+    def finished(self, task: Task, value: Any) -> None:
+        """Goes on with a job behind a task that is done."""
+        job = task.job
+        if task.method in ("answer", "answer_whole"):
+            self.blocks_done += 1
+            self.bytes_done += task.bytes
+        if task.method == "answer":
+            job.blocks[task.index] = value
+            job.answered.append(task.index)
+        elif task.method == "compare":
+            job.compared += 1
+        else:
+            self.close(job, value)
+            return
+        if len(job.blocks) == len(job.cuts):
+            self.put_together(job)
+
+    def put_together(self, job: Job) -> None:
+        """Goes on with a job whose blocks are all answered. Before, many workers compare parts that stay, and inputs
+        that have no version."""
+        if job.given.is_versioned and not self.work.is_parts or job.compared == len(job.cuts):
+            blocks = [job.blocks[index] for index in range(len(job.cuts))]
+            self.add(job, "finish", (blocks,), sum(block["bytes"] for block in blocks))
+            return
+        for index in sorted(job.answered):
+            start, end = job.cuts[index]
+            self.add(job, "compare", (index, job.blocks[index]), job.blocks[index]["bytes"] + (end or 0) - start, index)
+        job.answered.clear()
+
+    def repair(self, task: Task, damaged: List[int]) -> None:
+        """Answers parts again that are not what their workers wrote."""
+        job = task.job
+        job.repairs += 1
+        if job.repairs > len(job.cuts) * (self.wanted.retries + 1):
+            self.close(job, f"RuntimeError: part {damaged[0] if damaged else 0} is never what its worker wrote")
+        elif task.method == "answer_whole" or not damaged:
+            self.later.append(task)
+        elif not job.given.is_versioned:  # what was compared may be another state of the input than what is read now
+            job.turn += 1
+            self.begin(job)
+        else:
+            for index in damaged:
+                if job.blocks.pop(index, None) is not None:
+                    self.blocks_done -= 1
+                    self.answer(job, index)
+
+    def touch(self, task: Task, address: str) -> None:
+        """Begins an input anew whose attributes have changed, so that all its answers are to one state of the file."""
+        job, given = task.job, task.job.given
+        try:
+            self.waited_for(f"a look at {given.url}", given.require_same)
+            self.fail(task, address, "OSError: it is another file there")  # as this machine sees no change
+            return
+        except Touched:
+            pass
+        except Exception as error:
+            self.close(job, f"{type(error).__name__}: {error}")
+            return
+        job.turn += 1
+        if job.turn > MOST_TURNS:
+            self.close(job, "OSError: its attributes change again and again")
+            return
+        try:
+            told = self.waited_for(f"a look at {given.url}", look, given.fs, given.path)
+        except Exception as error:
+            self.close(job, f"{type(error).__name__}: {error}")
+            return
+        job.given = dataclasses.replace(given, told=told)
+        job.cuts = cuts_of(job.given, self.wanted.block)
+        self.begin(job)
+
+    def close(self, job: Job, came: Any) -> None:
+        if job.came is None:
+            job.came = came
+            self.left -= 1
+
+    def waited_for(self, what: str, call: Callable[..., Any], *arguments: Any) -> Any:
+        """What a file system gives, which may hang."""
+        return within(self.wanted.wait, what, call, *arguments)
+
+    # Failures.
+
+    def fail(self, task: Task, address: str, reason: str, is_enough: bool = False) -> None:
+        """A task is tried again after a failure, or that was enough."""
+        self.note(task, address, reason)
+        task.failures += 1
+        if (is_enough or task.failures > self.wanted.retries) and not self.has_hope(task):
+            self.close(task.job, reason)
+            return
+        task.not_before = time.monotonic() + min(5.0, 0.2 * 2 ** min(task.failures, 5))
+        self.later.append(task)
+
+    def note(self, task: Task, address: str, reason: str) -> None:
+        task.failed[address] = reason
+        task.failed_at = task.failed_at or time.monotonic()
+
+    def has_hope(self, task: Task) -> bool:
+        """Whether one worker alone has failed, and another one may do the task. A run waits for that, but not for
+        longer than for any progress."""
+        is_late = time.monotonic() - task.failed_at > self.wanted.wait
+        return not is_late and len(task.failed) < 2 and any(
+            each.address not in task.failed and each.is_hopeful(task.failed_at) for each in self.workers.values())
+
+    def blame(self, task: Task, address: str) -> None:
+        """Leaves out the workers that failed a task which another one has done."""
+        for failed, reason in task.failed.items():
+            if failed != address and failed in self.workers:
+                self.leave_out(self.workers[failed], reason)
+
+    def leave_out(self, worker: Worker, reason: str) -> None:
+        self.tell(f"worker {worker.address} is left out: {reason}")
+        if worker.is_fit:
+            worker.unfit_at, worker.delay = time.monotonic(), min(MOST_LEFT_OUT, 2 * worker.delay or 1)
+
+    def bury(self, sent: Sent, address: str) -> None:
+        """A worker is gone that had begun some tasks. If it was not retired, they may have killed it."""
+        tasks = [task for task in sent.tasks if not task.is_stale]
+        if self.was_retired(address):
+            self.later += tasks
+            return
+        for task in tasks:
+            task.deaths += len(sent.tasks) == 1
+            task.is_alone = True
+            self.note(task, address, "its worker died")
+            if task.deaths > self.wanted.retries and not self.has_hope(task):
+                self.close(task.job, f"KilledWorker: {task.deaths} workers died that had {task.words}")
+            else:
+                self.later.append(task)
+
+    def was_retired(self, address: str) -> bool:
+        events = self.asked(self.client.get_events, address) or ()
+        return any(isinstance(told, dict) and {told.get("action"), told.get("status")} & {*RETIRED}
+                   for _, told in events)
+
+    def tell(self, line: str) -> None:
+        """Says a thing once."""
+        if line not in self.told:
+            self.told.add(line)
+            self.say(line)
+
+    def require_ownership(self) -> None:
+        """Ends this run if another one has taken its output over."""
+        place = self.work.place
+        record = self.waited_for(f"a look at {place.ours}", place.content, f"{place.ours}/run.json")
+        if isinstance(record, dict) and record.get("run") != self.work.run:
+            raise Lost(f"{self.work.out} is another output here, or another run has taken it over")
+
+    # The cluster.
+
+    def asked(self, call: Callable[..., Any], *arguments: Any) -> Any:
+        """What the scheduler says; None if it takes too long, or knows no such thing."""
+        try:
+            return within(PATIENT_SECONDS / 2, "the scheduler", call, *arguments)
+        except Overdue:
+            silent = time.monotonic() - self.seen
+            if silent > min(PATIENT_SECONDS, self.wanted.wait / 2):
+                self.tell(SILENT_SCHEDULER)
+            if silent > self.wanted.wait:
+                raise Lost(f"the scheduler is lost: it has not answered for {self.wanted.wait:g} seconds") from None
+        except OSError as error:
+            raise Lost(f"the scheduler is lost: {error}") from None
+        except Exception:  # a worker that it was asked for is gone
+            pass
+        return None
+
+    def look(self) -> None:
+        """Asks the scheduler for its workers, and follows what has become of them."""
+        # The first question fails where the connection is lost, and the second one does not.
+        if self.asked(self.client.nthreads) is None:
+            return
+        info = self.asked(lambda: self.client.scheduler_info(n_workers=-1))
+        if info is None:
+            return
+        now = self.seen = time.monotonic()
+        self.told.discard(SILENT_SCHEDULER)
+        self.take()  # what has come meanwhile is not late, however long this driver was kept from looking
+        for address in self.workers.keys() - info["workers"].keys():
+            del self.workers[address]
+        for address, told in info["workers"].items():
+            self.workers.setdefault(address, Worker(address, heard_at=now)).follow(told, now)
+        self.move([worker for worker in self.workers.values() if worker.is_stuck], now)
+        self.drop(now)
+
+    def move(self, stuck: List[Worker], now: float) -> None:
+        """Sends to others what silent and paused workers have."""
+        had = self.asked(self.client.processing, [worker.address for worker in stuck]) if stuck else None
+        for address, keys in (had or {}).items():
+            for sent in [self.sent[key] for key in keys if isinstance(key, str) and key in self.sent]:
+                if not sent.is_twin:
+                    sent.is_twin = True
+                    self.later += [task for task in sent.tasks if not task.is_stale]
+                    if self.workers[address].is_silent(now):
+                        self.tell(f"worker {address} is silent; others get its tasks")
+
+    def drop(self, now: float) -> None:
+        """Takes back what nobody waits for, and sends again what Dask says is done though nothing came of it: a worker
+        that is stopped may have the outcome."""
+        for key, sent in list(self.sent.items()):
+            is_done = sent.future.status != "pending"
+            sent.done_at = (sent.done_at or now) if is_done else 0
+            is_lost = sent.done_at and now - sent.done_at > LOST_SECONDS
+            if is_lost or all(task.is_stale for task in sent.tasks):
+                del self.sent[key]
+                sent.future.release()
+                self.again(sent)
+
+    def be_patient(self) -> None:
+        """Says what is waited for, and ends a run that waits for too long."""
+        waited = time.monotonic() - self.progress
+        is_late = waited > self.wanted.wait
+        if not is_late and (self.is_patient or waited <= min(PATIENT_SECONDS, self.wanted.wait / 2)):
+            return
+        self.is_patient = True
+        is_fit = any(worker.is_fit and worker.status == "running" for worker in self.workers.values())
+        waits = [f"worker {each.address} is {each.status}" for each in self.workers.values()
+                 if each.status != "running"]
+        for address, keys in sorted((self.asked(self.client.processing) or {}).items()):
+            others = sum(key not in self.sent for key in map(str, keys))
+            waits += [f"worker {address} has {others} tasks of others"] * bool(others)
+        what = "".join(f"; {each}" for each in waits[:5])
+        if is_late:
+            reason = "nothing has gone on" if is_fit else "no worker has been fit"
+            raise Lost(f"{reason} for {self.wanted.wait:g} seconds{what}")
+        reason = "nothing goes on" if is_fit else f"no worker is fit of {len(self.workers)}"
+        self.say(f"{reason}, and the run waits{what}")
+
+    def go_on(self) -> None:
+        self.progress, self.is_patient = time.monotonic(), False
+
+    # Tasks.
+
+    def fill(self) -> None:
+        """Keeps the window full. Where no known worker is fit, it waits for one."""
+        if self.workers and not any(worker.is_fit for worker in self.workers.values()):
+            return
+        window = LEAST_WINDOW + 2 * sum(worker.threads for worker in self.workers.values())
+        for _ in range(window - sum(not sent.is_twin for sent in self.sent.values())):
+            tasks = self.next_tasks()
+            if not tasks:
+                break
+            self.submit(tasks)
+
+    def next_tasks(self) -> List[Task]:
+        """What is sent next: a task that comes again, or a new one, or small inputs together. At last those that may
+        have killed a worker, no more of them than there are workers; and one by one when several have died."""
+        now = time.monotonic()
+        self.later = [task for task in self.later if not task.is_stale]
+        for task in self.later:
+            if not task.is_alone and now >= task.not_before:
+                self.later.remove(task)
+                return [task]
+        tasks = self.next_fresh()
+        on_the_way = [task for sent in self.sent.values() if not sent.is_twin for task in sent.tasks
+                      if not task.is_stale]
+        if tasks or not all(task.is_alone for task in [*self.later, *on_the_way]):
+            return tasks
+        for task in sorted(self.later, key=lambda each: each.deaths):
+            if len(on_the_way) < (1 if task.deaths > 1 else len(self.workers)):
+                self.later.remove(task)
+                return [task]
+        return []
+
+    def next_fresh(self) -> List[Task]:
+        batch: List[Task] = []
+        threads = sum(worker.threads for worker in self.workers.values())
+        most, size = min(BATCH, 1 + len(self.fresh) // (4 * threads or 1)), 0
+        while self.fresh and len(batch) < most:
+            task = self.fresh[0]
+            is_small = task.method == "answer_whole" and task.bytes <= BATCH_BYTES
+            if task.is_stale:
+                self.fresh.popleft()
+            elif batch and not (is_small and size + task.bytes <= BATCH_BYTES):
+                break
+            else:
+                batch.append(self.fresh.popleft())
+                size += task.bytes
+                if not is_small:
+                    break
+        return batch
+
+    def submit(self, tasks: List[Task]) -> None:
+        """Sends tasks to Dask. Where some workers are not fit, or have failed, it names the others."""
+        failed = {address for task in tasks for address in task.failed}
+        fit = [address for address, worker in self.workers.items() if worker.is_fit]
+        better = [address for address in fit if address not in failed]
+        workers = (better or fit) if len(better) < len(self.workers) else []
+        name = tasks[0].words if len(tasks) == 1 else f"{len(tasks)} inputs"
+        key = f"{self.work.words[0]}-{self.work.run}-{next(self.numbers)} {name}"
+        calls = [(task.method, task.job.given.fields, task.arguments,
+                  FIRST_SECONDS + task.bytes / self.wanted.slowest) for task in tasks]
+        each = min(PATIENT_SECONDS, self.wanted.wait / 3)
+        future = self.client.submit(
+            self.do, self.work.fields, pickle.dumps(calls), key, tuple(failed) if better else (), each, key=key,
+            pure=False, retries=self.wanted.retries, workers=workers or None, allow_other_workers=bool(workers))
+        self.sent[key] = Sent(future, tasks)
+        self.done.add(future)
+
+    def again(self, sent: Sent) -> None:
+        self.later += [task for task in sent.tasks if not task.is_stale and task not in self.later]
+
+    def take(self) -> bool:
+        """Takes what has come. Gives whether something did."""
+        while not self.heard.empty():
+            self.hear(self.heard.get()[1])
+        came = self.done.next_batch(block=False)
+        for future, result in came:
+            sent = self.sent.pop(future.key, None)
+            if sent is None:
+                continue
+            if future.status == "error":
+                error = future.exception(timeout=PATIENT_SECONDS)
+                worker = getattr(error, "last_worker", None)
+                if worker is not None:
+                    self.bury(sent, worker.address)
+                else:
+                    for task in sent.tasks:
+                        if not task.is_stale:
+                            self.fail(task, "", f"{type(error).__name__}: {error}")
+            elif future.status == "finished" and isinstance(result, tuple):
+                self.take_result(sent, *result)
+            else:  # another client's restart takes all that a worker has
+                self.again(sent)
+        return bool(came)
+
+    def hear(self, told: Dict[str, Any]) -> None:
+        """A worker tells of a task that goes on."""
+        sent = self.sent.get(told["key"])
+        if sent is None or told["number"] >= len(sent.tasks):
+            return
+        self.go_on()
+        task = sent.tasks[told["number"]]
+        if told["taken"] > LONG_SECONDS and not task.job.is_long:
+            task.job.is_long = True
+            self.say(f"worker {told['worker']} has had {task.words} for {told['taken']:.0f} seconds, of "
+                     f"{told['limit']:.0f} that it has")
+
+    def take_result(self, sent: Sent, address: str, what: str, value: Any) -> None:
+        if what == "outcomes":
+            self.go_on()
+            for task, (what, outcome) in zip(sent.tasks, value):
+                self.take_outcome(task, address, what, outcome)
+        elif what == "begun":
+            self.bury(sent, value)
+        else:
+            if what == "unfit":
+                self.unfit(address, value)
+            self.again(sent)
+
+    def unfit(self, address: str, reason: str) -> None:
+        self.require_ownership()
+        if address in self.workers:
+            self.leave_out(self.workers[address], reason)
+
+    def take_outcome(self, task: Task, address: str, what: str, value: Any) -> None:
+        if what == "unfit":
+            self.unfit(address, value)
+        if task.is_stale:
+            return
+        if what == "unfit":
+            self.later.append(task)
+        elif what == "done":
+            task.is_done = True
+            self.blame(task, address)
+            self.finished(task, value)
+        elif what == "touched":
+            self.touch(task, address)
+        elif what == "again":
+            self.repair(task, value)
+        elif what == "hung":
+            self.say(f"worker {address} has had {task.words} for {value:.0f} seconds; another one gets it")
+            task.hangs += 1
+            self.fail(task, address, f"TimeoutError: it took more than {value:.0f} seconds", task.hangs > 1)
+        else:
+            self.fail(task, address, value)
+
+
+def cuts_of(given: Given, block: int) -> List[Tuple[int, Optional[int]]]:
+    cuts = [*range(0, given.size or 1, block), given.size]
+    return list(zip(cuts, cuts[1:]))
