@@ -40,6 +40,7 @@ SLOWEST = "1"
 MANY_BLOCKS = 400  # that last longer than it takes to start some workers on a busy machine, one after the other
 TRIES = 5  # to start a server, which may lose its port to another program
 BLOCK = 1000  # bytes
+SMALL_OBJECTS = 40
 HEX_BYTES, SDDL_BYTES = 120_000, 80_000
 DOMAIN = ["--domain", "S-1-5-21-1-2-3"]
 CHECK = ["check", "--token", "WD,!BA,SY", "--maximum"]
@@ -538,8 +539,39 @@ def test_object_store(count, place):
     store.put("bucket/large", "large", LINE * 100_000)
     got, answers = run("bucket/whole", "s3://bucket/large", "--block", "4000000", words=("convert", "--to", "hex"))
     count.add(answers == {"large": place.wanted(["convert", "--to", "hex"], "large")[0]}, f"S3, large answers: {got}")
+    test_requests(count, place, store)
     got, _ = run("bucket/nothing", "s3://bucket/nothing")
     count.add(got.status == 2 and "no regular file" in got.stderr, f"S3, no such object: {got}")
+
+
+def test_requests(count, place, store):
+    """How often driver and worker ask an object store: for small objects, and for the blocks of a large one."""
+    _, address = place.start_scheduler()
+    place.start_worker(address, {**store.environment, "S3_LOG": str(place.folder / "worker log"), "S3_SECONDS": "0.02"})
+    place.wait_for_workers(address, 1)
+    driver = {**store.environment, "S3_LOG": str(place.folder / "driver log"), "S3_SECONDS": "0.02"}
+    for number in range(SMALL_OBJECTS):
+        place.write(f"small/{number}", LINE * (number + 1))
+    store.ask(f"""for number in map(str, range({SMALL_OBJECTS})):
+    fs.pipe_file("bucket/small/" + number, open("small/" + number, "rb").read())""")
+    store.put("bucket/blocks", "blocks", LINE * 40_000)
+    for given, block, made, most in (("small", 64_000_000, SMALL_OBJECTS, (2, 9)), ("blocks", 260_000, 10, (3, 13))):
+        for log in "worker log", "driver log":
+            (place.folder / log).unlink(missing_ok=True)
+        got = place.run(f"s3://bucket/asked {given}", ["convert"], [f"s3://bucket/{given}"],
+                        ["--scheduler", address, "--block", str(block)], driver)
+        # A worker looks once a second who owns the output, however long its blocks take.
+        asked = [len([line for line in (place.folder / log).read_text().splitlines() if "run.json" not in line]) / made
+                 for log in ("driver log", "worker log")]
+        answers = store.answers(f"bucket/asked {given}")
+        names = {os.path.basename(name): name for name in answers}
+        files = {name: f"small/{name}" if given == "small" else name for name in names}
+        is_right = all(answers[names[name]] == place.wanted(["convert"], file)[0] for name, file in files.items())
+        count.add(got.status == 0 and is_right and len(answers) == (made if given == "small" else 1),
+                  f"S3, {given}: {sorted(answers)} {got}")
+        print(f"S3, {given}: requests of driver and worker for each: {asked}")
+        count.add(all(0 < number <= limit for number, limit in zip(asked, most)),
+                  f"S3, {given}: requests of driver and worker for each: {asked}, not more than {most}")
 
 
 # Workers.

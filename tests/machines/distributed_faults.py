@@ -846,7 +846,7 @@ def test_waiting(count, place):
     end(other)
     child = place.start_run(place.out(), ["convert"], ["x"], ["--scheduler", address, "--block", "100", "--wait", "60"])
     # its thread is still held
-    wait_until(child, lambda: "tasks of others" in said_by(child), "a run that has connected")
+    wait_until(child, lambda: "and the run waits" in said_by(child), "a run that has connected")
     os.kill(scheduler.pid, signal.SIGSTOP)
     got = runs.ended(child)
     count.add(got.status == 3 and "the scheduler does not answer" in got.stderr and "x has no answers" in got.stderr,
@@ -938,9 +938,10 @@ def test_hanging_calls(count, place):
         print(f"skipped: no sftp (Debian: {server.package})")
         return
     home = {"HOME": str(place.folder / "home")}
-    got = place.run(place.out(), ["convert"], [f"{url}/d/a"], ["--wait", "10"], home)
-    count.add(got.status == 3 and f"{url}/d/a has taken more than 10 seconds" in got.stderr,
-              f"a server of SFTP that hangs: {got}")
+    out = place.out()
+    got = place.run(out, ["convert"], [f"{url}/d/a", "d/c/b"], ["--wait", "10"], home)
+    judge(count, place, "a server of SFTP that hangs", got, out, {"b": "d/c/b"}, [f"{url}/d/a"])
+    count.add("has taken more than 10 seconds" in got.stderr, f"a server of SFTP that hangs: {got}")
     address, _ = place.cluster({})
     out = place.out()
     got = place.run(f"{url}/out", ["convert"], ["d/a"], ["--wait", "10", "--scheduler", address], home)

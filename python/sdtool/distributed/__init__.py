@@ -3,10 +3,11 @@
 A task answers a block, which has the lines that begin in a range of bytes, and writes a part and its evidence. Another
 task for each input checks the parts and puts them together. docs/DISTRIBUTED.md describes runs and what they write.
 
+    bounded.py    calls that may hang
     packed.py     compressed files
     inputs.py     finds the inputs, and refuses what is none
     work.py       what a worker does
-    crew.py       which worker does what, and what follows a failure
+    engine.py     what Dask gets to do, and what follows a failure
     __main__.py   the command line and the report
 """
 from typing import List

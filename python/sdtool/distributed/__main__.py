@@ -21,10 +21,10 @@ from dask.system import CPU_COUNT
 from distributed import CancelledError, Client
 from distributed.comm import CommClosedError
 
-from .engine import PATIENT_SECONDS, Engine
+from .bounded import Bounded, within
+from .engine import PATIENT_SECONDS, Engine, Job
 from .inputs import Refused, Taking, opened
-from .work import (OURS, RUN, UNFINISHED, Bounded, Given, Place, Unfit, Work, entries, modules_digest, printable,
-                   reason_of, within)
+from .work import OURS, RUN, UNFINISHED, Given, Place, Unfit, Work, entries, modules_digest, printable, reason_of
 
 CLOSE_SECONDS = 5
 LEAST_THREADS = 4  # without a cluster: a task that hangs keeps its thread, and others go on
@@ -148,7 +148,7 @@ def quiet() -> Iterator[None]:
             log.disabled = was_disabled
 
 
-def drive(wanted: argparse.Namespace, work: Work, taking: Taking) -> Engine:
+def drive(wanted: argparse.Namespace, work: Work, taking: Taking) -> List[Job]:
     """Answers the inputs. Each has then what came of it, or the reason why nothing did."""
     engine, client = Engine(work, taking.inputs, wanted, say), None
     where = wanted.scheduler or "the one in this process"
@@ -171,7 +171,7 @@ def drive(wanted: argparse.Namespace, work: Work, taking: Taking) -> Engine:
                 client.close(timeout=CLOSE_SECONDS)
         with contextlib.suppress(Exception):
             within(wanted.wait, "the end", remove_run, work.place, work.mine)
-    return engine
+    return engine.jobs
 
 
 def positive(word: str) -> float:
@@ -197,7 +197,8 @@ def wanted_of(words: List[str]) -> argparse.Namespace:
     add("--out", metavar="URL", required=True, help="the folder of the answers")
     add("--parts", action="store_true", help="leave the answers to an input in parts, in a folder of its name")
     add("--block", default="64000000", metavar="BYTES", help="of an input in one task (%(default)s)")
-    add("--wait", default="60", metavar="SECONDS", help="for a scheduler, a worker and any progress (%(default)s)")
+    add("--wait", default="60", metavar="SECONDS",
+        help="for a scheduler, a worker, a file system and any progress (%(default)s)")
     add("--retries", default="3", metavar="N", help="of a task that fails (%(default)s)")
     add("--slowest", default="500000", metavar="BYTES",
         help="a second: a task that is slower, behind its first 30 seconds, goes to another worker (%(default)s)")
@@ -223,24 +224,24 @@ def wanted_of(words: List[str]) -> argparse.Namespace:
 @dataclasses.dataclass
 class Report:
     """What a run says in the end: a line for each thing that was listed."""
-    engine: Optional[Engine]
+    jobs: List[Job]
     refused: List[Refused]
 
     def status(self) -> int:
-        came = [job.came for job in self.engine.jobs] if self.engine else []
+        came = [job.came for job in self.jobs]
         if self.refused or any(not isinstance(each, dict) for each in came):
             return 3
         return int(any(each["errors"] for each in came))
 
     def say_unanswered(self) -> None:
-        for job in self.engine.jobs if self.engine else ():
+        for job in self.jobs:
             if not isinstance(job.came, dict):
                 say(f"{job.given.url} has no answers: {job.came}")
         for each in self.refused:
             say(f"{each.url} has no answers: it {each.reason}")
 
     def print_counts(self) -> None:
-        for job in self.engine.jobs if self.engine else ():
+        for job in self.jobs:
             if isinstance(job.came, dict):
                 print(f"{job.came['lines']:15,} lines {job.came['errors']:15,} errors  {job.given.url}")
         sys.stdout.flush()
@@ -254,9 +255,10 @@ def answered(wanted: argparse.Namespace) -> Report:
     words = bounded(f"--out: {wanted.out}", place.words_of_run)
     if words not in (None, wanted.words):
         raise ValueError(f"--out: {wanted.out} has answers of 'sdtool {' '.join(words or ())}'; give another folder")
+    bounded(f"the listing of {wanted.out}", place.list_all)
     taking.take_all(wanted.urls)
     if not taking.inputs:
-        return Report(None, taking.refused)
+        return Report([], taking.refused)
     work = bounded(f"--out: {wanted.out}", Work, f"sdtool-{uuid.uuid4().hex}", wanted.words, sdtool._library.digest(),
                    modules_digest(), wanted.out, wanted.parts)
     with contextlib.redirect_stdout(sys.stderr):  # for what Dask prints

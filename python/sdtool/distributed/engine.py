@@ -21,7 +21,8 @@ from typing import Any, Callable, Deque, Dict, List, Optional, Set, Tuple
 
 from distributed import Client, Future, as_completed
 
-from .work import Given, Overdue, Touched, Work, look, within
+from .bounded import Bounded, Overdue, within
+from .work import Given, Work, told_again
 
 LEAST_WINDOW = 100  # tasks, besides two for each thread of the cluster
 SILENT_SECONDS = 15  # of a worker that says nothing, until others get what it has
@@ -32,7 +33,7 @@ LOST_SECONDS = 30  # for the outcome of a task that Dask says is done
 FIRST_SECONDS = 30  # each task has these, besides those for its bytes
 LONG_SECONDS = 45  # of a task that takes so long a line tells, though it may have more
 MOST_LEFT_OUT = 30  # seconds until a worker that was left out is looked at again
-MOST_TURNS = 10  # how often an input is begun anew because its attributes have changed
+MOST_TURNS = 10  # how often an input is begun anew
 BATCH, BATCH_BYTES = 50, 4 << 20  # small inputs in one task
 UNPACKED = 20  # how often as long as its file a compressed input may be, for the time that its task has
 TOPIC = "sdtool"  # of the events by which workers tell of long tasks
@@ -79,11 +80,9 @@ class Job:
     given: Given
     cuts: List[Tuple[int, Optional[int]]]
     blocks: Dict[int, Dict[str, Any]] = dataclasses.field(default_factory=dict)
-    answered: List[int] = dataclasses.field(default_factory=list)  # blocks that nobody compares yet
     compared: int = 0
     is_long: bool = False  # a line has told that a task takes long
     turn: int = 0
-    repairs: int = 0
     came: Any = None  # counts, or the reason why it has no answers
 
 
@@ -159,7 +158,7 @@ class Engine:
         self.sent: Dict[str, Sent] = {}
         self.numbers = itertools.count()
         self.heard: "queue.SimpleQueue[Tuple[Any, Dict[str, Any]]]" = queue.SimpleQueue()
-        self.do = task_of_dask()
+        self.do, self.bounded = task_of_dask(), Bounded(wanted.wait)
         self.began = self.progress = self.seen = time.monotonic()
         self.told: Set[str] = set()
         self.is_patient = False
@@ -198,98 +197,70 @@ class Engine:
         rate = self.bytes_done / 1e6 / (time.monotonic() - self.began)
         out = sum(not worker.is_fit for worker in self.workers.values())
         self.say(f"{len(self.jobs) - self.left:,} of {len(self.jobs):,} inputs, {self.blocks_done:,} of {blocks:,} "
-                 f"blocks, {rate:.1f} MB/s, {len(self.workers):,} workers"
-                 + f", {out:,} of them without work" * bool(out) + f", {failed:,} inputs have failed" * bool(failed))
+                 f"blocks, {rate:.1f} MB/s, workers: {len(self.workers):,}" + f", not fit: {out:,}" * bool(out)
+                 + f", inputs that failed: {failed:,}" * bool(failed))
 
     # Jobs.
 
     def begin(self, job: Job) -> None:
         self.blocks_done -= len(job.blocks)
         job.blocks.clear()
-        job.answered.clear()
         job.compared = 0
         if len(job.cuts) == 1:
             size = job.given.told["size"] or 0
             self.add(job, "answer_whole", (job.cuts[0][1],), size * UNPACKED if job.given.compression else size)
             return
-        for index in range(len(job.cuts)):
-            self.answer(job, index)
-
-    def answer(self, job: Job, index: int) -> None:
-        start, end = job.cuts[index]
-        self.add(job, "answer", (index, start, end), (end or 0) - start, index)
+        for index, (start, end) in enumerate(job.cuts):
+            self.add(job, "answer", (index, start, end), (end or 0) - start, index)
 
     def add(self, job: Job, method: str, arguments: Tuple[Any, ...], size: int, index: int = 0) -> None:
         self.fresh.append(Task(job, method, arguments, size, index, job.turn))
 
     def finished(self, task: Task, value: Any) -> None:
-        """Goes on with a job behind a task that is done."""
+        """Goes on with a job behind a task that is done. Before the parts are put together, many workers compare those
+        that stay, and inputs that have no version."""
         job = task.job
         if task.method in ("answer", "answer_whole"):
             self.blocks_done += 1
             self.bytes_done += task.bytes
         if task.method == "answer":
             job.blocks[task.index] = value
-            job.answered.append(task.index)
+            is_compared = job.given.is_versioned and not self.work.is_parts
         elif task.method == "compare":
             job.compared += 1
+            is_compared = job.compared == len(job.cuts)
+            if not is_compared:
+                return
         else:
             self.close(job, value)
             return
-        if len(job.blocks) == len(job.cuts):
-            self.put_together(job)
-
-    def put_together(self, job: Job) -> None:
-        """Goes on with a job whose blocks are all answered. Before, many workers compare parts that stay, and inputs
-        that have no version."""
-        if job.given.is_versioned and not self.work.is_parts or job.compared == len(job.cuts):
-            blocks = [job.blocks[index] for index in range(len(job.cuts))]
+        if len(job.blocks) < len(job.cuts):
+            return
+        blocks = [job.blocks[index] for index in range(len(job.cuts))]
+        if is_compared:
             self.add(job, "finish", (blocks,), sum(block["bytes"] for block in blocks))
             return
-        for index in sorted(job.answered):
-            start, end = job.cuts[index]
-            self.add(job, "compare", (index, job.blocks[index]), job.blocks[index]["bytes"] + (end or 0) - start, index)
-        job.answered.clear()
+        for index, ((start, end), block) in enumerate(zip(job.cuts, blocks)):
+            self.add(job, "compare", (index, block), block["bytes"] + (end or 0) - start, index)
 
-    def repair(self, task: Task, damaged: List[int]) -> None:
-        """Answers parts again that are not what their workers wrote."""
+    def begin_again(self, task: Task, address: str, damaged: Optional[str]) -> None:
+        """Begins an input anew, of which a part is not what its worker wrote, or the attributes have changed: so all
+        answers are to one state of the file. Parts that are whole are kept."""
         job = task.job
-        job.repairs += 1
-        if job.repairs > len(job.cuts) * (self.wanted.retries + 1):
-            self.close(job, f"RuntimeError: part {damaged[0] if damaged else 0} is never what its worker wrote")
-        elif task.method == "answer_whole" or not damaged:
-            self.later.append(task)
-        elif not job.given.is_versioned:  # what was compared may be another state of the input than what is read now
-            job.turn += 1
-            self.begin(job)
-        else:
-            for index in damaged:
-                if job.blocks.pop(index, None) is not None:
-                    self.blocks_done -= 1
-                    self.answer(job, index)
-
-    def touch(self, task: Task, address: str) -> None:
-        """Begins an input anew whose attributes have changed, so that all its answers are to one state of the file."""
-        job, given = task.job, task.job.given
         try:
-            self.waited_for(f"a look at {given.url}", given.require_same)
-            self.fail(task, address, "OSError: it is another file there")  # as this machine sees no change
-            return
-        except Touched:
-            pass
+            told = self.bounded(f"a look at {job.given.url}", told_again, job.given)
         except Exception as error:
             self.close(job, f"{type(error).__name__}: {error}")
+            return
+        if damaged is None and told == job.given.told:
+            self.fail(task, address, "OSError: it is another file there")
             return
         job.turn += 1
         if job.turn > MOST_TURNS:
-            self.close(job, "OSError: its attributes change again and again")
+            self.close(job, f"RuntimeError: {damaged} is never what its worker wrote" if damaged else
+                       "OSError: its attributes change again and again")
             return
-        try:
-            told = self.waited_for(f"a look at {given.url}", look, given.fs, given.path)
-        except Exception as error:
-            self.close(job, f"{type(error).__name__}: {error}")
-            return
-        job.given = dataclasses.replace(given, told=told)
+        job.given = dataclasses.replace(job.given, told=told)
         job.cuts = cuts_of(job.given, self.wanted.block)
         self.begin(job)
 
@@ -297,10 +268,6 @@ class Engine:
         if job.came is None:
             job.came = came
             self.left -= 1
-
-    def waited_for(self, what: str, call: Callable[..., Any], *arguments: Any) -> Any:
-        """What a file system gives, which may hang."""
-        return within(self.wanted.wait, what, call, *arguments)
 
     # Failures.
 
@@ -365,7 +332,7 @@ class Engine:
     def require_ownership(self) -> None:
         """Ends this run if another one has taken its output over."""
         place = self.work.place
-        record = self.waited_for(f"a look at {place.ours}", place.content, f"{place.ours}/run.json")
+        record = self.bounded(f"a look at {place.ours}", place.content, f"{place.ours}/run.json")
         if isinstance(record, dict) and record.get("run") != self.work.run:
             raise Lost(f"{self.work.out} is another output here, or another run has taken it over")
 
@@ -423,7 +390,8 @@ class Engine:
             is_done = sent.future.status != "pending"
             sent.done_at = (sent.done_at or now) if is_done else 0
             is_lost = sent.done_at and now - sent.done_at > LOST_SECONDS
-            if is_lost or all(task.is_stale for task in sent.tasks):
+            # A twin stays where it is: a silent worker that seems to be idle would get more.
+            if is_lost or not sent.is_twin and all(task.is_stale for task in sent.tasks):
                 del self.sent[key]
                 sent.future.release()
                 self.again(sent)
@@ -474,10 +442,11 @@ class Engine:
                 self.later.remove(task)
                 return [task]
         tasks = self.next_fresh()
-        on_the_way = [task for sent in self.sent.values() if not sent.is_twin for task in sent.tasks
-                      if not task.is_stale]
-        if tasks or not all(task.is_alone for task in [*self.later, *on_the_way]):
+        if tasks or not self.later:
             return tasks
+        on_the_way = [task for sent in self.sent.values() for task in sent.tasks if not task.is_stale]
+        if not all(task.is_alone for task in [*self.later, *on_the_way]):
+            return []
         for task in sorted(self.later, key=lambda each: each.deaths):
             if len(on_the_way) < (1 if task.deaths > 1 else len(self.workers)):
                 self.later.remove(task)
@@ -509,6 +478,7 @@ class Engine:
         better = [address for address in fit if address not in failed]
         workers = (better or fit) if len(better) < len(self.workers) else []
         name = tasks[0].words if len(tasks) == 1 else f"{len(tasks)} inputs"
+        name = name.encode(errors="backslashreplace").decode()  # names of files need not be UTF-8, and Dask's are
         key = f"{self.work.words[0]}-{self.work.run}-{next(self.numbers)} {name}"
         calls = [(task.method, task.job.given.fields, task.arguments,
                   FIRST_SECONDS + task.bytes / self.wanted.slowest) for task in tasks]
@@ -586,10 +556,8 @@ class Engine:
             task.is_done = True
             self.blame(task, address)
             self.finished(task, value)
-        elif what == "touched":
-            self.touch(task, address)
-        elif what == "again":
-            self.repair(task, value)
+        elif what in ("touched", "damaged"):
+            self.begin_again(task, address, value)
         elif what == "hung":
             self.say(f"worker {address} has had {task.words} for {value:.0f} seconds; another one gets it")
             task.hangs += 1

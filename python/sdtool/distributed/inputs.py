@@ -1,22 +1,27 @@
 """The inputs of a run: every file that the words name, or why it is none."""
+import concurrent.futures
 import dataclasses
 import fnmatch
+import functools
+import itertools
 import os
 import re
-from typing import Any, Dict, Iterator, List, NamedTuple, Optional, Set
+from typing import Any, Dict, Iterator, List, NamedTuple, Optional, Set, Tuple
 
 from fsspec.core import url_to_fs
 from fsspec.implementations.local import LocalFileSystem
 from fsspec.registry import known_implementations
 
 from . import packed
-from .work import OURS, Bounded, Given, Place, entries, is_same, look, shown_url
+from .bounded import Bounded, Overdue
+from .work import AT_ONCE, OURS, STORE_KEYS, Given, Place, entries, is_same, look, plain, printable, shown_url
 
 MAGIC = re.compile(r"[*?\[]")
 # The files that runs write beside answers. Their content says whether a run wrote them.
 OF_RUNS = re.compile(rf"(^|/){OURS}(-part-\d{{6,}})?\.json$")
 BELOW_RUNS = re.compile(rf"{OURS}/(run\.json|sdtool-[0-9a-f]{{32}}/[0-9a-f]{{32}}|"
                         rf"inputs/.*(/{OURS}(-part-\d{{6,}})?\.json|/part-\d{{6,}}))")
+SOME = 1000  # inputs, of which a store is asked together
 OUTPUT = "has the answers of a run, and is no input"
 
 
@@ -25,6 +30,7 @@ class Found(NamedTuple):
     path: str
     name: str
     problem: str = ""
+    told: Optional[Dict[str, Any]] = None  # what a listing of an object store has told
 
 
 @dataclasses.dataclass
@@ -43,6 +49,7 @@ class Finder:
 
     def __init__(self, fs: Any, above: str, bounded: Bounded) -> None:
         self.fs, self.above, self.bounded = fs, above, bounded  # names are those below this folder
+        self.is_store = Place(fs, "").is_store
 
     def name(self, path: str) -> str:
         return os.path.relpath(path, self.above)
@@ -66,6 +73,8 @@ class Finder:
             path = told["name"].rstrip("/")
             if told["type"] == "directory":
                 yield from self.below(path)
+            elif self.is_store and STORE_KEYS & told.keys():
+                yield Found(path, self.name(path), told=plain(told))
             else:
                 yield self.file(path)
 
@@ -196,24 +205,30 @@ class Taking:
 
     def take_all(self, urls: List[str]) -> None:
         for number, url in enumerate(urls):
-            fs, path = self.bounded(url, opened, url)
-            kind = self.bounded(f"a look at {url}", kind_at, fs, path)
-            if kind == "directory":
-                self.bounded(f"a look at {url}", self.require_apart, fs, path, url)
-            count = 0
-            for one in found(fs, path, kind, self.bounded):
-                count += 1
-                if self.is_record(fs, path, one):
-                    continue
-                problem = one.problem or self.take(fs, one, number)
-                if problem and kind not in ("directory", None):
-                    raise ValueError(f"{shown_url(fs, one.path)} {problem}")
-                if problem:
-                    self.refused.append(Refused(shown_url(fs, one.path), problem))
-            if not count:
-                raise ValueError(f"{url}: no regular file has such a name")
+            try:
+                self.take_url(url, number)
+            except Overdue as error:
+                self.refused.append(Refused(printable(url), f"cannot be read: {error}"))
         if not self.inputs and not self.refused:
             raise ValueError(f"{' '.join(urls)}: no regular file but those of runs")
+
+    def take_url(self, url: str, number: int) -> None:
+        fs, path = self.bounded(f"a connection to {url}", opened, url)
+        kind = self.bounded(f"a look at {url}", kind_at, fs, path)
+        if kind == "directory":
+            self.bounded(f"a look at {url}", self.require_apart, fs, path, url)
+        count = 0
+        for one, seen in self.seen(fs, found(fs, path, kind, self.bounded)):
+            count += 1
+            if self.is_record(fs, path, one):
+                continue
+            problem = self.take(fs, one, seen, number)
+            if problem and kind not in ("directory", None):
+                raise ValueError(f"{shown_url(fs, one.path)} {problem}")
+            if problem:
+                self.refused.append(Refused(shown_url(fs, one.path), problem))
+        if not count:
+            raise ValueError(f"{url}: no regular file has such a name")
 
     def require_apart(self, fs: Any, path: str, url: str) -> None:
         """The output is in no input, whatever links lead there."""
@@ -241,20 +256,38 @@ class Taking:
             return bool(BELOW_RUNS.fullmatch(one.name)) and has_run(fs, folder)
         return bool(OF_RUNS.search(one.name)) and bool(Place(fs, folder).read_record(one.path))
 
-    def take(self, fs: Any, one: Found, number: int) -> str:
-        """Takes a file. Gives the reason if it cannot be an input."""
+    def seen(self, fs: Any, ones: Iterator[Found]) -> Iterator[Tuple[Found, Any]]:
+        """What was found, with what it is, or why it cannot be read. A store is asked for some at once."""
+        if not Place(fs, "").is_store:
+            yield from ((one, self.see(fs, one)) for one in ones)
+            return
+        with concurrent.futures.ThreadPoolExecutor(AT_ONCE) as threads:
+            for some in iter(lambda: list(itertools.islice(ones, SOME)), []):
+                yield from zip(some, threads.map(functools.partial(self.see, fs), some))
+
+    def see(self, fs: Any, one: Found) -> Any:
+        """What a file system tells of a file, and the kind of its compression; or why it cannot be an input."""
+        if one.problem:
+            return one.problem
         try:
-            told = self.bounded(f"a look at {one.path}", look, fs, one.path)
+            told = one.told or self.bounded(f"a look at {one.path}", look, fs, one.path)
             beginning = self.bounded(f"the beginning of {one.path}", beginning_of, fs, one.path, told["size"])
-            kind = packed.kind_of(one.path, beginning)
+            if told["size"] == 0 and beginning:
+                return "does not tell its size"
+            return told, packed.kind_of(one.path, beginning)
         except Exception as error:
             return str(error) if type(error) is ValueError else f"cannot be read: {words_of(error)}"
-        if told["size"] == 0 and beginning:
-            return "does not tell its size"
+
+    def take(self, fs: Any, one: Found, seen: Any, number: int) -> str:
+        """Takes a file. Gives the reason if it cannot be an input."""
+        if isinstance(seen, str):
+            return seen
+        told, kind = seen
         name = packed.name_without_suffix(one.name, kind)
         answers = f"{self.place.root}/{name}"
         folder = answers if self.is_parts else f"{self.place.ours}/inputs/{name}"
-        given = Given(fs, one.path, kind, answers, folder, told)
+        is_new = self.place.known is not None and folder not in self.place.known
+        given = Given(fs, one.path, kind, answers, folder, told, is_new)
         try:
             problem: str = self.bounded(f"a look at {answers}", self.problem_of, given, name, number)
         except Exception as error:

@@ -4,39 +4,41 @@ import contextlib
 import dataclasses
 import functools
 import hashlib
+import io
 import itertools
 import json
 import math
 import os
 import pickle
-import queue
 import re
-import threading
 import time
 import uuid
-from typing import Any, Callable, Counter, Dict, Iterator, List, Optional, Tuple
+from typing import Any, Callable, Counter, Dict, Iterator, List, Optional, Set, Tuple
 
 from fsspec.core import url_to_fs
 from fsspec.implementations.local import LocalFileSystem
+from fsspec.implementations.memory import MemoryFileSystem
 from fsspec.spec import AbstractFileSystem
 
+from .bounded import Overdue, within
 from .packed import grouped, unpacked
 
 AT_ONCE = 16  # small inputs
-READ, SEEK = 4 << 20, 1 << 16  # bytes of a request
+READ, SEEK = 4 << 20, 1 << 16  # bytes of a request, and of one behind a block, where its last line ends
+READ_OF_STORE, SMALL = 32 << 20, 4 << 20  # of a request to an object store; of what is sent there in one
 OURS = "_sdtool"  # the folder of runs, and how their other files begin
 PART = re.compile(r"part-(\d{6,})")
 EVIDENCE = re.compile(rf"{OURS}-part-(\d{{6,}})\.json")
 RUN = re.compile(r"sdtool-[0-9a-f]{32}")
 UNFINISHED = re.compile(r"[0-9a-f]{32}")
 # With one of these, each change of a file shows.
-VERSION_KEYS = {"ino", "ETag", "etag", "VersionId", "generation", "md5Hash", "Content-MD5", "Digest"}
+STORE_KEYS = {"ETag", "etag", "VersionId", "generation", "md5Hash", "Content-MD5", "Digest"}
+VERSION_KEYS = {"ino", *STORE_KEYS}
 TIME_KEYS = {"created", "mtime", "modified", "modify", "modificationTime", "last_modified", "LastModified", "updated"}
 # What may change of a local file though its content does not: `created` is the time of the last change of attributes.
 ATTRIBUTES = {"mode", "uid", "gid", "nlink", "created"}
 LONGEST_RECORD = 1 << 30  # bytes
 SHORT_SECONDS = 30  # for what is done beside a task
-MOST_HUNG = 3
 PROCESS = uuid.uuid4().hex
 new_digest = functools.partial(hashlib.blake2b, digest_size=32)
 
@@ -46,82 +48,11 @@ class Touched(Exception):
 
 
 class Damaged(Exception):
-    """Parts, by their numbers, are not what their workers wrote."""
+    """A part is not what its worker wrote."""
 
 
 class Unfit(Exception):
     """The worker cannot work: it has another library, or another output, or cannot write there."""
-
-
-class Overdue(TimeoutError):
-    """A call has not ended in its time."""
-
-
-class Helper:
-    """A thread that makes the calls of another one, which can so stop to wait for them. File systems have connections
-    for each thread, so it stays the same one until a call hangs."""
-    of = threading.local()
-
-    def __init__(self) -> None:
-        self.calls: "queue.SimpleQueue[Any]" = queue.SimpleQueue()
-        threading.Thread(target=self.run, args=(self.calls,), daemon=True).start()
-
-    def __del__(self) -> None:
-        self.calls.put(None)
-
-    @staticmethod
-    def run(calls: "queue.SimpleQueue[Any]") -> None:
-        while True:
-            given = calls.get()
-            if given is None:
-                return
-            call, arguments, came = given
-            try:
-                came.put((call(*arguments), None))
-            except BaseException as error:
-                came.put((None, error))
-            del given, call, arguments, came  # which may be large
-
-
-def within(seconds: float, what: str, call: Callable[..., Any], *arguments: Any, each: float = math.inf,
-           tell: Callable[[float], Any] = abs) -> Any:
-    """What a call gives, or Overdue: file systems may hang for ever. The call then goes on in its thread, and nothing
-    comes of it. Meanwhile, every few seconds, it tells how long the call has taken."""
-    helper = getattr(Helper.of, "thread", None) or Helper()
-    Helper.of.thread = helper
-    came: "queue.SimpleQueue[Tuple[Any, Optional[BaseException]]]" = queue.SimpleQueue()
-    helper.calls.put((call, arguments, came))
-    began = time.monotonic()
-    while True:
-        try:
-            value, error = came.get(timeout=max(0, min(each, began + seconds - time.monotonic())))
-        except queue.Empty:
-            taken = time.monotonic() - began
-            if taken >= seconds:
-                del Helper.of.thread
-                raise Overdue(f"{what} has taken more than {seconds:g} seconds") from None
-            tell(taken)
-            continue
-        if error is not None:
-            raise error
-        return value
-
-
-class Bounded:
-    """The calls that a driver makes of file systems. Behind some that hang it tries no more, so that it comes to its
-    end."""
-
-    def __init__(self, seconds: float) -> None:
-        self.seconds, self.left = seconds, MOST_HUNG
-
-    def __call__(self, what: str, call: Callable[..., Any], *arguments: Any) -> Any:
-        if not self.left:
-            raise Overdue(f"{what} was not tried, since {MOST_HUNG} such calls have hung")
-        try:
-            return within(self.seconds, what, call, *arguments)
-        except Overdue:
-            self.left -= 1
-            raise
 
 
 def is_same(fs: Any, other: Any) -> bool:
@@ -154,8 +85,12 @@ def printable(text: str) -> str:
 def look(fs: Any, path: str) -> Dict[str, Any]:
     """What the file system tells of a file, but for SFTP's `time`, which is that of the last reading."""
     fs.invalidate_cache(path)
-    told = fs.info(path).items()
-    return {key: value if isinstance(value, (int, type(None))) else str(value) for key, value in told if key != "time"}
+    return plain(fs.info(path))
+
+
+def plain(told: Dict[str, Any]) -> Dict[str, Any]:
+    return {key: value if isinstance(value, (int, type(None))) else str(value)
+            for key, value in told.items() if key != "time"}
 
 
 def entries(fs: Any, folder: str) -> List[Dict[str, Any]]:
@@ -197,6 +132,7 @@ class Given:
     answers: str  # the path of the file, or with --parts of the folder
     folder: str  # of the parts, their evidence and the manifest
     told: Dict[str, Any]  # by this it is the same file with the same content
+    is_new: bool = False  # the output has nothing of it
 
     @property
     def fields(self) -> Tuple[Any, ...]:
@@ -218,7 +154,9 @@ class Given:
 
     def require_same(self) -> None:
         told = look(self.fs, self.path)
-        changed = {key for key in {*told, *self.told} if told.get(key) != self.told.get(key)}
+        both = STORE_KEYS & told.keys() & self.told.keys()  # listings of stores tell less than a look at one file
+        keys = {"size", *both} if both else {*told, *self.told}
+        changed = {key for key in keys if told.get(key) != self.told.get(key)}
         if changed and changed <= ATTRIBUTES and isinstance(self.fs, LocalFileSystem):
             raise Touched
         if changed:
@@ -235,20 +173,26 @@ class Given:
             else:
                 yield from iter(functools.partial(raw.read, READ), b"")
 
-    def next_line(self, at: int, end: int) -> int:
-        """The first place from `at` on where a line begins, or else the end."""
-        for chunk in chunks_of(self.fs, self.path, at - 1, end, SEEK) if at else [b"\n"]:
-            if b"\n" in chunk:
-                return at + chunk.index(b"\n")
-            at += len(chunk)
-        return end
-
     def pieces(self, start: int, end: Optional[int]) -> Iterator[bytes]:
-        """The bytes of the lines that begin in a block."""
+        """The bytes of the lines that begin in a block, read from the byte before it to the end of its last line."""
         if end is None or self.size is None:
-            return self.stream()
-        first = self.next_line(start, end)
-        return chunks_of(self.fs, self.path, first, self.next_line(end, self.size) if first < end else first)
+            yield from self.stream()
+            return
+        at, has_begun, behind = max(0, start - 1), start == 0, min(end + SEEK, self.size)
+        size = READ_OF_STORE if Place(self.fs, "").is_store else READ
+        for chunk in itertools.chain(chunks_of(self.fs, self.path, at, behind, size),
+                                     chunks_of(self.fs, self.path, behind, self.size)):
+            if not has_begun:
+                skipped = chunk.find(b"\n") + 1
+                at += skipped or len(chunk)
+                if at >= end:
+                    return
+                has_begun, chunk = bool(skipped), chunk[skipped or len(chunk):]
+            last = chunk.find(b"\n", max(0, end - 1 - at))
+            yield chunk[:last + 1] if last >= 0 else chunk
+            if last >= 0:
+                return
+            at += len(chunk)
 
     def digest(self, start: int, end: Optional[int]) -> str:
         """The digest of the lines that begin in a block."""
@@ -258,6 +202,15 @@ class Given:
         return digest.hexdigest()
 
 
+def told_again(given: Given) -> Dict[str, Any]:
+    """What the file system tells of an input that is still the same file with the same content."""
+    try:
+        given.require_same()
+    except Touched:
+        return look(given.fs, given.path)
+    return given.told
+
+
 class Place:
     """An output: the folder of answers, and what runs write there."""
 
@@ -265,6 +218,19 @@ class Place:
         self.fs, self.root, self.ours = fs, root, f"{root}/{OURS}"
         self.is_local = isinstance(fs, LocalFileSystem)
         self.real: Dict[str, str] = {}
+        self.known: Optional[Set[str]] = None
+
+    def list_all(self) -> None:
+        """Lists an object store once, in place of a request for each input."""
+        if self.is_store:
+            self.fs.invalidate_cache(self.root)
+            self.known = {path[:at] for path in self.fs.find(self.root)
+                          for at, character in enumerate(path + "/") if character == "/"}
+
+    @property
+    def is_store(self) -> bool:
+        """Whether a file is there with all its bytes or not at all, and a new name would be a copy."""
+        return not self.renames and not isinstance(self.fs, MemoryFileSystem)
 
     @property
     def shown(self) -> str:
@@ -272,13 +238,15 @@ class Place:
 
     def is_there(self, path: str) -> bool:
         """Whether anything has this name, a link that leads nowhere too."""
+        if self.known is not None:
+            return path in self.known
         return os.path.lexists(path) if self.is_local else bool(self.fs.exists(path))
 
     def content(self, path: str) -> Any:
         """What a file of JSON says; None where there is no such regular file, or a torn one."""
         try:
-            told = self.fs.info(path)
-            if told["type"] != "file" or told.get("islink") or (told["size"] or 0) > LONGEST_RECORD:
+            told = {} if self.is_store else self.fs.info(path)
+            if told and (told["type"] != "file" or told.get("islink") or (told["size"] or 0) > LONGEST_RECORD):
                 return None
             return json.loads(self.fs.cat_file(path))
         except (FileNotFoundError, NotADirectoryError, ValueError, RecursionError):
@@ -376,46 +344,45 @@ class Work:
     def __post_init__(self) -> None:
         self.place = Place(*url_to_fs(self.out))
         self.mine = f"{self.place.ours}/{self.run}"
-        self.is_fit = False
+        self.is_fit, self.owned_at = False, -math.inf
         self.manifests: Dict[str, List[Dict[str, Any]]] = {}
 
     @property
     def fields(self) -> Tuple[Any, ...]:
         return tuple(getattr(self, field.name) for field in dataclasses.fields(self))
 
-    def check(self) -> None:
-        """Raises Unfit if this worker has another library or module, or another output, or cannot write to it."""
-        self.check_library()
-        try:
-            self.require_ownership()
-            probe = f"{self.mine}/{uuid.uuid4().hex}"
-            self.place.fs.pipe_file(probe, b"{}")
-            self.place.fs.rm_file(probe)
-        except Unfit:
-            raise
-        except Exception as error:  # file systems have many
-            raise self.unwritable(error) from None
-
-    def check_library(self) -> None:
-        from sdtool import _library  # here, as a worker may have none
-        if _library.digest() != self.library:
-            raise Unfit(f"its library is not the driver's, but has the digest {_library.digest()}")
-        if modules_digest() != self.modules:
-            raise Unfit(f"its module is not the driver's, but has the digest {modules_digest()}")
-
-    def unwritable(self, error: Exception) -> Unfit:
-        return Unfit(f"it cannot write to {self.out}: {reason_of(error)}")
-
     def require_ownership(self) -> None:
+        """Raises Unfit if another run has taken the output over. It looks once a second in an object store."""
+        if self.place.is_store and 0 <= time.monotonic() - self.owned_at < 1:
+            return
         record = self.place.content(f"{self.place.ours}/run.json")
         if record is None:
             raise Unfit(f"{self.out} is gone, or is another output here")
         if not isinstance(record, dict) or record.get("run") != self.run:
             raise Unfit(f"{self.out} is another output here, or another run has taken it over")
+        self.owned_at = time.monotonic()
 
     @contextlib.contextmanager
-    def written(self, path: str) -> Iterator[Any]:
-        """A file that appears when it is whole. Copies of a task write files of their own, and one stays."""
+    def written(self, path: str, is_small: bool = False) -> Iterator[Any]:
+        """A file that appears when it is whole. Copies of a task write files of their own, and one stays. A small one
+        takes one request of an object store."""
+        if self.place.is_store and is_small:
+            held = io.BytesIO()
+            yield held
+            self.require_ownership()
+            self.place.fs.pipe_file(path, held.getvalue())
+            return
+        if self.place.is_store:
+            file = self.place.fs.open(path, "wb", autocommit=False)
+            try:
+                yield file
+                file.close()
+                self.require_ownership()
+                file.commit()
+            except BaseException:
+                file.discard()
+                raise
+            return
         unfinished = f"{self.mine}/{uuid.uuid4().hex}"
         try:
             with self.place.fs.open(unfinished, "wb") as file:
@@ -427,7 +394,7 @@ class Work:
                 self.place.fs.rm_file(unfinished)
 
     def write_record(self, path: str, record: Dict[str, Any]) -> Dict[str, Any]:
-        with self.written(path) as file:
+        with self.written(path, is_small=True) as file:
             file.write(json.dumps({**record, "seal": seal_of(record)}).encode())
         return record
 
@@ -447,20 +414,21 @@ class Work:
     def begin(self, key: str, worker: str) -> Optional[str]:
         """Marks a task as begun, which needs a library, a module and an output that are the driver's. Gives the worker
         that has begun it before and is gone, if one has: the scheduler sends a task again when its worker has died."""
-        if not self.is_fit:
-            self.check_library()
-            self.is_fit = True
+        from sdtool import _library  # here, as a worker may have none
+        if not self.is_fit and _library.digest() != self.library:
+            raise Unfit(f"its library is not the driver's, but has the digest {_library.digest()}")
+        if not self.is_fit and modules_digest() != self.modules:
+            raise Unfit(f"its module is not the driver's, but has the digest {modules_digest()}")
+        self.is_fit = True
         self.require_ownership()
         try:
-            mark = json.loads(self.place.fs.cat_file(self.mark(key)))
-        except FileNotFoundError:
-            mark = {"process": PROCESS}
-        if mark["process"] != PROCESS:
-            return str(mark["worker"])
-        try:
+            with contextlib.suppress(FileNotFoundError):
+                mark = json.loads(self.place.fs.cat_file(self.mark(key)))
+                if mark["process"] != PROCESS:
+                    return str(mark["worker"])
             self.place.fs.pipe_file(self.mark(key), json.dumps({"process": PROCESS, "worker": worker}).encode())
         except Exception as error:  # file systems have many
-            raise self.unwritable(error) from None
+            raise Unfit(f"it cannot write to {self.out}: {reason_of(error)}") from None
         return None
 
     def mark(self, key: str) -> str:
@@ -468,7 +436,7 @@ class Work:
 
     def outcome(self, tell: Callable[[float], Any], each: float, method: str, fields: Tuple[Any, ...],
                 arguments: Tuple[Any, ...], limit: float) -> Tuple[str, Any]:
-        """What came of a task: `done` and a value, `touched`, `again` and numbers of parts, `hung` and its limit,
+        """What came of a task: `done` and a value, `touched`, `damaged` and a part, `hung` and its limit,
         `failed` and why, or `unfit` and why, if it is the worker that cannot go on."""
         try:
             return "done", within(limit, method, getattr(self, method), Given(*fields), *arguments, each=each,
@@ -476,40 +444,52 @@ class Work:
         except Touched:
             return "touched", None
         except Damaged as error:
-            return "again", list(error.args)
+            return "damaged", str(error)
         except Overdue:
             return "hung", limit
         except Exception as error:  # the file systems' and the decompressors', which are many
             try:
-                within(SHORT_SECONDS, "a look at the output", self.check)
+                self.is_fit = False
+                within(SHORT_SECONDS, "a look at the output", self.begin, uuid.uuid4().hex, "")
             except Exception as problem:
                 return "unfit", reason_of(problem)
             return "failed", reason_of(error)
 
+    def basis(self, given: Given, start: int, end: Optional[int]) -> Dict[str, Any]:
+        """What answers to a block depend on."""
+        return {"library": self.library, "modules": self.modules, "words": self.words, "url": given.url, "start": start,
+                "end": end, "input": given.told if VERSION_KEYS & given.told.keys() else self.run}
+
+    def is_kept(self, record: Dict[str, Any], basis: Dict[str, Any], *paths: str) -> bool:
+        """Whether a run made these answers, and nothing has changed."""
+        return {**record, **basis} == record and record.get("path") in paths and self.is_whole(record)
+
     def answer(self, given: Given, index: int, start: int, end: Optional[int]) -> Dict[str, Any]:
         """Answers a block, unless a run did so and nothing has changed. Gives its record."""
         path, evidence = f"{given.folder}/part-{index:06}", f"{given.folder}/{OURS}-part-{index:06}.json"
-        basis = {"library": self.library, "modules": self.modules, "words": self.words, "url": given.url,
-                 "start": start,
-                 "end": end, "input": given.told if VERSION_KEYS & given.told.keys() else self.run}
-        for record in [self.place.read_record(evidence), *self.manifest(given)[index:index + 1]]:
-            is_ours = {**record, **basis} == record and record.get("path") in (path, given.answers)
-            if is_ours and self.is_whole(record):
+        basis = self.basis(given, start, end)
+        for record in [] if given.is_new else [self.place.read_record(evidence),
+                                               *self.manifest(given)[index:index + 1]]:
+            if self.is_kept(record, basis, path, given.answers):
                 return record
-        given.require_same()
+        with self.written(path, is_small=start < (end or 0) < start + SMALL) as file:
+            told = self.answer_to(given, start, end, file)
+        return self.write_record(evidence, {**basis, "path": path, "at": 0, **told})
+
+    def answer_to(self, given: Given, start: int, end: Optional[int], file: Any) -> Dict[str, Any]:
+        """Writes the answers to a block. Gives counts and digests."""
         from sdtool import _runs
+        if isinstance(given.fs, LocalFileSystem):  # elsewhere a look takes as long as a small input
+            given.require_same()
         total: Counter[str] = Counter()
         digest, read = new_digest(), new_digest()
         pieces = given.pieces(start, end) if given.is_versioned else seen(given.pieces(start, end), read.update)
-        with self.written(path) as file:
-            for answers in _runs.checked(self.words, pieces, total):
-                digest.update(answers)
-                file.write(answers)
-            given.require_same()
-        record = {**basis, "path": path, "at": 0, **total, "digest": digest.hexdigest()}
-        if not given.is_versioned:
-            record["read"] = read.hexdigest()
-        return self.write_record(evidence, record)
+        for answers in _runs.checked(self.words, pieces, total):
+            digest.update(answers)
+            file.write(answers)
+        given.require_same()
+        told: Dict[str, Any] = {**total, "digest": digest.hexdigest()}
+        return told if given.is_versioned else {**told, "read": read.hexdigest()}
 
     def manifest(self, given: Given) -> List[Dict[str, Any]]:
         """The records of all blocks, read once."""
@@ -521,40 +501,54 @@ class Work:
         """Compares a part with its digest, and a block of an input that has no version with what was read of it. That
         is done when all blocks were read, so that all answers are to one state of the file."""
         if not self.is_whole(record):
-            raise Damaged(index)
+            raise Damaged(f"part {index}")
         if not given.is_versioned and given.digest(record["start"], record["end"]) != record.get("read"):
             raise given.changed()
 
     def answer_whole(self, given: Given, end: Optional[int]) -> Dict[str, int]:
-        """Answers an input of one block."""
-        record = self.answer(given, 0, 0, end)
-        self.manifests.pop(given.folder, None)
-        if self.is_parts or not given.is_versioned:
+        """Answers an input of one block, which needs no part."""
+        if self.is_parts:
+            record = self.answer(given, 0, 0, end)
             self.compare(given, 0, record)
-        return self.finish(given, [record])
+            return self.finish(given, [record])
+        basis, blocks = self.basis(given, 0, end), [] if given.is_new else self.manifest(given)
+        self.manifests.pop(given.folder, None)
+        if len(blocks) == 1 and self.is_kept(blocks[0], basis, given.answers):
+            return self.finish(given, blocks)
+        with self.written(given.answers, is_small=(given.size or SMALL) < SMALL) as file:
+            block = {**basis, "path": given.answers, "at": 0, **self.answer_to(given, 0, end, file)}
+            if not given.is_versioned and given.digest(0, end) != block["read"]:
+                raise given.changed()
+            self.place_answers(given, [block], file)
+        if not given.is_new:
+            self.tidy(given, 1)
+        return total_of([block])
 
     def finish(self, given: Given, blocks: List[Dict[str, Any]]) -> Dict[str, int]:
-        """Puts the answers to an input together. The manifest is there before they appear."""
+        """Puts the answers to an input together."""
         ends = itertools.accumulate(block["bytes"] for block in blocks)
-        total = {key: sum(block[key] for block in blocks) for key in ("lines", "errors", "bytes")}
-        manifest, record = f"{given.folder}/{OURS}.json", {**total, "url": given.url, "blocks": blocks}
+        total = total_of(blocks)
         placed = [{**block, "path": given.answers, "at": end - block["bytes"]} for block, end in zip(blocks, ends)]
         if self.is_parts:
-            self.write_record(manifest, record)
+            self.write_record(f"{given.folder}/{OURS}.json", {**total, "url": given.url, "blocks": blocks})
         elif blocks != placed or self.place.fs.info(given.answers)["size"] != total["bytes"]:
-            problem = self.place.problem_of(given, self.is_parts)  # which may have come since the run began
-            if problem:
-                raise OSError(f"it {problem}")
             with self.written(given.answers) as file:
-                for block in blocks:
+                for index, block in enumerate(blocks):
                     if self.copy_or_none(block, file.write) != block["digest"]:
-                        raise Damaged(*(index for index, each in enumerate(blocks) if not self.is_whole(each)))
-                file.flush()
-                if self.place.is_local:
-                    os.fsync(file.fileno())
-                self.write_record(manifest, {**record, "blocks": placed})
+                        raise Damaged(f"part {index}")
+                self.place_answers(given, placed, file)
         self.tidy(given, len(blocks))
         return total
+
+    def place_answers(self, given: Given, blocks: List[Dict[str, Any]], file: Any) -> None:
+        """Makes answers ready to appear. The manifest is there before."""
+        problem = self.place.problem_of(given, self.is_parts)  # which may have come since the run began
+        if problem:
+            raise OSError(f"it {problem}")
+        if self.place.is_local:
+            file.flush()
+            os.fsync(file.fileno())
+        self.write_record(f"{given.folder}/{OURS}.json", {**total_of(blocks), "url": given.url, "blocks": blocks})
 
     def copy_or_none(self, record: Dict[str, Any], write: Callable[[bytes], Any]) -> Optional[str]:
         """The digest of a part that is copied; None if it cannot be read to its end."""
@@ -620,6 +614,10 @@ def done(worker: Any, fields: Tuple[Any, ...], pickled: bytes, key: str, avoided
     finally:
         with contextlib.suppress(Exception):
             within(SHORT_SECONDS, "the removal of a mark", work.place.fs.rm_file, work.mark(key))
+
+
+def total_of(blocks: List[Dict[str, Any]]) -> Dict[str, int]:
+    return {key: sum(block[key] for block in blocks) for key in ("lines", "errors", "bytes")}
 
 
 def seen(pieces: Iterator[bytes], see: Callable[[bytes], Any]) -> Iterator[bytes]:
