@@ -1,4 +1,5 @@
 pub mod FieldLaws
+pub mod HeadRows
 mod LineRows
 pub mod MeansLimits
 mod NameTexts

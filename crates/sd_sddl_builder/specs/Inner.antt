@@ -1,2 +1,3 @@
--- What private contracts cite. No definition rests on this file.
+-- What private contracts cite. No definition rests on these files.
 pub mod AceEnds
+pub mod Heads

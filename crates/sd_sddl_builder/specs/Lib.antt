@@ -4,4 +4,5 @@ pub mod Inner
 pub mod Line
 pub mod Meaning
 pub mod NamedSid
+pub mod Shape
 pub mod WholeAce

@@ -2,7 +2,6 @@ mod LargeRows
 mod Rows
 pub mod Cuttings
 pub mod Faults
-pub mod Shapes
+pub mod Reaches
 pub mod Steps
 pub mod Trims
-pub mod Walks

@@ -1,4 +1,3 @@
 -- What private contracts and invariants cite. No definition rests on these files.
-pub mod Counted
 pub mod Cutting
 pub mod Faults

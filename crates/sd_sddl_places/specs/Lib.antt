@@ -1,4 +1,4 @@
 pub mod Fields
 pub mod Inner
 pub mod Places
-pub mod Shape
+pub mod Reach

@@ -6,6 +6,6 @@ mod cutting;
 mod fields;
 mod finding;
 mod parts;
-mod shape;
+mod reach;
 
 pub use finding::place_of_sddl_fault;

@@ -1,4 +1,5 @@
 use Rattle.std.proofs.Common.{ap, refl, arith, ◌∙◌}
+use Rattle.sd_sddl_builder.specs.declared.shape.LineShape.{LineShape}
 use Rattle.sd_sddl_reader.specs.declared.reader.SddlReader.{SddlReader}
 use Rattle.sd_sddl_reader.proofs.WholeParts.{head-steps}
 use Rattle.sd_sddl_reader.proofs.reader.SddlReader.begin_part.Goals as goal
@@ -14,7 +15,7 @@ returns c =
           c.requires.here c.requires.ready.calm.held c.requires.letter
           (record { read = ended.read; cleared = ended.cleared; domain = ended.domain; same = ended.same })
           (record {
-            state = noted.state;
+            shape = noted.shape;
             twice = noted.twice;
             seen = noted.seen;
             fault = noted.fault;
@@ -24,6 +25,5 @@ returns c =
         held = rw cleared (record { clean = refl; fits = omega arith });
         gap = λ _. rw cleared refl;
       };
-      pending =
-          ap (λ (r : SddlReader). r.pending) noted.same ∙ ap (λ (r : SddlReader). r.pending) ended.same;
+      letter = ap (λ (m : LineShape). m.letter) noted.shape;
     }
