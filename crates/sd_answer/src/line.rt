@@ -4,7 +4,7 @@ ghost use Rattle.std.specs.Prelude.{◌≡◌, ◌≤◌, ◌<◌, ◌≢◌, �
 ghost use Rattle.sd_answer.specs.Answer.{line_limit, text_means};
 ghost use Rattle.sd_answer.specs.Inner.Reading.{CanRead, HasRead, form_of};
 
-use crate::fault::LineFault;
+use sd_faults::LineFault;
 use crate::job::{Form, Job};
 use sd_buffer::{HexReader, SdBuf, TextBuf};
 use sd_sddl_reader::SddlReader;

@@ -14,7 +14,7 @@ use Rattle.sd_explain.specs.Explain.{control_line, explain, rm_line, sid_line, s
 use Rattle.sd_sddl_builder.specs.Meaning.{body_reads, means}
 use Rattle.sd_sddl_builder.specs.declared.fault.SddlFault.TheVariants as sddl_fault
 use Rattle.sd_sddl_printer.specs.Printed.{dacl_text, group_text, owner_text, sacl_text, sddl, trustee_text}
-use Rattle.sd_answer.specs.declared.fault.LineFault.TheVariants as line
+use Rattle.sd_faults.specs.declared.line_fault.LineFault.TheVariants as line
 use Rattle.sd_call.specs.Arguments.{descriptor_in, optional_sid_in}
 use Rattle.sd_call.specs.declared.argument.Argument.TheVariants as which
 use Rattle.sd_call.specs.declared.outcome.CallFault.TheVariants as call

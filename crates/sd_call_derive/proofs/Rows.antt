@@ -16,7 +16,7 @@ use Rattle.sd_view.specs.Reading.{acl_part_fault, acl_shown, fault, header_fault
 use Rattle.sd_view.specs.Reading.{parts_fault, reading, sid_fault, sid_shown}
 use Rattle.sd_view.specs.declared.acl_part.AclPart.TheVariants as acl
 use Rattle.sd_view.specs.declared.fault.SdFault.TheVariants as sd
-use Rattle.sd_answer.specs.declared.fault.LineFault.TheVariants as line
+use Rattle.sd_faults.specs.declared.line_fault.LineFault.TheVariants as line
 use Rattle.sd_call.specs.Arguments.{descriptor_in}
 use Rattle.sd_call.specs.declared.argument.Argument.TheVariants as which
 use Rattle.sd_call.specs.declared.outcome.CallFault.TheVariants as call

@@ -3,7 +3,7 @@ use Rattle.std.specs.Prelude.{ℕ, List, if◌then◌else◌, nat_eq, length, Op
 use Rattle.sd_text.specs.Chains.{◌>>=◌, fault_as, unless}
 use Rattle.sd_view.specs.Descriptor.{Descriptor}
 use Rattle.sd_view.specs.Layout.{layout}
-use Rattle.sd_answer.specs.declared.fault.LineFault.TheVariants as line
+use Rattle.sd_faults.specs.declared.line_fault.LineFault.TheVariants as line
 use Rattle.sd_inherit.specs.Derived.{derive_fault, derived}
 use Rattle.sd_inherit.specs.declared.plan.Plan.{Plan}
 use Rattle.sd_inherit.specs.declared.plan.Target.{Target}

@@ -1,7 +1,7 @@
 -- Where the ACEs of the descriptor of a new object come from, as the library tells it.
 use Rattle.std.specs.Prelude.{◌≡◌, ℕ, List, length, take, MatchResult, Result, Ok, Err}
 use Rattle.sd_parts.specs.declared.part.Which.TheVariants as which
-use Rattle.sd_answer.specs.declared.fault.LineFault.TheVariants as line
+use Rattle.sd_faults.specs.declared.line_fault.LineFault.TheVariants as line
 use Rattle.sd_inherit.specs.Origins.{new_origins, origins_answer}
 use Rattle.sd_inherit.specs.declared.origin.AceCounts.{AceCounts}
 use Rattle.sd_inherit.specs.declared.origin.AceOrigin.{AceOrigin}

@@ -4,7 +4,7 @@ ghost use Rattle.std.specs.Prelude.{◌≡◌, MatchResult};
 ghost use Rattle.sd_call.specs.Outcomes.{Answers, AnswersWithin, Refused};
 ghost use Rattle.sd_call_derive.specs.Derivations.{creator_in, derivation, input_in, new_layout, plan_in, target_in};
 
-use sd_answer::LineFault;
+use sd_faults::LineFault;
 use sd_buffer::SdBuf;
 use sd_call::{
     Argument, CallFault, Outcome, descriptor_in, failed, give, mapping_in, no_memory, sid_in,

@@ -7,7 +7,7 @@ ghost use Rattle.sd_call_derive.specs.OriginsTold.{with_counts};
 ghost use Rattle.sd_call_derive.specs.declared.origins.TheConstants.{MOST_DERIVED_ACES};
 
 use crate::derivations::{DerivationInput, input_in};
-use sd_answer::LineFault;
+use sd_faults::LineFault;
 use sd_call::{CallFault, Outcome, done, failed, too_small};
 use sd_inherit::{AceCounts, AceOrigin, OriginFault, origins};
 

@@ -13,7 +13,7 @@ use Rattle.sd_acl_view.specs.Bytes.{u16_at, u32_at}
 use Rattle.sd_view.specs.Reading.{acl_part_fault, acl_shown, fault, header_fault, overlap_fault, overlaps_fault}
 use Rattle.sd_view.specs.Reading.{parts_fault, reading, sid_fault, sid_shown}
 use Rattle.sd_view.specs.declared.fault.SdFault.TheVariants as sd
-use Rattle.sd_answer.specs.declared.fault.LineFault.TheVariants as line
+use Rattle.sd_faults.specs.declared.line_fault.LineFault.TheVariants as line
 use Rattle.sd_call.specs.Arguments.{descriptor_in}
 use Rattle.sd_call.specs.declared.outcome.CallFault.TheVariants as call
 use Rattle.sd_call_parts.specs.Contents.{contents_in, refused}

@@ -11,7 +11,7 @@ use Rattle.sd_acl_view.specs.Bytes.{u16_at}
 use Rattle.sd_view.specs.Reading.{fault_in}
 use Rattle.sd_view.specs.declared.fault.SdFault.{SdFault}
 use Rattle.sd_view.specs.declared.fault.SdFault.TheVariants as faults
-use Rattle.sd_answer.specs.declared.fault.LineFault.TheVariants as line
+use Rattle.sd_faults.specs.declared.line_fault.LineFault.TheVariants as line
 use Rattle.sd_call.specs.Outcomes.{number}
 use Rattle.sd_call.specs.declared.outcome.CallFault.TheVariants.{Line}
 use Rattle.sd_call_parts.specs.Places.{nowhere}

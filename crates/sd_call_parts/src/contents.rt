@@ -5,7 +5,7 @@ ghost use Rattle.sd_call_parts.specs.Contents.{ace_count, acl_place, acl_state, 
 ghost use Rattle.sd_call_parts.specs.Contents.{refused};
 
 use crate::place::{Place, nowhere};
-use sd_answer::LineFault;
+use sd_faults::LineFault;
 use sd_call::{CallFault, failed};
 use sd_parts::{CAPACITY, Parts};
 use sd_view::{AclPart, Extent, SdView, read_extents};

@@ -5,7 +5,7 @@ ghost use Rattle.sd_call_parts.specs.Walk.{fault_number, next, steps_to};
 
 use crate::ace::AceFound;
 use crate::walk::find_next;
-use sd_answer::LineFault;
+use sd_faults::LineFault;
 use sd_call::{CallFault, failed};
 use sd_view::SdFault;
 

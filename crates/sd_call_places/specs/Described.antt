@@ -5,13 +5,13 @@ use Rattle.std.specs.Prelude.{Result, Ok, Err}
 use Rattle.sd_text.specs.Limits.{most_sddl_text}
 use Rattle.sd_parts.specs.declared.part.Part.{Part}
 use Rattle.sd_parts.specs.declared.part.Part.TheVariants as part
-use Rattle.sd_answer.specs.FaultNames.{fault_name}
-use Rattle.sd_answer.specs.Faults.{part_text}
+use Rattle.sd_faults.specs.FaultNames.{fault_name}
+use Rattle.sd_faults.specs.Faults.{part_text}
 use Rattle.sd_call.specs.declared.argument.Argument.TheVariants as which
 use Rattle.sd_call.specs.declared.outcome.CallFault.{CallFault}
 use Rattle.sd_call.specs.declared.outcome.CallFault.TheVariants as call
 use Rattle.sd_call.specs.declared.outcome.Outcome.{Outcome}
-use Rattle.sd_call_places.specs.Meanings.{meaning}
+use Rattle.sd_faults.specs.Meanings.{meaning}
 use Rattle.sd_call_places.specs.PlaceTold.{ace_number}
 use Rattle.sd_call_places.specs.declared.told.PlaceTold.{PlaceTold}
 

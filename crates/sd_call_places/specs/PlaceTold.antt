@@ -4,12 +4,11 @@ use Rattle.std.specs.Prelude.{Result, Ok, Err}
 use Rattle.sd_text.specs.Limits.{most_sddl_text}
 use Rattle.sd_sid.specs.Sid.{SecurityId}
 use Rattle.sd_parts.specs.declared.limits.TheConstants.{CAPACITY}
-use Rattle.sd_answer.specs.declared.fault.LineFault.{LineFault}
-use Rattle.sd_answer.specs.declared.fault.LineFault.TheVariants as line
+use Rattle.sd_faults.specs.Faults.{number, part_number}
+use Rattle.sd_faults.specs.declared.line_fault.LineFault.{LineFault}
+use Rattle.sd_faults.specs.declared.line_fault.LineFault.TheVariants as line
 use Rattle.sd_call.specs.Arguments.{domain_in}
-use Rattle.sd_call.specs.Outcomes.{number, part_number}
 use Rattle.sd_call.specs.declared.outcome.CallFault.{CallFault}
-use Rattle.sd_call.specs.declared.outcome.CallFault.TheVariants.{Line}
 use Rattle.sd_call_parts.specs.Places.{nowhere}
 use Rattle.sd_fault_places.specs.Places.{place_of_fault}
 use Rattle.sd_fault_places.specs.declared.place.FaultPlace.{FaultPlace}
@@ -39,7 +38,7 @@ no_place = record { fault = 0; part = 0; ace = ace_number None; field = 0; place
 
 abbrev pub told_at : LineFault → FaultPlace → PlaceTold
 told_at fault place = record {
-  fault = number (Line fault);
+  fault = number fault;
   part = part_number place.part;
   ace = ace_number place.ace;
   field = field_number place.field;

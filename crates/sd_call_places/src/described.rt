@@ -2,7 +2,6 @@
 
 ghost use Rattle.std.specs.Prelude.{◌≡◌, ◌≤◌, ◌<◌, ◌+◌, ◌++◌, length, codes};
 ghost use Rattle.std.specs.Fmt.{decimal};
-ghost use Rattle.sd_answer.specs.Faults.{part_text};
 ghost use Rattle.sd_call.specs.Outcomes.{Answers, Fills, Gives};
 ghost use Rattle.sd_call_places.specs.Described.{argument_text, described, field_text, holder_text, line_text};
 ghost use Rattle.sd_call_places.specs.Described.{part_numbered, part_words, place_text, place_text_of, sentence};
@@ -10,9 +9,8 @@ ghost use Rattle.sd_sink.specs.Print.{Prints};
 ghost use Rattle.sd_sink.specs.Sink.{Puts};
 ghost use Rattle.sd_text.specs.Limits.{most_sddl_text};
 
-use crate::meanings::meaning;
 use crate::told::{NO_ACE, PlaceTold};
-use sd_answer::fault_name;
+use sd_faults::{fault_name, meaning, part_text};
 use sd_call::{Argument, CallFault, Front, Outcome, failed, give};
 use sd_parts::Part;
 use sd_sink::{Print, Printer, Sink, SinkFault};
@@ -81,8 +79,8 @@ fn print_line<P: Print>(number: u32, first: u32, second: u32, out: &mut P)
     print_decimal(number, out);
     out.put(b" ");
     out.put(fault_name(number).as_bytes());
-    out.put(part_text(first).as_bytes());
-    out.put(part_text(second).as_bytes());
+    out.put(part_text(part_numbered(first)).as_bytes());
+    out.put(part_text(part_numbered(second)).as_bytes());
     out.put(b": ");
     out.put(meaning.as_bytes());
 }
@@ -190,20 +188,6 @@ fn part_numbered(number: u32) -> Option<Part>
         3 => Some(Part::Sacl),
         4 => Some(Part::Dacl),
         _ => None,
-    }
-}
-
-// A part behind a blank, as in an `error` line.
-fn part_text(number: u32) -> &'static str
-    ensures value { result.now ≡ part_text (part_numbered number) }
-    ensures short { length result.now ≤ 6 }
-{
-    match part_numbered(number) {
-        None => "",
-        Some(Part::Owner) => " owner",
-        Some(Part::Group) => " group",
-        Some(Part::Sacl) => " sacl",
-        Some(Part::Dacl) => " dacl",
     }
 }
 

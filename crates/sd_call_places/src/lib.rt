@@ -2,7 +2,6 @@
 #![tactic(auto)]
 
 mod described;
-mod meanings;
 mod told;
 
 pub use described::describe;

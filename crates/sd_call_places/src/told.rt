@@ -2,18 +2,16 @@
 
 ghost use Rattle.std.specs.Prelude.{◌≡◌, ◌<◌, ◌^◌, length};
 ghost use Rattle.std.specs.Option.{option_copied};
-ghost use Rattle.sd_answer.specs.declared.fault.LineFault.TheVariants as line;
-ghost use Rattle.sd_call.specs.Outcomes.{number, part_number};
-ghost use Rattle.sd_call.specs.declared.outcome.CallFault.TheVariants.{Line};
+ghost use Rattle.sd_faults.specs.declared.line_fault.LineFault.TheVariants as line;
 ghost use Rattle.sd_call_places.specs.PlaceTold.{field_number, no_place, place_told, sddl_place_told, told};
 ghost use Rattle.sd_call_places.specs.PlaceTold.{told_at};
 ghost use Rattle.sd_sddl_places.specs.Places.{place_of_sddl_fault};
 
-use sd_answer::LineFault;
-use sd_call::{CallFault, domain_in, failed};
+use sd_faults::{LineFault, part_number};
+use sd_call::domain_in;
 use sd_call_parts::Place;
 use sd_fault_places::{FaultPlace, Field, place_of_fault};
-use sd_parts::{CAPACITY, Part};
+use sd_parts::CAPACITY;
 use sd_sddl_places::place_of_sddl_fault;
 use sd_sid::Sid;
 use sd_text::MOST_SDDL_TEXT;
@@ -89,7 +87,7 @@ fn told_at(fault: LineFault, place: &FaultPlace) -> PlaceTold
     ensures { result ≡ told_at fault place.now }
 {
     PlaceTold {
-        fault: fault_number(fault),
+        fault: fault.number(),
         part: part_number(place.part),
         ace: place.ace.unwrap_or(NO_ACE),
         field: field_number(place.field),
@@ -97,24 +95,6 @@ fn told_at(fault: LineFault, place: &FaultPlace) -> PlaceTold
             offset: place.range.offset,
             size: place.range.size,
         },
-    }
-}
-
-fn fault_number(fault: LineFault) -> u32
-    ensures { result ≡ number (Line fault) }
-{
-    failed(CallFault::Line(fault)).fault.value()
-}
-
-fn part_number(part: Option<Part>) -> u32
-    ensures { result ≡ part_number part }
-{
-    match part {
-        None => 0,
-        Some(Part::Owner) => 1,
-        Some(Part::Group) => 2,
-        Some(Part::Sacl) => 3,
-        Some(Part::Dacl) => 4,
     }
 }
 

@@ -8,7 +8,7 @@ use Rattle.sd_sid.specs.SidText.{alias_of, has_form, letters_read, numbers_read,
 use Rattle.sd_sid.specs.declared.sid_text.SidFault.TheVariants as sid
 use Rattle.sd_sddl_builder.specs.declared.fault.SddlFault.TheVariants as sddl
 use Rattle.sd_sddl_printer.specs.Printed.{trustee_text}
-use Rattle.sd_answer.specs.declared.fault.LineFault.TheVariants as line
+use Rattle.sd_faults.specs.declared.line_fault.LineFault.TheVariants as line
 use Rattle.sd_call.specs.Arguments.{optional_sid_in}
 use Rattle.sd_call.specs.declared.argument.Argument.TheVariants as which
 use Rattle.sd_call.specs.declared.outcome.CallFault.TheVariants as call

@@ -6,7 +6,7 @@ ghost use Rattle.sd_call_sids.specs.Sids.{named_in, named_sid, sid_from_text, si
 
 use crate::bytes::give_sid;
 use crate::name::give_name;
-use sd_answer::LineFault;
+use sd_faults::LineFault;
 use sd_call::{Argument, CallFault, Outcome, domain_in, failed, sid_in};
 use sd_sddl_builder::SddlFault;
 use sd_sid::{Naming, Sid};

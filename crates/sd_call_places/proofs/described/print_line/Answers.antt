@@ -2,10 +2,10 @@ use Rattle.std.proofs.Common.{◌≡◌, codes, arith, lit≤}
 use Rattle.std.proofs.lemmas.Fmt.{length-decimal-le}
 use Rattle.std.specs.Fmt.{decimal}
 use Rattle.sd_sink.proofs.laws.PrintLemmas.{prints_as, prints_then}
-use Rattle.sd_answer.specs.FaultNames.{fault_name}
-use Rattle.sd_answer.specs.Faults.{part_text}
+use Rattle.sd_faults.specs.FaultNames.{fault_name}
+use Rattle.sd_faults.specs.Faults.{part_text}
 use Rattle.sd_call_places.specs.Described.{part_numbered}
-use Rattle.sd_call_places.specs.Meanings.{meaning}
+use Rattle.sd_faults.specs.Meanings.{meaning}
 use Rattle.sd_call_places.proofs.DescribedLemmas.{line-short}
 use Rattle.sd_call_places.proofs.described.print_line.Goals as goal
 

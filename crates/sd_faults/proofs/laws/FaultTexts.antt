@@ -9,9 +9,9 @@ use Rattle.sd_parts.specs.declared.part.Part.TheVariants as part
 use Rattle.sd_view.specs.declared.fault.SdFault.TheVariants as sd
 use Rattle.sd_inherit.specs.declared.derivation.DeriveFault.TheVariants.{DerivedTooLarge}
 use Rattle.sd_sddl_builder.specs.declared.fault.SddlFault.TheVariants as sddl
-use Rattle.sd_answer.specs.Faults.{fault_text, name, named_parts, NamedParts, number, part_text, parts_text}
-use Rattle.sd_answer.specs.declared.fault.LineFault.{LineFault}
-use Rattle.sd_answer.specs.declared.fault.LineFault.TheVariants.{TooLong, Text, Sd, Sddl, Derive}
+use Rattle.sd_faults.specs.Faults.{fault_text, name, named_parts, NamedParts, number, part_text, parts_text}
+use Rattle.sd_faults.specs.declared.line_fault.LineFault.{LineFault}
+use Rattle.sd_faults.specs.declared.line_fault.LineFault.TheVariants.{TooLong, Text, Sd, Sddl, Derive}
 
 heading-short : (fault : LineFault) → (number fault < 100) × (length (name fault) ≤ 17)
 heading-short TooLong = (lit≤ tt, lit≤ tt)

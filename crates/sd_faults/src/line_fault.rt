@@ -1,9 +1,9 @@
 //! Why a line has no answer but an `error` line.
 
-ghost use Rattle.std.specs.Prelude.{◌≡◌, ◌<◌, length};
+ghost use Rattle.std.specs.Prelude.{◌≡◌, ◌≤◌, ◌<◌, length};
 ghost use Rattle.sd_sink.specs.Print.{Prints};
 ghost use Rattle.sd_sink.specs.Sink.{Puts};
-ghost use Rattle.sd_answer.specs.Faults.{fault_text, named_parts, number, part_text};
+ghost use Rattle.sd_faults.specs.Faults.{fault_text, named_parts, number, part_number, part_text};
 
 use crate::fault_names::fault_name;
 use sd_buffer::TextFault;
@@ -121,9 +121,23 @@ impl LineFault {
     }
 }
 
-// A part behind a blank.
-fn part_text(part: Option<Part>) -> &'static str
-    ensures { result.now ≡ part_text part }
+/// A part as a number: 0 where there is none.
+pub fn part_number(part: Option<Part>) -> u32
+    ensures { result ≡ part_number part }
+{
+    match part {
+        None => 0,
+        Some(Part::Owner) => 1,
+        Some(Part::Group) => 2,
+        Some(Part::Sacl) => 3,
+        Some(Part::Dacl) => 4,
+    }
+}
+
+/// A part behind a blank.
+pub fn part_text(part: Option<Part>) -> &'static str
+    ensures value { result.now ≡ part_text part }
+    ensures short { length result.now ≤ 6 }
 {
     match part {
         None => "",

@@ -9,9 +9,9 @@ use Rattle.sd_view.specs.declared.fault.SdFault.TheVariants as sd
 use Rattle.sd_parts.specs.Parts.{part_of}
 use Rattle.sd_inherit.specs.declared.derivation.DeriveFault.TheVariants.{DerivedTooLarge}
 use Rattle.sd_sddl_builder.specs.declared.fault.SddlFault.TheVariants as sddl
-use Rattle.sd_answer.specs.FaultNames.{fault_name}
-use Rattle.sd_answer.specs.declared.fault.LineFault.{LineFault}
-use Rattle.sd_answer.specs.declared.fault.LineFault.TheVariants.{TooLong, Text, Sd, Sddl, Derive}
+use Rattle.sd_faults.specs.FaultNames.{fault_name}
+use Rattle.sd_faults.specs.declared.line_fault.LineFault.{LineFault}
+use Rattle.sd_faults.specs.declared.line_fault.LineFault.TheVariants.{TooLong, Text, Sd, Sddl, Derive}
 
 -- its number
 abbrev pub number : LineFault → ℕ
@@ -72,6 +72,14 @@ named_parts (Sddl sddl.Guid) = (None, None)
 named_parts (Sddl sddl.Kind) = (None, None)
 named_parts (Sddl (sddl.AclTooLarge w)) = (Some (part_of w), None)
 named_parts (Derive (DerivedTooLarge w)) = (Some (part_of w), None)
+
+-- a part as a number; 0 where none is named
+abbrev pub part_number : Option Part → ℕ
+part_number None = 0
+part_number (Some part.Owner) = 1
+part_number (Some part.Group) = 2
+part_number (Some part.Sacl) = 3
+part_number (Some part.Dacl) = 4
 
 -- a part behind a blank
 abbrev pub part_text : Option Part → List ℕ

@@ -1,11 +1,11 @@
 //! What each fault means.
 
 ghost use Rattle.std.specs.Prelude.{◌≡◌, ◌≤◌, length};
-ghost use Rattle.sd_answer.specs.FaultNames.{fault_name};
-ghost use Rattle.sd_call_places.specs.Meanings.{meaning};
+ghost use Rattle.sd_faults.specs.FaultNames.{fault_name};
+ghost use Rattle.sd_faults.specs.Meanings.{meaning};
 
 /// What a fault means, by its number: the empty text where no fault has the number.
-pub(crate) fn meaning(number: u32) -> &'static str
+pub fn meaning(number: u32) -> &'static str
     ensures value { result.now ≡ meaning number }
     ensures short { length result.now ≤ 174 }
     // No name is longer.

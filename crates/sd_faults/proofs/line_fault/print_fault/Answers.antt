@@ -1,8 +1,8 @@
 use Rattle.std.proofs.Common.{◌≡◌, ap}
 use Rattle.std.specs.Fmt.{decimal}
 use Rattle.sd_sink.proofs.laws.PrintLemmas.{prints_as, prints_then}
-use Rattle.sd_answer.proofs.fault.print_fault.Goals as goal
-use Rattle.sd_answer.specs.Faults.{fault_text, name, named_parts, part_text}
+use Rattle.sd_faults.proofs.line_fault.print_fault.Goals as goal
+use Rattle.sd_faults.specs.Faults.{fault_text, name, named_parts, part_text}
 
 pub returns : goal.returns
 unfolding fault_text

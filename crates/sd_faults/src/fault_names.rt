@@ -1,7 +1,7 @@
 //! The names of faults.
 
 ghost use Rattle.std.specs.Prelude.{◌≡◌};
-ghost use Rattle.sd_answer.specs.FaultNames.{fault_name};
+ghost use Rattle.sd_faults.specs.FaultNames.{fault_name};
 
 /// The name of a fault by its number, as in an `error` line, in a message of the program or from the library for C. It
 /// is the empty text where no fault has the number.
