@@ -41,6 +41,6 @@
 #![tactic(auto)]
 
 pub use sd_answer::{Act, Form, Job, OutputForm};
-pub use sd_faults::{LineFault, put_fault};
 pub use sd_command::command;
+pub use sd_faults::{LineFault, put_fault};
 pub use sd_run::{DeviceFault, Drain, Engine, FromRead, Report, RunFault, Source, ToWrite, run};
