@@ -12,7 +12,7 @@ use Rattle.sd_view.specs.declared.fault.SdFault.TheVariants as sd
 use Rattle.sd_call.specs.Arguments.{descriptor_in, domain_in, mapping_in, optional_sid_in, sid_in}
 use Rattle.sd_call.specs.FaultNames.{name_of}
 use Rattle.sd_call.specs.Outcomes.{Answers, AnswersWithin, Fills, Gives, Refused, argument_number, done, failed}
-use Rattle.sd_call.specs.Outcomes.{no_memory, number, part_number, too_small}
+use Rattle.sd_call.specs.Outcomes.{no_memory, number, too_small}
 use Rattle.sd_call.specs.declared.outcome.Outcome.{Outcome}
 use Rattle.sd_call.specs.declared.argument.Argument.TheVariants as which
 use Rattle.sd_call.specs.declared.outcome.CallFault.TheVariants as call

@@ -2,7 +2,8 @@
 use Rattle.std.specs.Prelude.{ℕ, ◌-◌, List, length, Some, None, Result, Ok, Err}
 use Rattle.sd_parts.specs.declared.part.Parts.{Parts}
 use Rattle.sd_call.specs.Arguments.{descriptor_in}
-use Rattle.sd_call.specs.Outcomes.{named_parts, number, part_number}
+use Rattle.sd_faults.specs.Faults.{part_number}
+use Rattle.sd_call.specs.Outcomes.{named_parts, number}
 use Rattle.sd_call.specs.declared.outcome.CallFault.{CallFault}
 use Rattle.sd_view.specs.Descriptor.{Descriptor, Extent, extents_of}
 use Rattle.sd_view.specs.declared.acl_part.AclPart.{AclPart}

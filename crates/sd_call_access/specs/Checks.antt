@@ -15,7 +15,8 @@ use Rattle.sd_check.specs.Verdict.{verdict}
 use Rattle.sd_check.specs.declared.verdict.Verdict.{Verdict}
 use Rattle.sd_check.specs.declared.verdict.Verdict.TheVariants.{Denied, Granted}
 use Rattle.sd_call.specs.Arguments.{descriptor_in, mapping_in, optional_sid_in}
-use Rattle.sd_call.specs.Outcomes.{argument_of, entry_of, named_parts, number, part_number}
+use Rattle.sd_faults.specs.Faults.{part_number}
+use Rattle.sd_call.specs.Outcomes.{argument_of, entry_of, named_parts, number}
 use Rattle.sd_call.specs.declared.argument.Argument.TheVariants as which
 use Rattle.sd_call.specs.declared.outcome.CallFault.{CallFault}
 use Rattle.sd_call.specs.declared.outcome.CallFault.TheVariants.{Ask}
