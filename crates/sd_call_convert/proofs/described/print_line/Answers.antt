@@ -34,6 +34,7 @@ returns-clause-short g c =
     let digits = length-decimal-le 10 n (omega arith) (omega (arith, small)) (omega (arith, small)) in
     line-short (codes "error ") (decimal n) (codes " ") (fault_name n) (part_text (part_numbered c.args.first))
     (part_text (part_numbered c.args.second)) (codes ": ") (meaning n) (lit≤ tt) digits (lit≤ tt)
-    c.meaning-meaning.ensures.name (rw c.part_text.ensures.value at c.part_text.ensures.short)
-    (rw c.part_text-2.ensures.value at c.part_text-2.ensures.short) (lit≤ tt)
+    c.meaning-meaning.ensures.name
+    (rw (c.part_text.ensures.value, c.part_numbered.ensures) at c.part_text.ensures.short)
+    (rw (c.part_text-2.ensures.value, c.part_numbered-2.ensures) at c.part_text-2.ensures.short) (lit≤ tt)
     (rw c.meaning-meaning.ensures.value at c.meaning-meaning.ensures.short)
