@@ -24,7 +24,8 @@ import audit_package
 import preload
 from audit import DOMAIN, SECONDS, Place
 
-LATEST = 150  # seconds for a run to end, also on a busy machine; one that waits takes for ever
+LATEST = 60  # seconds in which a run ends, or does something where the machine is busy; one that waits does nothing
+LOOKS = 10   # for so many times LATEST a run may go on
 NOTE = f"{audit.EVERY_DOMAIN}\n"
 INTERRUPTED = "sdtool-audit: interrupted, so the report isn't whole\n"
 LOST_WORKER = "sdtool-audit: the report isn't whole: a process that answers was ended from outside\n"
@@ -154,12 +155,27 @@ def start(place: Place, words: str, **more) -> "subprocess.Popen[str]":
                             env={**place.environment, "SDTOOL_AUDIT_MAY_WRITE": MAY_WRITE, **more}, **streams)
 
 
+def time_of(session: int) -> int:
+    """How long the processes of a session have used a processor, in its own unit."""
+    used = 0
+    for path in pathlib.Path("/proc").glob("[0-9]*/stat"):
+        with contextlib.suppress(OSError):
+            fields = path.read_text().rpartition(")")[2].split()
+            used += int(fields[11]) + int(fields[12]) if int(fields[3]) == session else 0
+    return used
+
+
 def ended(place: Place, run: "subprocess.Popen[str]", what: str) -> Optional[Tuple[int, str]]:
-    """The status and the words of a run, once nothing of it has its pipes; None if that takes too long."""
+    """The status and the words of a run, once nothing of it has its pipes; None if it waits without an end."""
+    used = -1
     try:
-        told = run.communicate(timeout=LATEST)[1] or ""
-        return run.returncode, told.replace(NOTE, "")
-    except subprocess.TimeoutExpired:
+        for _ in range(LOOKS):
+            with contextlib.suppress(subprocess.TimeoutExpired):
+                told = run.communicate(timeout=LATEST)[1] or ""
+                return run.returncode, told.replace(NOTE, "")
+            before, used = used, time_of(run.pid)
+            if used == before:
+                break
         place.count.add(False, f"{what}: the run, or a process of it, doesn't end")
         return None
     finally:
@@ -282,8 +298,8 @@ def workers_of(run: "subprocess.Popen[str]", count: int) -> List[int]:
     """The processes of a run, once there are so many; fewer if it ends before."""
     children = pathlib.Path(f"/proc/{run.pid}/task/{run.pid}/children")
     found: List[str] = []
-    until = time.monotonic() + LATEST
-    while len(found) < count and time.monotonic() < until:
+    until = time.monotonic() + LOOKS * LATEST
+    while len(found) < count and run.poll() is None and time.monotonic() < until:
         with contextlib.suppress(OSError):
             found = children.read_text().split()
         time.sleep(0.01)
@@ -393,7 +409,7 @@ def test_killed(place: Place) -> None:
         workers = workers_of(run, chance.randrange(4))
         time.sleep(chance.random() / 4)
         run.kill()
-        reader.join(LATEST)
+        reader.join(LOOKS * LATEST)
         place.expect((run.returncode, reader.is_alive()), (-signal.SIGKILL, False),
                      f"killed with {len(workers)} workers{', spawned' if is_spawned else ''}: nobody has the pipes "
                      "of the run")

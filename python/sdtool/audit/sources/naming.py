@@ -23,6 +23,7 @@ _CLASS = re.compile(r"[\w-]+")
 # How names of objects tell their kind; the first that fits counts.
 _NAMES = [hint for hint in HINTS if "name" in hint]
 _KIND_OF_NAME = re.compile("|".join(f"({hint['name']})" for hint in _NAMES), re.I)
+_MOST_OF_NAME = 1_000  # characters in which a name tells a kind, since many objects may have one long name
 _NO_LETTERS = str.maketrans("", "", " _-")
 
 
@@ -67,7 +68,7 @@ def kind_of_titles(titles: Iterable[str]) -> str:
 
 def kind_of_name(name: str) -> str:
     """The kind of an object that its name tells."""
-    found = _KIND_OF_NAME.match(name)
+    found = _KIND_OF_NAME.match(name, 0, _MOST_OF_NAME)
     kind: str = _NAMES[found.lastindex - 1]["kind"] if found and found.lastindex else UNTOLD
     return BY_PATH if kind == "folder" else kind
 
