@@ -291,6 +291,25 @@ const looksLikeBase64 = (text) => /^A\s*Q/.test(text) && /^AQ[A-Za-z0-9+/]{2,}={
 // What icacls lists without /save: names and letters, no SIDs.
 const ICACLS = /[^\n:()]:\((?:DENY|[A-Z]{1,3}(?:,[A-Z]{1,3}){0,40})\)/;
 
+/**
+ * What a text is that has no descriptor, by the first pattern that fits.
+ * @type {[string, RegExp][]}
+ */
+const OTHER_TEXTS = [
+    ["listing", ICACLS],
+    ["table", /^[ \t]*Path[ \t]+Owner[ \t]+Access\b/m],
+    ["access", /^[ \t]*(?:\w{1,20}Rights|IdentityReference|AccessControlType)[ \t]*:/m],
+    ["dsacls", /^(?:Access list:|Effective Permissions on)/m],
+    ["token", /^(?:USER|GROUP|PRIVILEGES) INFORMATION/m],
+    ["service", /^SERVICE_NAME: /m],
+    ["share", /^Share name\b/m],
+    ["posix", /^(?:[-dl](?:[r-][w-][-xsStT]){3}|# file: )/m],
+    ["key", /^\s*"?(?:Registry::|HK(?:LM|CU|CR|U|CC):?\\|HKEY_\w)[^\n()]*$/],
+    ["path", /^\s*"?(?:[A-Za-z]:\\|\\\\)[^\n()]*$/],
+    ["name", /^\s*"?(?:CN|OU|DC)=[^\n()]*$/i],
+];
+const kindOfText = (text) => OTHER_TEXTS.find(([, pattern]) => pattern.test(text))?.[0] ?? "nothing";
+
 // Text as it is, when a form was chosen: only the ends of the line are dropped.
 function asChosen(text, form) {
     const line = form === "sddl" ? text.replace(/\r?\n$/, "").replace(/\r?\n/g, " ") : without(text, "");
@@ -337,10 +356,10 @@ export function descriptorsIn(text, form) {
         [...(text.startsWith("\uFEFF") ? [{what: "mark"}] : []), ...(text.includes("\0") ? [{what: "nulls"}] : [])];
     const found = form === "auto" ? guessed(given) : asChosen(given, form);
     const all = found.length ? found : [{name: "", form: "sddl", line: linesOf(given).join(" "), dropped: []}];
-    const isListing = !found.length && ICACLS.test(given);
+    const other = found.length ? null : kindOfText(given);
     const classes = classesIn(given);
     return all.map((one) => {
         one.dropped.unshift(...lost);
-        return Object.assign(one, {classes: classes.get(one.name) ?? NONE, isEntry: classes.has(one.name), isListing});
+        return Object.assign(one, {classes: classes.get(one.name) ?? NONE, isEntry: classes.has(one.name), other});
     });
 }

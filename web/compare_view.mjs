@@ -9,17 +9,19 @@ import {aceRights, commaed, faultBox, formatted, kindClass, longField, who} from
 import {valueIn} from "./tables.mjs";
 import {say, WORDS} from "./words.mjs";
 
+// The parts of the view, and what puts a text into its field.
 export function makeCompare(other, refresh) {
     const set = (value) => {
-        other.text = value;
+        Object.assign(other, {text: value, chosen: 0});
         refresh();
     };
-    const {field, note} = longField("other-text", other.text, set, {rows: 4});
-    return [
+    const {field, note, put} = longField("other-text", other.text, set, {rows: 4});
+    const parts = [
         make("h2", {id: "compare-heading"}, WORDS.compare.heading),
         make("div", {class: "form"}, labelled(WORDS.compare.other, field), note),
         make("div", {id: "compare-result"}),
     ];
+    return {parts, put};
 }
 
 // Without a kind there are no words for rights and flags.

@@ -4,7 +4,8 @@ import {ask, gridOf, isRefusedRequest, levelOfObject, meaningOf, typesOf} from "
 import {descriptorsIn} from "./clipboard.mjs";
 import {placeOf as placeOfObject} from "./classes.mjs";
 import {compare, compareRights} from "./comparing.mjs";
-import {placeOf} from "./faults.mjs";
+import {asIf} from "./conditions.mjs";
+import {bytesOf, placeOf} from "./faults.mjs";
 import {inherit} from "./inheriting.mjs";
 import {aceTexts, descriptorOf, guidBytes, hexOf, isFault, maskOfText, modelOf, sidBytes, sidText} from "./library.mjs";
 import {fitsKind, kindByRights, kindIn, kindsOf} from "./kinds.mjs";
@@ -20,11 +21,17 @@ import {
 import {writtenAces} from "./scanning.mjs";
 import {valueIn} from "./tables.mjs";
 import {MOST_SIDS, readToken} from "./tokens.mjs";
-import {warningsOf} from "./warnings.mjs";
+import {usualOf, verdictOf, verdictOfConditions, verdictOfKinds} from "./verdict.mjs";
+import {findingsOf, warningsOf} from "./warnings.mjs";
 
 const MOST_SHOWN = 20_000;   // characters of a descriptor as a whole
 const MOST_OF_KIND = 10_000; // characters of a text that tell of the kind of object
 const GENERIC = 0xf0000000;
+const MOST_PIECE = 60;                           // characters of a text that is refused, for a sentence
+const MOST_DESCRIPTORS = 10_000;                 // of a text, whose verdicts are told together
+const MILLISECONDS_OF_MANY = 150;                // of one question about many
+export const STAND_IN_DOMAIN = "S-1-5-21-0-0-0"; // of relative aliases, where nobody knows the domain
+const [LAST_OF_SPELLING, NEEDS_DOMAIN] = [4, 23];
 
 const plainFault = ({number, name, part, otherPart, place}) => ({number, faultName: name, part, otherPart, place});
 
@@ -40,15 +47,18 @@ function tried(question) {
     }
 }
 
-// The domain of the field, as a SID in text and as an option of the library, or why it is none.
+// The domain of the field, as a SID in text and as an option of the library, or why it is none. TRUSTED is the domain
+// whose administrators alone are trusted.
 function domainOf(library, text) {
     const typed = text.trim();
     if (!typed) {
-        return {text: "", option: {}};
+        return {text: "", trusted: "", option: {}};
     }
     const {value, fault} = tried(() => sidText(library, typed));
-    return fault ? {fault} : {text: value, option: {domain: sidBytes(library, value)}};
+    return fault ? {fault} : {text: value, trusted: value, option: {domain: sidBytes(library, value)}};
 }
+
+const standIn = (library) => ({...domainOf(library, STAND_IN_DOMAIN), trusted: "", isStandIn: true});
 
 // What the mask of an ACE means for a kind of object: by the library, or by the table where the library has no mapping.
 const meaningFor = (library, mask, kind) =>
@@ -76,9 +86,19 @@ function asked(library, descriptor, model, kind) {
     return library.build({...parts, dacl: parts.dacl.aces.map((ace, at) => ({...ace, mask: aces[at].meaning}))});
 }
 
+// What was found in the last text, so that a text with many descriptors is read once.
+let last = {text: "", form: "", found: []};
+
+function foundIn(text, form) {
+    if (last.text !== text || last.form !== form || !last.found.length) {
+        last = {text, form, found: descriptorsIn(text, form)};
+    }
+    return last.found;
+}
+
 // A descriptor of a text: what was found in it, and either the descriptor or its fault with the place.
 function read(library, {text, form, chosen}, domain) {
-    const found = descriptorsIn(text, form);
+    const found = foundIn(text, form);
     const one = found[Math.min(chosen ?? 0, found.length - 1)];
     const about = {
         found: found.length,
@@ -88,9 +108,13 @@ function read(library, {text, form, chosen}, domain) {
         form: one.form,
         line: one.line,
         dropped: one.dropped,
-        isListing: one.isListing
+        other: one.other,
+        domain
     };
     const {value, fault} = tried(() => descriptorOf(library, one.form, one.line, domain.option));
+    if (fault?.number === NEEDS_DOMAIN && !domain.text) {
+        return read(library, {text, form, chosen}, standIn(library));
+    }
     const place = fault && placeOf(library, one.form, one.line, fault);
     const written = packed(fault && one.form === "sddl" ? writtenAces(one.line) : []);
     const outcome = fault ? {fault, place, written} : {descriptor: value};
@@ -106,6 +130,12 @@ export const linesOf = (text) => (text ? text.split("\n") : []);
 // A list of a descriptor, with the text of each ACE.
 const packedList = ({state, aces}, texts) =>
     ({state, count: aces.length, aces: packed(aces.map((ace, at) => ({...ace, text: texts[at]})))});
+
+// The list of ACEs, with those that are usual.
+const marked = (model, options) => {
+    const usual = usualOf(model, {...options, ...options.place});
+    return {...model.dacl, aces: model.dacl.aces.map((ace) => ({...ace, usual: usual.has(ace.number)}))};
+};
 
 const isEmpty = (text) => text.trim() === "";
 
@@ -126,7 +156,7 @@ function optionsOf(library, state, domain) {
         common: state.common,
         all: state.all,
         place: state.place,
-        domain: domain.text
+        domain: domain.trusted
     };
 }
 
@@ -156,24 +186,70 @@ function openKind({kind, isKindChosen, isKindOpen, isKindSure}, models, other = 
     return {asksKind: isOther ? "texts" : "rights", kinds: [...new Set([...told, ...kindsOf(models.flatMap(acesIn))])]};
 }
 
-// A question about a text: about the descriptor in it, what that says, and its kind.
-function about(library, given, question) {
-    const domain = domainOf(library, given.domain);
-    if (domain.fault) {
-        return {domainFault: domain.fault};
+// A question about a text: about the descriptor in it, what that says, and its kind. A text without one, or that is
+// refused, is asked about in its own way.
+function about(library, given, question, ofRefused = (found, _) => found) {
+    const typed = domainOf(library, given.domain);
+    if (typed.fault) {
+        return {domainFault: typed.fault};
     }
     if (isEmpty(given.text)) {
         return {isEmpty: true};
     }
-    const {descriptor, ...found} = read(library, given, domain);
+    const {descriptor, domain, ...found} = read(library, given, typed);
+    const isStandIn = Boolean(domain.isStandIn);
     if (found.fault) {
-        return {...found, descriptorFault: found.fault};
+        return {...ofRefused({...found, isStandIn}, domain), descriptorFault: found.fault};
     }
     const model = modelOf(library, descriptor, domain.option);
     const state = {...given, ...kindOf(given, found, model), place: placeIn(given, found)};
     return {
         kind: state.kind,
+        isStandIn,
         ...question({state, descriptor, found, model: withMeanings(library, model, state.kind), domain})
+    };
+}
+
+// What is asked for a verdict about a descriptor of a kind. The meanings of its masks depend on it.
+function verdictAs(library, descriptor, model, {kind, place, isKindOpen = false}, domain, known = null) {
+    const meant = known ? model : withMeanings(library, structuredClone(model), kind);
+    const options = {kind, domain: domain.trusted, place, isKindOpen};
+    const findings = known ?? findingsOf(library, meant, {kind, domain: domain.trusted, ...place});
+    return verdictOf(
+        library, {descriptor: asked(library, descriptor, meant, kind), model: meant, findings, ...options});
+}
+
+// The same where nothing may tell the kind, of which KINDS are those that fit.
+const verdictOfAny = (library, descriptor, model, state, domain, kinds) => (kinds ?
+        verdictOfKinds(model, kinds,
+            (kind) => verdictAs(library, descriptor, model, {kind, place: state.place, isKindOpen: true}, domain)) :
+        verdictAs(library, descriptor, model, {kind: state.kind, place: state.place}, domain));
+
+// The verdict about a text that is refused: of one with conditions that of both, if they hold and if they don't.
+function verdictOfRefused(library, given, found, domain) {
+    if (found.other) {
+        return {judged: {verdict: "unknown", key: "none"}};
+    }
+    const {form, line, fault} = found;
+    const bytes = form === "sddl" || fault.number <= LAST_OF_SPELLING ? null : bytesOf(form, line);
+    const parts = [true, false].map((isMost) => {
+        const {value} = tried(() => asIf(library, {form, line, bytes}, isMost,
+                                  (text) => descriptorOf(library, "sddl", text, domain.option)));
+        return value && {...value, model: modelOf(library, value.descriptor, domain.option)};
+    });
+    const [most, least] = parts;
+    if (!most || !least) {
+        return {judged: {verdict: "unknown", key: "refused"}};
+    }
+    const state = {...given, ...kindOf(given, found, most.model), place: placeIn(given, found)};
+    const open = openKind(state, [most.model]);
+    const verdicts =
+        parts.map(({descriptor, model}) => verdictOfAny(library, descriptor, model, state, domain, open?.kinds));
+    const {numbers} = most;
+    const ace = withMeanings(library, most.model, state.kind).dacl.aces[numbers[0] - 1];
+    return {
+        kind: open ? undefined : state.kind,
+        judged: numbers.length ? verdictOfConditions(...verdicts, numbers, ace) : {...verdicts[0], conditions: []}
     };
 }
 
@@ -181,17 +257,20 @@ function about(library, given, question) {
 const look = (library, given) => about(library, given, ({state, descriptor, found, model, domain}) => {
     const open = openKind(state, [model]);
     if (open) {
-        return {...found, ...open};
+        const judged = verdictOfAny(library, descriptor, model, state, domain, open.kinds);
+        return {...found, ...open, judged, ...packedTexts(library, model, domain)};
     }
     const options = optionsOf(library, state, domain);
     const question = asked(library, descriptor, model, state.kind);
     const grid = gridOf(library, question, model, options);
     const sddl = library.toSddl(descriptor, domain.option);
-    const warnings = warningsOf(library, question, model, grid, options);
+    const findings = findingsOf(library, model, {kind: state.kind, domain: domain.trusted, ...state.place});
+    const warnings = warningsOf(library, question, model, grid, findings, options);
     const {dacl, sacl} = writtenIn(library, model, domain);
     return {
         ...found,
-        model: {...model, dacl: packedList(model.dacl, dacl), sacl: packedList(model.sacl, sacl)},
+        judged: verdictAs(library, descriptor, model, {kind: state.kind, place: state.place}, domain, findings),
+        model: {...model, dacl: packedList(marked(model, options), dacl), sacl: packedList(model.sacl, sacl)},
         grid,
         sddl: sddl.slice(0, MOST_SHOWN),
         hex: hexOf(descriptor.subarray(0, MOST_SHOWN / 2 + 1)),
@@ -200,11 +279,58 @@ const look = (library, given) => about(library, given, ({state, descriptor, foun
         warnings: packed(warnings),
         dangers: warnings.filter(({level}) => level !== "note").length,
     };
-});
+}, (found, domain) => ({...found, ...verdictOfRefused(library, given, found, domain)}));
+
+// The texts of the ACEs where nothing tells what their masks mean.
+function packedTexts(library, model, domain) {
+    const {dacl, sacl} = writtenIn(library, model, domain);
+    return {
+        written: packed([
+            ...model.dacl.aces.map((ace, at) => ({part: "dacl", number: ace.number, kind: ace.kind, text: dacl[at]})),
+            ...model.sacl.aces.map((ace, at) => ({part: "sacl", number: ace.number, kind: ace.kind, text: sacl[at]}))
+        ])
+    };
+}
 
 // The texts of the ACEs of each list.
 const writtenIn = (library, {dacl, sacl}, domain) =>
     ({dacl: aceTexts(library, dacl.aces, domain.text), sacl: aceTexts(library, sacl.aces, domain.text)});
+
+// What is wrong with a text, with no more of it than a sentence has.
+const shortFault = ({fault, place, other}) => ({
+    fault,
+    other,
+    place: place &&
+        {
+            ...place, text: place.text.slice(place.start, place.end).slice(0, MOST_PIECE), start: 0,
+                end: Math.min(MOST_PIECE, place.end - place.start)
+        }
+});
+
+// The verdicts on descriptors of a text from one on, as many as there is time for, and the number of the next one.
+function many(library, {state: given, from}) {
+    const end = performance.now() + MILLISECONDS_OF_MANY;
+    const rows = [];
+    const all = foundIn(given.text, given.form).length;
+    const most = Math.min(all, MOST_DESCRIPTORS);
+    for (let chosen = from; chosen < most && (chosen === from || performance.now() < end); chosen += 1) {
+        const one = {...given, chosen};
+        const {kind, entry, asksKind, judged, ...found} =
+            about(library, one, ({state, descriptor, found: read, model, domain}) => {
+                const open = openKind(state, [model]);
+                const verdict = verdictOfAny(library, descriptor, model, state, domain, open?.kinds);
+                return {entry: read.entry, asksKind: open?.asksKind, judged: verdict};
+            }, (read, domain) => ({...read, ...verdictOfRefused(library, one, read, domain)}));
+        rows.push({
+            at: chosen,
+            name: entry.name,
+            kind: asksKind ? "" : kind,
+            judged,
+            ...(found.fault ? shortFault(found) : {})
+        });
+    }
+    return {rows: packed(rows), next: from + rows.length, most, all};
+}
 
 // What is asked for, read by the library: names of rights, or a number.
 function wantedOf(library, asked, kind) {
@@ -395,6 +521,7 @@ const isBelow = ({state, one, other}, inherited) =>
 
 const QUESTIONS = {
     look,
+    many,
     ask: askAbout,
     inherit: inheritFrom,
     compare: compareWith,

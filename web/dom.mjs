@@ -42,6 +42,9 @@ export function make(name, attributes = {}, ...children) {
 /** @type {<Id extends string>(id: Id) => Id extends keyof Elements ? Elements[Id] : HTMLElement} */
 export const byId = (id) => /** @type {any} */ (document.getElementById(id));
 
+// Whether a place takes what is typed or pasted itself.
+export const isField = (target) => Boolean(target.closest?.("textarea, input, select"));
+
 export function show(element, ...children) {
     element.replaceChildren(...children.flat(Infinity).filter(Boolean));
     element.hidden = element.childNodes.length === 0;
@@ -55,8 +58,8 @@ export function labelled(text, control, hint) {
 }
 
 // OPTIONS is an object of texts by their values, or a list of both.
-export function select(id, options, value, onchange) {
-    const list = make("select", {id, onchange: (event) => onchange(event.target.value)},
+export function select(id, options, value, onchange, attributes = {}) {
+    const list = make("select", {id, ...attributes, onchange: (event) => onchange(event.target.value)},
         (Array.isArray(options) ? options : Object.entries(options)).map(([key,
             text]) => make("option", {value: key}, text)));
     list.value = value;
@@ -165,29 +168,37 @@ export async function showParts(place, count, parts, isOver) {
     }
 }
 
-// Arrow keys move between the cells of a grid, of which one at a time is in the order of the Tab key.
-export function moveByArrows(table) {
-    const cells = () => [...table.querySelectorAll("tbody tr")].map((row) => [...row.querySelectorAll("button.cell")]);
+// Arrow keys move between the cells of a table, of which one at a time is in the order of the Tab key. CSS says what a
+// cell is: a button, or a whole row.
+export function moveByArrows(table, css) {
+    const cells = () => {
+        const all = [...table.querySelectorAll(`tbody ${css}`)];
+        const rows = [...new Set(all.map((cell) => cell.closest("tr")))];
+        return rows.map((row) => all.filter((cell) => cell.closest("tr") === row));
+    };
     const focus = (cell) => {
-        table.querySelectorAll("button.cell[tabindex='0']").forEach((other) => other.setAttribute("tabindex", "-1"));
+        table.querySelectorAll(`${css}:is([tabindex='0'])`).forEach((other) => other.setAttribute("tabindex", "-1"));
         cell.setAttribute("tabindex", "0");
         cell.focus();
     };
     table.addEventListener("keydown", (event) => {
         const rows = cells();
         const row = rows.findIndex((all) => all.includes(document.activeElement));
-        const column = row < 0 ? -1 : rows[row].indexOf(document.activeElement);
-        const last = row < 0 ? 0 : rows[row].length - 1;
-        const target = row < 0 ? null :
-                                 valueIn({
-                                     ArrowRight: rows[row][Math.min(last, column + 1)],
-                                     ArrowLeft: rows[row][Math.max(0, column - 1)],
-                                     ArrowDown: rows[Math.min(rows.length - 1, row + 1)][column],
-                                     ArrowUp: rows[Math.max(0, row - 1)][column],
-                                     Home: rows[row][0],
-                                     End: rows[row][last],
-                                 },
-                                     event.key);
+        if (row < 0) {
+            return;
+        }
+        const column = rows[row].indexOf(document.activeElement);
+        const last = rows[row].length - 1;
+        const isLine = last === 0; // of rows without cells, which have a first and a last one
+        const target = valueIn({
+            ArrowRight: rows[row][Math.min(last, column + 1)],
+            ArrowLeft: rows[row][Math.max(0, column - 1)],
+            ArrowDown: rows[Math.min(rows.length - 1, row + 1)][column],
+            ArrowUp: rows[Math.max(0, row - 1)][column],
+            Home: isLine ? rows[0][0] : rows[row][0],
+            End: isLine ? rows.at(-1)[0] : rows[row][last],
+        },
+            event.key);
         if (target) {
             event.preventDefault();
             focus(target);

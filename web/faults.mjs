@@ -55,7 +55,7 @@ const inDigits = (bytes, {part, ace, field, offset, size}) => ({
     field: valueIn(IN_BYTES, field ?? "") ?? "bytes",
 });
 
-const bytesOf = (form, text) =>
+export const bytesOf = (form, text) =>
     (form === "hex" ? bytesOfHex(text) : Uint8Array.from(atob(text), (character) => character.charCodeAt(0)));
 
 // The place of a fault: {text, start, end, part, field, ace}. TEXT is the line, or its bytes in hex.

@@ -1,112 +1,165 @@
-// The first view: who can do what, warnings, a grid of rights, and the descriptor in words beside the exact text.
+// The first view: who can do what, warnings, and a grid of rights.
 import {bitsOf, cellOf, has, reasonIn} from "./access.mjs";
 import {linesOf} from "./desk.mjs";
-import {afterwards, button, byId, make, moveByArrows, show, showParts, someRows} from "./dom.mjs";
-import {
-    groupMask,
-    guidInWords,
-    labelInWords,
-    rightName,
-    rightsInWords,
-    rightsOf,
-    shortened,
-    visible
-} from "./naming.mjs";
-import {aceTable, commaed, faultBox, plainName, who} from "./parts_view.mjs";
+import {button, byId, make, moveByArrows, show, showParts, someRows} from "./dom.mjs";
+import {doing as maskDoing, isTrusted} from "./meanings.mjs";
+import {guidInWords, labelInWords, rightName, rightsInWords, rightsOf, shortened, visible} from "./naming.mjs";
+import {commaed, faultBox, plainName, who} from "./parts_view.mjs";
 import {valueIn} from "./tables.mjs";
+import {markAce} from "./text_view.mjs";
 import {say, WORDS} from "./words.mjs";
 
-const STAND_IN_DOMAIN = "S-1-5-21-0-0-0";
 const MOST_ROWS = 40; // of the grid, until more are asked for
 const ROWS_OF_A_TURN = 10;
+const MOST_GROUPS = 15; // of trustees
+const MOST_NAMES = 3;   // of a group
+const MOST_RIGHTS = 3;  // in a sentence
+const MOST_TYPED = 2;
+const MOST_SHOWN = 4;     // numbers of ACEs behind a trustee
 const MOST_NUMBERS = 30;  // of ACEs in a sentence
-const MOST_SPOKEN = 8;    // names in a sentence
 const MOST_DROPPED = 160; // characters of what was left out
-const MOST_SDDL = 4000;   // characters of the whole text
 const MOST_ACE = 300;
-const MOST_HEX = 20_000;
 
-const heading = (text, id) => make("h2", {id}, text);
-
-function bucketOf({granted, typed}, masks) {
-    if ((granted & masks.control) !== 0) {
-        return "control";
-    }
-    if ((granted & masks.change) !== 0) {
-        return "change";
-    }
-    if (typed.some(({mask}) => (mask & masks.change) !== 0)) {
-        return "parts";
-    }
-    if ((granted & masks.read) !== 0) {
-        return "read";
-    }
-    return granted !== 0 ? "other" : "none";
-}
-
-// The rows of the grid by the most that they can do.
-function bucketsOf(rows, kind) {
-    const masks = Object.fromEntries(["control", "change", "read"].map((group) => [group, groupMask(kind, group)]));
-    const buckets = {control: [], change: [], parts: [], read: [], other: [], none: []};
-    rows.forEach((row) => buckets[bucketOf(row, masks)].push(row));
-    return buckets;
-}
-
-function card(row, kind, bucket, rights, names) {
-    const gets = has(row.granted, rights) ? WORDS.summary.full : commaed(rightsInWords(kind, row.granted));
-    return make("li", {class: "card"}, who(row.sid, row.alias, names),
-        bucket === "none" || row.granted === 0 ? null : make("span", {class: "gets"}, gets),
-        row.typed.slice(0, 8).map(({object, mask}) => make("span", {class: "gets"},
-                                      `${commaed(rightsInWords(kind, mask))}: ${guidInWords(object, mask)}`)),
-        row.byRule !== 0 && row.isOwner ? make("span", {class: "tag"}, WORDS.summary.byOwner) : null);
-}
-
-function summary(result, kind, names) {
-    const {grid} = result;
-    const {summary: words} = WORDS;
-    if (!grid.isList) {
-        return make("section", {class: "summary danger", "aria-labelledby": "summary-heading"},
-            heading(words.heading, "summary-heading"), make("p", {class: "everyone"}, words.everyone),
-            make("p", {}, words.everyoneWhy));
-    }
-    return make("section", {class: "summary", "aria-labelledby": "summary-heading"},
-        heading(words.heading, "summary-heading"),
-        make("div", {class: "buckets"},
-            Object.entries(bucketsOf(grid.rows, kind))
-                .filter(([bucket, rows]) => rows.length > 0 || ["control", "change"].includes(bucket))
-                .map(
-                    ([bucket, rows]) => make("div", {class: `bucket ${bucket}`}, make("h3", {}, valueIn(words, bucket)),
-                        make("p", {class: "hint"}, valueIn(words, `${bucket}Hint`)),
-                        rows.length === 0 ? make("p", {class: "nobody"}, words.nobody) :
-                                            bucketList(rows, kind, bucket, grid.rights, names)))));
-}
-
-function bucketList(rows, kind, bucket, rights, names) {
-    const list = make("ul");
-    const more = someRows(list, rows, (row) => card(row, kind, bucket, rights, names),
-        (count) => say(WORDS.grid.more, {count}), {step: 12});
-    return [list, more];
-}
+const heading = (text, id, note) => make("h2", {id}, text, note ? [" ", make("small", {}, note)] : null);
 
 function firstOf(items, most, inWords) {
     const left = items.length > most ? [say(WORDS.summary.left, {count: items.length - most})] : [];
     return commaed([...items.slice(0, most).map(inWords), ...left]);
 }
 
-// What a screen reader says of an answer.
-export function spokenSummary(result, kind, names) {
+const shortOf = (rights) => firstOf(rights, MOST_RIGHTS, String);
+
+// What decided about each right of a row of the grid.
+const decidedOf = (row) => row.reasons.split(",").map((reason, place) => {
+    const [by, number] = reason.split(" ");
+    return {bit: 2 ** place, by, number: Number(number)};
+});
+
+// What a trustee has by ACEs of its own, or by a rule. What wider groups have is told of these, unless an ACE denies
+// some of it.
+function ownOf(row) {
+    const own = decidedOf(row).filter(({by, number}) => by !== "ace" || row.numbers.includes(number));
+    return row.denied ? row.granted : own.reduce((mask, {bit}) => (mask | (row.granted & bit)) >>> 0, 0);
+}
+
+// What a trustee can do: many rights together by their name, and those that an ACE denies of them.
+function canInWords(row, granted, kind, rights) {
     const {summary: words} = WORDS;
-    if (!result.grid.isList) {
-        return words.everyone;
+    const {denied, typed} = row;
+    if (has(granted, rights)) {
+        return words.full;
     }
-    const buckets = bucketsOf(result.grid.rows, kind);
-    const whoCan = ["control", "change", "parts"].map((bucket) => {
-        const rows = buckets[bucket];
-        const whom = firstOf(rows, MOST_SPOKEN, (row) => plainName(row.sid, names)) || words.nobody;
-        return rows.length || bucket !== "parts" ? `${valueIn(words, bucket)}: ${whom}.` : "";
-    });
-    const count = result.dangers;
-    return [...whoCan, count ? say(words.warnings, {count}) : ""].filter(Boolean).join(" ");
+    const without = (denied & rights) >>> 0;
+    const [bits, name] = valueIn(WORDS.masks, kind).find(([mask]) => has((granted | without) >>> 0, mask)) ?? [0, ""];
+    const lost = (bits & without) >>> 0;
+    const own = granted === 0 ? [] : [shortOf(rightsInWords(kind, granted))];
+    if (granted !== 0 && lost !== 0 && lost !== bits) {
+        const more = (granted & ~bits) >>> 0;
+        const some = shortOf([name, ...(more ? rightsInWords(kind, more) : [])]);
+        own.splice(0, 1, say(words.but, {rights: some, lost: shortOf(rightsInWords(kind, lost))}));
+    }
+    const ofTypes = typed.map(({object, mask}) => say(words.typed,
+                                  {rights: shortOf(rightsInWords(kind, mask)), name: guidInWords(object, mask)}));
+    const all = [...own, ...(ofTypes.length ? [firstOf(ofTypes, MOST_TYPED, String)] : [])];
+    return all.join("; ") || (row.granted ? words.noMore : words.nothing);
+}
+
+// The ACEs that decide about what a trustee can do, and whether it has rights as the owner.
+function becauseOf(row, granted, inherited) {
+    const decided = decidedOf(row).filter(({by}) => by === "ace");
+    const numbersOf = (mask) => decided.filter(({bit}) => has(mask, bit)).map(({number}) => number);
+    const granting = [...numbersOf(granted), ...(row.typed.length ? row.numbers : [])];
+    const inOrder = (numbers) => [...new Set(numbers)].sort((one, other) => one - other);
+    const numbers = inOrder(granting);
+    return {
+        numbers,
+        denying: inOrder(numbersOf(row.denied)),
+        isInherited: numbers.length > 0 && numbers.every((number) => inherited.has(number))
+    };
+}
+
+// The same of several trustees in words. Of many it is only told how many ACEs these are.
+function becauseInWords(all, rows) {
+    const {summary: words} = WORDS;
+    const inOrder = (key) => [...new Set(all.flatMap((one) => one[key]))].sort((one, other) => one - other);
+    const [numbers, denying] = [inOrder("numbers"), inOrder("denying")];
+    const inWords = (some) => (some.length > MOST_SHOWN ?
+            say(WORDS.parts.list, {count: some.length}) :
+            say(some.length === 1 ? WORDS.verdict.ace : WORDS.verdict.aces, {numbers: commaed(some)}));
+    const isInherited = all.every((one) => one.isInherited);
+    return [
+        ...(numbers.length ? [isInherited ? say(words.inherited, {aces: inWords(numbers)}) : inWords(numbers)] : []),
+        ...(rows.some((row) => row.byRule !== 0) ? [words.byOwner] : []),
+        ...(denying.length ? [say(denying.length === 1 ? words.denies : words.deny, {aces: inWords(denying)})] : [])
+    ].join("; ");
+}
+
+// How unusual it is what a trustee can do: others that change something, those who are trusted, those that read.
+function orderOf(row, {change, read}, domain) {
+    const all = row.typed.reduce((mask, one) => mask | one.mask, row.granted);
+    const isTold = isTrusted(row.sid, domain);
+    return (all & change) !== 0 ? (isTold ? 1 : 0) : (all & read) !== 0 ? 2 : all !== 0 ? 3 : 4;
+}
+
+// The rows of the grid, those alike together: {rows, can, because, order, numbers}.
+function trusteesOf(result, kind) {
+    const {grid} = result;
+    const masks = {change: maskDoing(kind, "change"), read: maskDoing(kind, "read")};
+    const inherited = new Set(linesOf(result.model.dacl.aces)
+                                  .map((text) => JSON.parse(text))
+                                  .filter((ace) => ace.flags.includes("ID"))
+                                  .map(({number}) => number));
+    const groups = new Map();
+    for (const row of grid.rows) {
+        const own = ownOf(row);
+        const can = canInWords(row, own, kind, grid.rights);
+        const order = orderOf({...row, granted: own}, masks, "");
+        const key = `${order} ${can}`;
+        const group = groups.get(key) ?? {rows: [], can, order, all: []};
+        group.rows.push(row);
+        group.all.push(becauseOf(row, own, inherited));
+        groups.set(key, group);
+    }
+    const isFirst = ({rows}) => rows.some(({sid}) => sid === result.judged.who?.[0]);
+    return [...groups.values()].sort((one, other) => isFirst(other) - isFirst(one) || one.order - other.order);
+}
+
+function trusteeRow({rows, can, order, all}, names) {
+    const {columns} = WORDS.summary;
+    const shown = (some) => some.map((row, at) => [at ? ", " : "", who(row.sid, row.alias, names),
+                                         row.isOwner ? make("span", {class: "tag"}, WORDS.grid.owner) : null]);
+    const left = rows.slice(MOST_NAMES);
+    const more = left.length ? make("details", {class: "others"},
+                                   make("summary", {}, say(WORDS.summary.left, {count: left.length})), shown(left)) :
+                               null;
+    const numbers = new Set(all.flatMap((one) => [...one.numbers, ...one.denying]));
+    return make("tr", {class: `trustee order-${order}`, "data-aces": [...numbers].join(" ")},
+        make("th", {scope: "row", "data-label": columns.who}, shown(rows.slice(0, MOST_NAMES)), more),
+        make("td", {"data-label": columns.can}, can),
+        make("td", {"data-label": columns.because}, becauseInWords(all, rows)));
+}
+
+function trustees(result, kind, names) {
+    const {summary: words} = WORDS;
+    const {grid} = result;
+    if (!grid.isList) {
+        return make("section", {class: "summary", "aria-labelledby": "summary-heading"},
+            heading(words.heading, "summary-heading"), make("p", {class: "everyone"}, words.everyone),
+            make("p", {}, words.everyoneWhy));
+    }
+    const body = make("tbody");
+    const groups = trusteesOf(result, kind);
+    const more = someRows(body, groups, (group) => trusteeRow(group, names), (count) => say(WORDS.grid.more, {count}),
+        {step: MOST_GROUPS});
+    return make("section", {class: "summary", "aria-labelledby": "summary-heading"},
+        heading(words.heading, "summary-heading", words.note),
+        groups.length ?
+            make("table", {class: "trustees", "aria-labelledby": "summary-heading"},
+                make("thead", {},
+                    make("tr", {}, Object.values(words.columns).map((text) => make("th", {scope: "col"}, text)))),
+                body) :
+            make("p", {}, words.nobody),
+        more);
 }
 
 const acesInWords = (numbers) =>
@@ -153,21 +206,6 @@ function warnings(result, kind, names) {
 function jumpTo(list, number) {
     return button(`${list === "sacl" ? "SACL " : ""}${number}`, () => markAce(list, number),
         {class: "jump", "aria-label": say(WORDS.error.ace, {number, part: valueIn(WORDS.parts, list)})});
-}
-
-function markAce(list, number) {
-    document.querySelectorAll("tr.ace.found").forEach((row) => row.classList.remove("found"));
-    /** @returns {HTMLElement} */
-    const more = () => document.querySelector(`[aria-labelledby="${list}-heading"] .more button`);
-    while (!byId(`${list}-${number}`) && more()) {
-        more().click();
-    }
-    const row = byId(`${list}-${number}`);
-    if (row) {
-        row.classList.add("found");
-        row.scrollIntoView({block: "center"});
-        row.focus({preventScroll: true});
-    }
 }
 
 const stateWord = (state, grid) => (state === "rule" ? (grid.isList ? WORDS.grid.ruleOwner : WORDS.grid.ruleNoDacl) :
@@ -223,7 +261,7 @@ function gridSection(result, context, later) {
     const more = someRows(body, grid.rows.map((row, index) => [row, index]),
         ([row, index]) => gridRow(row, rights, {...context, grid}, index === 0),
         (count) => say(WORDS.grid.more, {count}), {step: MOST_ROWS, later, turn: ROWS_OF_A_TURN});
-    moveByArrows(table);
+    moveByArrows(table, "button.cell");
     return make("section", {"aria-labelledby": "grid-heading"}, heading(WORDS.grid.heading, "grid-heading"),
         legend(grid), make("p", {class: "hint", id: "grid-hint"}, caption),
         make("div", {class: "scroll", tabindex: "0", role: "region", "aria-labelledby": "grid-heading"}, table), more,
@@ -254,10 +292,14 @@ export function reasonInWords(reason, name, kind, texts) {
     });
 }
 
-// What decided about a cell of the grid.
-export function showReason(row, bit, context) {
+// What decided about a cell of the grid, in a row below the cell's.
+export function showReason(row, bit, context, cell) {
     const reason = reasonIn(row, bit);
     const place = byId("why");
+    const own = cell.closest("tr");
+    place.closest("tr")?.remove();
+    const columns = own.childElementCount;
+    own.after(make("tr", {class: "reason-row"}, make("td", {colspan: columns}, place)));
     place.replaceChildren(
         make("p", {}, reasonInWords(reason, plainName(row.sid, context.names), context.kind, context.texts),
             reason.by === "ace" ? [" ", jumpTo("dacl", reason.number)] : null));
@@ -265,65 +307,6 @@ export function showReason(row, bit, context) {
     if (reason.by === "ace") {
         byId(`dacl-${reason.number}`)?.classList.add("found");
     }
-}
-
-function ownerLine(part, found, names) {
-    return [
-        make("dt", {}, valueIn(WORDS.parts, part)),
-        make("dd", {}, found ? who(found.sid, found.alias, names) : WORDS.parts.none)
-    ];
-}
-
-const controlWord = (control) => `0x${control.toString(16).padStart(4, "0")}`;
-
-function control(model) {
-    return [
-        make("dt", {}, WORDS.parts.control),
-        make("dd", {}, make("code", {}, controlWord(model.control)), " ",
-            model.codes.map(
-                (code) => [make("span", {class: "tag", title: code}, valueIn(WORDS.codes, code) ?? code), " "])),
-        model.manager === "0x00" ?
-            null :
-            [make("dt", {}, WORDS.parts.manager), make("dd", {}, make("code", {}, model.manager))]
-    ];
-}
-
-const COUNTED = {
-    absent: "Absent",
-    null: "Null",
-    list: "Empty"
-};
-
-function listSection(list, result, kind, names, later) {
-    const acl = result.model[list];
-    const title = valueIn(WORDS.parts, list);
-    const text = acl.count ? null :
-                             make("p", {class: list === "dacl" && acl.state !== "list" ? "everyone" : ""},
-                                 valueIn(WORDS.parts, list + valueIn(COUNTED, acl.state)));
-    return make("section", {"aria-labelledby": `${list}-heading`},
-        make("h3", {id: `${list}-heading`}, title, " ",
-            make("small", {},
-                acl.state === "list" ? say(acl.count === 1 ? WORDS.parts.one : WORDS.parts.list, {count: acl.count}) :
-                                       valueIn(WORDS.parts, acl.state))),
-        text ?? aceTable(title, acl.aces, kind, names, later));
-}
-
-function exactTexts(result) {
-    const line = (label, text) => make("details", {}, make("summary", {}, label), make("pre", {class: "exact"}, text));
-    return make("section", {class: "texts"},
-        make("p", {}, make("code", {class: "whole"}, shortened(result.sddl, MOST_SDDL))),
-        line("hex", shortened(result.hex, MOST_HEX)));
-}
-
-function words(result, kind, names, later) {
-    const section = make("section", {class: "words", "aria-labelledby": "words-heading"},
-        heading(WORDS.parts.heading, "words-heading"), exactTexts(result),
-        make("dl", {}, ownerLine("owner", result.model.owner, names), ownerLine("group", result.model.group, names),
-            control(result.model)));
-    for (const list of ["dacl", "sacl"]) {
-        afterwards(later, () => section.append(listSection(list, result, kind, names, later)));
-    }
-    return section;
 }
 
 // What was left out of the text, so that nobody takes it for read.
@@ -356,28 +339,25 @@ function writtenAces({written, place}) {
         make("p", {class: "hint"}, WORDS.error.writtenHint), list, more);
 }
 
-export function showFault(place, result, {onSelect, onDomain}) {
-    const needsDomain = result.fault.number === 23 ?
-        make("p", {}, button(say(WORDS.error.domain, {domain: STAND_IN_DOMAIN}), () => onDomain(STAND_IN_DOMAIN)), " ",
-            make("small", {}, WORDS.error.domainHint)) :
-        null;
+export function showFault(place, result, {onSelect}) {
+    const isTold = !["refused", "none"].includes(result.judged.key);
     show(place,
         make("section", {class: "refused", "aria-labelledby": "refused-heading"},
-            heading(WORDS.error.heading, "refused-heading"), make("p", {}, WORDS.error.intro),
-            result.isListing ? make("p", {class: "listing"}, WORDS.error.listing) : null,
-            faultBox(result.fault, result.place, needsDomain,
+            heading(isTold ? WORDS.error.headingOfConditions : WORDS.error.heading, "refused-heading"),
+            make("p", {}, isTold ? WORDS.text.depends : WORDS.error.intro),
+            faultBox(result.fault, result.place,
                 result.form === "sddl" && onSelect ? button(WORDS.error.go, () => onSelect(result.place)) : null),
-            result.isListing ? null : writtenAces(result)));
+            result.other ? null : writtenAces(result)));
 }
 
 // The promise ends when all is shown.
 export function showLook(place, result, context, isOver) {
     const {kind, names} = context;
     const {rows, rights} = result.grid;
-    const count = rows.length * bitsOf(rights).length + result.model.dacl.count + result.model.sacl.count;
+    const count = rows.length * bitsOf(rights).length;
     const parts = [
-        () => summary(result, kind, names), () => warnings(result, kind, names),
-        (later) => gridSection(result, context, later), (later) => words(result, kind, names, later)
+        () => trustees(result, kind, names), () => warnings(result, kind, names),
+        (later) => gridSection(result, context, later)
     ];
     return showParts(place, count, parts, isOver);
 }

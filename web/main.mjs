@@ -4,17 +4,20 @@ import {hasVectors} from "../javascript/sdtool.mjs";
 
 import {makeAsk, showAsk, showAskRights} from "./ask_view.mjs";
 import {makeCompare, showCompare} from "./compare_view.mjs";
-import {linesOf} from "./desk.mjs";
-import {area, box, button, byId, input, labelled, make, select, show} from "./dom.mjs";
+import {linesOf, STAND_IN_DOMAIN} from "./desk.mjs";
+import {area, box, button, byId, input, isField, labelled, make, select, show} from "./dom.mjs";
 import {rangeIn} from "./faults.mjs";
 import {makeInherit, showInherit} from "./inherit_view.mjs";
 import {LinesView} from "./lines_view.mjs";
-import {foundText, showFault, showLook, showReason, spokenSummary} from "./look_view.mjs";
+import {foundText, showFault, showLook, showReason} from "./look_view.mjs";
 import {faultInWords, namesOfReport, ownNames, shownName, visible} from "./naming.mjs";
 import {commaed, formatted, isLarge, longField} from "./parts_view.mjs";
 import {nameOfObject, objectWords, placeOfObject, ReportView} from "./report_view.mjs";
 import {kindQuestion} from "./kind_view.mjs";
 import {isDirectory} from "./meanings.mjs";
+import {showAce, showText, showWritten} from "./text_view.mjs";
+import {oneOfMany, showMany, showVerdictOfMany} from "./many_view.mjs";
+import {makeVerdict, showSentence, showVerdict} from "./verdict_view.mjs";
 import {knownGuids} from "./schema.mjs";
 import {addressOf, commandLine, takeAddress} from "./sharing.mjs";
 import {freshState, MOST_LIST} from "./state.mjs";
@@ -26,6 +29,7 @@ const MOST_UNREAD = 8;        // words of an address
 const MOST_UNREAD_TEXT = 100; // characters of each
 const MOST_COPIED = 200_000;  // characters that are shown at once of what is copied
 const MILLISECONDS_TO_TELL = 300;
+const THEMES = ["light", "dark"];
 const ANSWERED = ["ask", "inherit", "compare"]; // views that ask a question of their own
 const EXAMPLES = {
     folder: [
@@ -51,6 +55,9 @@ const EXAMPLES = {
 
 // What is older than the question, and so is not seen.
 const OLDER = "older";
+
+// What else is shown of a text.
+const OF_TEXT = ["found", "print-head", "first", "lines", "ace-words"];
 
 // Where the answer of a view is shown.
 const placeOf = (view) => byId(view === "look" ? "view-look" : `${view}-result`);
@@ -118,7 +125,8 @@ class Page {
             isCommon: this.state.common,
             texts: linesOf(this.result?.texts),
             made: this.state.made,
-            onCell: (row, right) => showReason(row, right.bit, this.context),
+            onCell: (row, right, cell) => showReason(row, right.bit, this.context, cell),
+            onAce: (ace) => showAce(ace, this.context),
             onKind: (kind) => this.answerKind(kind),
             onAll: () => this.set("all", true),
         };
@@ -150,19 +158,29 @@ class Page {
             {"aria-describedby": "text-hint found", clear: () => this.open("", "auto")});
         const names =
             longField("names", state.names, setter("names"), {most: MOST_LIST, "aria-describedby": "names-hint"});
-        show(byId("input"), labelled(WORDS.inputLabel, this.text.field, WORDS.inputHint), this.text.note,
-            make("p", {class: "adds"}, WORDS.examples, ": ", Object.entries(WORDS.examplesPlain).map(([name,
-                label]) => [button(label, () => this.example(name), {class: "add", id: `example-${name}`}), " "]),
-                button(WORDS.clear, () => this.open("", "auto"), {class: "add", id: "clear"})),
-            make("div", {class: "row"},
-                labelled(WORDS.kindLabel, select("kind", WORDS.kinds, state.kind, setter("kind")), WORDS.kindHint),
-                labelled(WORDS.formLabel, select("form", WORDS.forms, state.form, setter("form"))),
-                make("div", {id: "chosen-field", hidden: true})),
+        show(byId("first"), makeVerdict(state.kind, setter("kind")));
+        byId("first").hidden = true;
+        show(byId("input"), make("h2", {id: "text-heading"}, WORDS.text.heading, " ", make("small", {id: "text-name"})),
+            make("div", {id: "chosen-field", hidden: true}),
+            make("div", {id: "field"}, labelled(WORDS.inputLabel, this.text.field, WORDS.inputHint), this.text.note,
+                make("p", {class: "adds"}, WORDS.examples, ": ", Object.entries(WORDS.examplesPlain).map(([name,
+                    label]) => [button(label, () => this.example(name), {class: "add", id: `example-${name}`}), " "]),
+                    button(WORDS.clear, () => this.open("", "auto"), {class: "add", id: "clear"}), " ",
+                    button(WORDS.text.done, () => this.fold(true), {class: "add", id: "done"}))),
+            make("div", {id: "lines", hidden: true}), make("div", {id: "ace-words", class: "ace-words", hidden: true}),
+            make("p", {id: "found", class: "found"}, WORDS.waiting),
+            make("div", {id: "share", class: "share"},
+                [
+                    ["another", () => this.another()], ["text", () => this.copyText()], ["link", () => this.copyLink()],
+                    ["command", () => this.copyCommand()], ["print", () => window.print()]
+                ].map(([name, act]) => [button(valueIn(WORDS.share, name), act, {id: `share-${name}`}), " "])),
+            make("div", {id: "copied", class: "copied", hidden: true}),
             this.unread.length ?
                 make("p", {id: "unread", class: "warning caution", role: "status"}, this.unreadWords()) :
                 null,
             make("details", {id: "more-options", open: this.hasOptions}, make("summary", {}, WORDS.moreOptions),
                 make("div", {class: "row"},
+                    labelled(WORDS.formLabel, select("form", WORDS.forms, state.form, setter("form"))),
                     labelled(WORDS.domainLabel,
                         input("domain", state.domain, setter("domain"), {"aria-describedby": "domain-hint"}),
                         WORDS.domainHint),
@@ -178,9 +196,31 @@ class Page {
                             input("classes", state.classes, setter("classes"), {"aria-describedby": "classes-hint"}),
                             WORDS.classesHint))),
                 box("common", WORDS.commonLabel, state.common, setter("common")),
-                labelled(WORDS.namesLabel, names.field, WORDS.namesHint), names.note),
-            make("div", {id: "opened", class: "opened", hidden: true}),
-            make("p", {id: "found", class: "found"}, WORDS.waiting));
+                labelled(WORDS.namesLabel, names.field, WORDS.namesHint), names.note));
+        this.fold(state.text !== "");
+    }
+
+    // Shows the field, or in its place the text line by line, once there is an answer.
+    fold(isFolded) {
+        this.isFolded = isFolded;
+        this.showFolded();
+    }
+
+    showFolded() {
+        const isText = this.isFolded && byId("lines").childElementCount > 0;
+        byId("page").classList.toggle("is-folded", isText);
+        byId("page").classList.toggle("has-answer", !byId("first").hidden);
+        byId("field").hidden = isText;
+        byId("lines").hidden = !isText;
+        byId("ace-words").hidden = !isText || !byId("ace-words").childElementCount;
+        byId("done").hidden = !byId("lines").childElementCount;
+    }
+
+    // Opens the field, so that what is pasted next takes the place of what is in it.
+    another() {
+        this.fold(false);
+        byId("text").focus();
+        byId("text").select();
     }
 
     unreadWords() {
@@ -202,7 +242,9 @@ class Page {
         showAskRights(this.state.ask, this.shownKind, refresh);
         byId("ask-result").hidden = true;
         show(byId("view-inherit"), makeInherit(this.state.made, refresh));
-        show(byId("view-compare"), makeCompare(this.state.other, refresh));
+        const compared = makeCompare(this.state.other, refresh);
+        show(byId("view-compare"), compared.parts);
+        this.putOther = compared.put;
         show(byId("view-lines"), this.linesView.make());
         this.linesView.showOptions();
         if (this.reportView && !byId("view-report").firstChild) {
@@ -211,25 +253,24 @@ class Page {
         show(byId("tabs"),
             this.views.map((view) => button(valueIn(WORDS.tabs, view), () => this.choose(view),
                                {role: "tab", id: `tab-${view}`, "aria-controls": `view-${view}`})));
-        show(byId("share"), [
-            ["link", () => this.copyLink()], ["command", () => this.copyCommand()], ["print", () => window.print()]
-        ].map(([name, act]) => [button(valueIn(WORDS.share, name), act, {id: `share-${name}`}), " "]));
     }
 
     listen() {
         byId("tabs").addEventListener("keydown", (event) => this.moveTab(event));
         window.addEventListener("dragover", (event) => event.preventDefault());
         window.addEventListener("drop", (event) => this.drop(event));
+        window.addEventListener("paste", (event) => this.paste(event));
+        ["pointerover", "focusin"].forEach((name) => byId("page").addEventListener(name, ({target}) => tie(target)));
         window.addEventListener("hashchange", () => this.takeHash());
         // By its address it would set the page anew.
         document.querySelector(".skip").addEventListener("click", (event) => {
             event.preventDefault();
-            byId("text").focus();
+            this.another();
         });
         byId("theme").addEventListener("click", () => {
             const isDark = document.documentElement.dataset.theme === "dark" ||
                 (!document.documentElement.dataset.theme && matchMedia("(prefers-color-scheme: dark)").matches);
-            document.documentElement.dataset.theme = isDark ? "light" : "dark";
+            keepTheme(isDark ? "light" : "dark");
         });
     }
 
@@ -286,9 +327,25 @@ class Page {
     drop(event) {
         event.preventDefault();
         const file = event.dataTransfer?.files?.[0];
+        const text = event.dataTransfer?.getData("text") ?? "";
         if (file) {
             this.choose("lines");
             this.linesView.take(file);
+        } else if (text && !isField(event.target)) {
+            this.open(text, "auto");
+        }
+    }
+
+    // A paste anywhere but into a field is a new text. One that takes the place of all in the field is one too.
+    paste(event) {
+        const text = event.clipboardData?.getData("text") ?? "";
+        const field = byId("text");
+        const isAll = event.target === field && field.selectionEnd - field.selectionStart === field.value.length;
+        if (isAll) {
+            this.isFolded = true;
+        } else if (text && !isField(event.target)) {
+            event.preventDefault();
+            this.open(text, "auto");
         }
     }
 
@@ -301,6 +358,7 @@ class Page {
             this.takeKind(kind);
         }
         this.text.put(text);
+        this.isFolded = text !== "";
         this.choose("look");
         this.refresh();
     }
@@ -389,7 +447,7 @@ class Page {
             this.state.kind = freshState().kind; // what an older text told
         }
         clearTimeout(this.slow);
-        this.slow = setTimeout(() => this.tell(WORDS.busy), MILLISECONDS_TO_TELL);
+        this.slow = setTimeout(() => this.tellBusy(), MILLISECONDS_TO_TELL);
         return this.counted(async () => {
             const result = await this.desk.ask("look", this.shared).catch((error) => ({error}));
             if (!result || turn.isOver("look")) {
@@ -416,7 +474,7 @@ class Page {
             placeOf(view).classList.add(OLDER);
         }
         if (views.includes("look")) {
-            [byId("found"), byId("print-head")].forEach((element) => element.classList.add(OLDER));
+            OF_TEXT.forEach((id) => byId(id).classList.add(OLDER));
             clearTimeout(this.speaking);
             byId("spoken").textContent = "";
         }
@@ -431,6 +489,8 @@ class Page {
         for (const view of ["look", ...ANSWERED]) {
             this.show(view, make("p", {class: "fault-name"}, errorWords(error)));
         }
+        showSentence("unknown", errorWords(error));
+        this.showLines(null);
         this.tell(errorWords(error));
     }
 
@@ -445,10 +505,16 @@ class Page {
         byId("view-look").hidden = this.state.view !== "look";
     }
 
-    tell(text) {
+    tell(text, spoken = text) {
         byId("found").textContent = text;
+        OF_TEXT.forEach((id) => byId(id).classList.remove(OLDER));
+        this.speak(spoken);
+    }
+
+    tellBusy() {
+        byId("found").textContent = WORDS.busy;
         byId("found").classList.remove(OLDER);
-        this.speak(text);
+        this.speak(WORDS.busy);
     }
 
     // What a screen reader says, a moment after the last key.
@@ -464,29 +530,114 @@ class Page {
         this.showChosen(result);
         this.showPrintHead(result);
         document.body.classList.toggle("has-result", Boolean(result.model));
+        const said = result.judged ? showVerdict(result, this.context) : "";
+        this.showMany(result, turn);
+        byId("text-name").textContent = shownName(result.entry?.name ?? "");
+        this.showLines(result);
         if (result.domainFault) {
             this.show("look");
+            showSentence("unknown", WORDS.verdict.domain);
+            this.showFolded();
             this.tell(say(WORDS.domainFault, {fault: faultInWords(result.domainFault)}));
         } else if (result.isEmpty) {
             this.show("look");
+            byId("first").hidden = true;
+            this.showFolded();
             this.tell(WORDS.waiting);
         } else if (result.fault) {
-            showFault(byId("view-look"), result, {
-                onSelect: isLarge(this.state.text) ? null : (place) => this.select(place),
-                onDomain: (domain) => this.takeDomain(domain)
-            });
+            const onSelect = isLarge(this.state.text) ? null : (place) => this.select(place);
+            showFault(byId("view-look"), result, {onSelect});
             this.isNew("look");
-            this.tell(`${faultInWords(result.fault)} ${foundText(result)}`);
+            this.tell(`${faultInWords(result.fault)} ${foundText(result)}`, said);
         } else if (result.asksKind) {
-            this.show("look", kindQuestion("look", result, this.context.onKind));
-            this.tell(`${foundText(result)} ${valueIn(WORDS.kindAsked, result.asksKind)}`);
+            this.show("look", make("p", {class: "hint"}, WORDS.text.choose));
+            this.tell(foundText(result), said);
         } else {
             shown = showLook(byId("view-look"), result, this.context, () => turn.isOver("look"));
             this.isNew("look");
-            this.tell(`${foundText(result)}${result.objectFault ? " " + WORDS.objectFault : ""}`);
-            this.speak(`${byId("found").textContent} ${spokenSummary(result, this.state.kind, this.names)}`);
+            this.tell(`${foundText(result)}${result.objectFault ? " " + WORDS.objectFault : ""}`, said);
         }
         await shown;
+    }
+
+    // Asks for the verdicts on all descriptors of a text, some at a time, and shows them as they come.
+    async showMany({found = 0}, turn) {
+        const about = this.aboutMany;
+        if (this.many && Object.entries(about).every(([name, value]) => valueIn(this.many.about, name) === value)) {
+            this.showAll();
+            return;
+        }
+        [byId("many"), byId("one")].forEach((place) => show(place));
+        this.many = null;
+        if (found < 2) {
+            return;
+        }
+        const many = {about, rows: [], all: found, most: 0, next: 0, filter: ""};
+        this.many = many;
+        do {
+            const got = await this.desk.ask("many", {state: this.shared, from: many.next}).catch(() => null);
+            if (!got || this.many !== many) {
+                return;
+            }
+            many.rows.push(...linesOf(got.rows).map((text) => JSON.parse(text)));
+            Object.assign(many, {next: got.next, most: got.most});
+        } while (many.next < many.most);
+        if (!turn.isOver("look")) {
+            this.showAll();
+        }
+    }
+
+    // What the verdicts on all descriptors depend on.
+    get aboutMany() {
+        const {text, form, kind, isKindChosen, domain, classes} = this.state;
+        return {text, form, kind: isKindChosen ? kind : "", domain, classes};
+    }
+
+    showAll() {
+        const {many} = this;
+        if (many.next < many.most || !many.rows.length) {
+            return;
+        }
+        this.speak(showVerdictOfMany(many.rows, many));
+        const one = many.rows[this.state.chosen];
+        show(byId("one"), one && oneOfMany(one, this.names));
+        showMany(many.rows, {
+            names: this.names,
+            filter: many.filter,
+            onOpen: (at) => this.set("chosen", at),
+            onFilter: (verdict) => {
+                many.filter = verdict;
+                this.showAll();
+                byId(`many-${verdict || "all"}`)?.focus();
+            },
+            onCompare: () => this.compareTwo(),
+        });
+    }
+
+    // Compares the two descriptors of a text.
+    compareTwo() {
+        const {text, form} = this.state;
+        this.state.chosen = 0;
+        Object.assign(this.state.other, {text, form, chosen: 1});
+        this.putOther(text);
+        this.choose("compare");
+    }
+
+    // Shows the text of a descriptor line by line, and the ACE that its verdict is about in words.
+    showLines(result) {
+        show(byId("lines"));
+        show(byId("ace-words"));
+        if (result?.model) {
+            showText(result, this.context);
+            const [number] = result.judged.numbers ?? [];
+            const ace = linesOf(result.model.dacl.aces)[(number ?? 1) - 1];
+            if (ace) {
+                showAce(JSON.parse(ace), this.context);
+            }
+        } else if (result?.asksKind) {
+            showWritten(result.written);
+        }
+        this.showFolded();
     }
 
     // Which of several descriptors is shown, by a list, or by its number if there are too many. The control stays the
@@ -519,18 +670,13 @@ class Page {
 
     // The place of a fault, in the field.
     select(place) {
+        this.fold(false);
         const field = byId("text");
         const range = rangeIn(field.value, place);
         field.focus();
         if (range) {
             field.setSelectionRange(range[0], range[1]);
         }
-    }
-
-    takeDomain(domain) {
-        byId("domain").value = domain;
-        byId("more-options").open = true;
-        this.set("domain", domain);
     }
 
     // The question of the view that is open. The first view was answered already.
@@ -603,6 +749,8 @@ class Page {
         }
     }
 
+    copyText() { this.copy(this.result?.sddl ?? this.state.text, WORDS.share.text); }
+
     // Nothing else writes into the address, and so into the history of a browser.
     copyLink() {
         const text = addressOf(this.state, freshState());
@@ -638,7 +786,8 @@ class Page {
             return;
         }
         const look = {form: result?.form ?? "sddl", line: result?.line ?? ""};
-        this.copy(commandLine(state, look, asked), WORDS.share.command);
+        const domain = result?.isStandIn ? STAND_IN_DOMAIN : state.domain;
+        this.copy(commandLine({...state, domain}, look, asked), WORDS.share.command);
     }
 
     showPrintHead(result) {
@@ -647,6 +796,42 @@ class Page {
             make("p", {}, `${WORDS.print.text}: `, make("code", {}, visible((result.line ?? "").slice(0, 3000)))));
         byId("print-head").hidden = false;
         byId("print-head").classList.remove(OLDER);
+    }
+}
+
+// Marks the ACEs that something tells of, and what tells of an ACE.
+function tie(target) {
+    const about = target.closest?.("[data-aces], [data-ace]");
+    document.querySelectorAll(".tied").forEach((one) => one.classList.remove("tied"));
+    if (!about) {
+        return;
+    }
+    const numbers = (about.dataset.aces ?? about.dataset.ace).split(" ").filter(Boolean);
+    const others = about.dataset.ace ? numbers.map((number) => `[data-aces~="${number}"]`) :
+                                       numbers.map((number) => `[data-ace="${number}"]`);
+    if (others.length) {
+        [about, ...document.querySelectorAll(others.join(", "))].forEach((one) => one.classList.add("tied"));
+    }
+}
+
+// A theme that somebody chose is kept, where the browser keeps something for this page.
+function keepTheme(theme) {
+    document.documentElement.dataset.theme = theme;
+    try {
+        localStorage.setItem("theme", theme);
+    } catch {
+        // It is that of this page alone.
+    }
+}
+
+function takeTheme() {
+    try {
+        const theme = localStorage.getItem("theme");
+        if (THEMES.includes(theme)) {
+            document.documentElement.dataset.theme = theme;
+        }
+    } catch {
+        // The browser's own theme counts.
     }
 }
 
@@ -669,6 +854,7 @@ function forbidConnections() {
 
 async function begin() {
     forbidConnections();
+    takeTheme();
     document.documentElement.lang = WORDS.language;
     document.title = WORDS.title;
     fillWords();

@@ -147,3 +147,20 @@ export function faultInWords(fault) {
         (word) => word || word === "");
     return `${meaning} (${line.join(" ")})`;
 }
+
+// A place in a text or in bytes.
+export function placeInWords(place) {
+    const {error} = WORDS;
+    const part = place.part ? valueIn(error.where, place.part) : null;
+    const where = place.ace ? say(error.ace, {number: place.ace, part}) : part;
+    const field = place.field ? valueIn(error.fields, place.field) : null;
+    return field && where ? say(error.field, {field, place: where}) : field ?? where;
+}
+
+// What a refused type of ACE is called, if the place is one.
+export function refusedKind(fault, place) {
+    const name = place.type === undefined ? valueIn(WORDS.refusedKinds, place.kind) :
+                                            valueIn(WORDS.refusedTypes, place.type) ?? WORDS.unknownKind;
+    const kind = place.type === undefined ? place.kind : `type ${place.type}`;
+    return name && [12, 20, 29].includes(fault.number) ? {kind: visible(kind), name} : null;
+}

@@ -1,8 +1,16 @@
 // Pieces that several views share: a SID, an ACE, a list of ACEs, a fault.
-import {linesOf} from "./desk.mjs";
-import {area, button, make, show, someRows, tooLong} from "./dom.mjs";
+import {area, button, make, show, tooLong} from "./dom.mjs";
 import {maskText} from "./library.mjs";
-import {faultInWords, guidInWords, labelInWords, nameOf, rightsInWords, visible, whereOf} from "./naming.mjs";
+import {
+    faultInWords,
+    guidInWords,
+    labelInWords,
+    nameOf,
+    placeInWords,
+    refusedKind,
+    rightsInWords,
+    visible
+} from "./naming.mjs";
 import {MOST_TEXT} from "./state.mjs";
 import {valueIn} from "./tables.mjs";
 import {say, WORDS} from "./words.mjs";
@@ -80,7 +88,8 @@ export const plainName = (sid, names) => nameOf(sid, names);
 
 export const commaed = (words) => words.join(", ");
 
-function kindOf(ace) {
+// What an ACE does, and whether it audits success or failure.
+export function wordOfKind(ace) {
     const audits = ace.flags.map((flag) => valueIn(WORDS.audits, flag)).filter(Boolean);
     const isAudit = ace.kind === "AU" || ace.kind === "OU";
     return valueIn(WORDS.aceKinds, ace.kind) + (isAudit && audits.length ? ` ${commaed(audits)}` : "");
@@ -93,29 +102,6 @@ export function aceRights(ace, kind) {
         make("div", {class: "object"}, say(WORDS.object, {name: guidInWords(ace.object, ace.meaning)})) :
         null;
     return [make("span", {}, commaed(words)), generic, " ", make("code", {class: "mask"}, maskText(ace.mask)), object];
-}
-
-export function aceRow(ace, kind, names) {
-    const {number, kind: label, who: whom, rights, where, origin, text: exact} = WORDS.parts.columns;
-    const cell = (name, heading, ...children) => make("td", {class: name, "data-label": heading}, ...children);
-    return make("tr", {class: `ace ${kindClass(ace.kind)}`, id: `${ace.list}-${ace.number}`, tabindex: "-1"},
-        make("th", {scope: "row", "data-label": number}, ace.number),
-        cell("kind", label, make("span", {class: "badge"}, kindOf(ace))),
-        cell("whom", whom, who(ace.sid, ace.alias, names)), cell("rights", rights, aceRights(ace, kind)),
-        cell("where", where, whereOf(kind, ace)),
-        cell("origin", origin, ace.flags.includes("ID") ? WORDS.origin.inherited : WORDS.origin.own),
-        cell("exact", exact, make("code", {}, ace.text)));
-}
-
-// A table of ACEs, as the desk sends them.
-export function aceTable(caption, aces, kind, names, later) {
-    const body = make("tbody");
-    const headings = Object.values(WORDS.parts.columns).map((text) => make("th", {scope: "col"}, text));
-    const table = make("table", {class: "aces"}, make("caption", {class: "unseen"}, caption),
-        make("thead", {}, make("tr", {}, headings)), body);
-    const more = someRows(body, linesOf(aces), (line) => aceRow(JSON.parse(line), kind, names),
-        (count) => say(WORDS.parts.more, {count}), {later});
-    return [make("div", {class: "scroll", tabindex: "0", role: "region", "aria-label": caption}, table), more];
 }
 
 // A text with the place that is marked, and no more of it than one can look at.
@@ -131,30 +117,13 @@ export function markedText({text, start, end}) {
         end + AROUND < text.length ? " .." : "");
 }
 
-export function placeInWords(place) {
-    const {error} = WORDS;
-    const part = place.part ? valueIn(error.where, place.part) : null;
-    const where = place.ace ? say(error.ace, {number: place.ace, part}) : part;
-    const field = place.field ? valueIn(error.fields, place.field) : null;
-    return field && where ? say(error.field, {field, place: where}) : field ?? where;
-}
-
-// What a refused type of ACE is called, if the place is one.
-export function refusedKind(fault, place) {
-    const name = place.type === undefined ? valueIn(WORDS.refusedKinds, place.kind) :
-                                            valueIn(WORDS.refusedTypes, place.type) ?? WORDS.unknownKind;
-    const kind = place.type === undefined ? place.kind : `type ${place.type}`;
-    return name && [12, 20, 29].includes(fault.number) ? say(WORDS.error.unsupported, {kind: visible(kind), name}) :
-                                                         null;
-}
-
 const NO_SUCH_KIND = 29;
 
 export function faultBox(fault, place, ...more) {
     const [kind, where] = [refusedKind(fault, place), placeInWords(place)];
     const suggestion = valueIn(WORDS.faults, kind ? NO_SUCH_KIND : fault.number)?.[1];
     return make("div", {class: "fault"}, make("p", {class: "fault-name"}, make("strong", {}, faultInWords(fault))),
-        kind && make("p", {}, kind),
+        kind && make("p", {}, say(WORDS.error.unsupported, kind)),
         make("p", {}, where ? say(WORDS.error.place, {place: where}) : WORDS.error.unplaced), markedText(place),
         suggestion ? make("p", {}, say(WORDS.error.suggestion, {text: suggestion})) : null, ...more);
 }

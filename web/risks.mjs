@@ -191,7 +191,7 @@ const isFolder = (kind, aces) => kind === "folder" ||
 
 // What is asked about a descriptor: the trustees here and below, those of a folder who get no right to change its files
 // by what counts here, and what is left of the list without Windows' own ACEs.
-function caseOf(model, options) {
+export function caseOf(model, options) {
     const {kind, domain} = options;
     const [here, filing, below, kept] = [new Set(), new Set(), new Map(), []];
     const inherited = inheritedBy(kind);

@@ -32,13 +32,18 @@ export const changing = (kind) => doing(kind, "change");
 
 const numbersOf = (aces) => aces.map((ace) => ace.number);
 
-// What the rules find. A right that is one of an object type is told with it.
-function ofRisks(library, model, options) {
+// What the rules find of an object, whose class may be unknown.
+export function findingsOf(library, model, options) {
+    const find = options.kind === "ds" && options.classes.length === 0 ? risksOfAny : risksOf;
+    return find(library, model, options);
+}
+
+// What the rules find, as warnings. A right that is one of an object type is told with it.
+function ofRisks(findings, model) {
     const aliases =
         new Map([model.owner, ...model.dacl.aces].filter((one) => one?.alias).map(({sid, alias}) => [sid, alias]));
-    const find = options.kind === "ds" && options.classes.length === 0 ? risksOfAny : risksOf;
-    return find(library, model, options)
-        .map(({rule, severity, who, numbers, mask, whole, object, says, isBelow, kind, onlyOf, exceptOf}) => ({
+    return findings.map(
+        ({rule, severity, who, numbers, mask, whole, object, says, isBelow, kind, onlyOf, exceptOf}) => ({
             key: object && !says ? `${rule} type` : rule,
             rule,
             level: valueIn(LEVEL_OF, severity),
@@ -192,10 +197,10 @@ function ofUnnamedRights(model, grid) {
 
 const LEVELS = ["danger", "caution", "note"];
 
-export function warningsOf(library, descriptor, model, grid, options) {
-    const {kind, domain, object, place} = options;
+export function warningsOf(library, descriptor, model, grid, findings, options) {
+    const {kind, domain, object} = options;
     const all = [
-        ...ofRisks(library, model, {kind, domain, ...place}),
+        ...ofRisks(findings, model),
         ...ofOrder(model),
         ...ofUseless(model, kind),
         ...ofMaskZero(model),

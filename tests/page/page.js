@@ -41,6 +41,8 @@ const see = async (text) => {
     put("text", text);
     await until(isIdle);
 };
+// All that is shown of a text in the first view.
+const shownOf = () => ["first", "view-look", "lines", "ace-words"].map((id) => byId(id).textContent).join(" ");
 const bytesOf = (text) => Uint8Array.from(atob(text), (character) => character.charCodeAt(0));
 const textOf = (bytes) => {
     let text = "";
@@ -236,7 +238,7 @@ async function whileBusy(act) {
 
 async function longLine(...given) {
     const times = await whileBusy(() => pasteInto("text", given[0]));
-    const shown = first("#dacl-heading small") ?? byId("view-look");
+    const shown = byId("dacl-count") ?? byId("first");
     return {...times, aces: shown.textContent.slice(0, 200)};
 }
 
@@ -419,7 +421,7 @@ async function openRow(...given) {
     await until(isIdle);
     const got = {
         opened: byId("opened").textContent,
-        look: byId("view-look").textContent,
+        look: shownOf(),
         cells: document.querySelectorAll("button.cell").length,
         sddl: first(".words code.whole")?.textContent ?? ""
     };
@@ -566,7 +568,8 @@ function said(view) {
     const question = place.querySelector("[data-kind]")?.closest("section");
     question?.remove();
     return {
-        asks: Boolean(question),
+        asks: view === "look" ? Boolean(first("#chips [data-kind]")) : Boolean(question),
+        sentence: byId("sentence").textContent,
         text: place.textContent,
         kind: byId("kind").value,
         boxes: byId("ask-rights").textContent,
@@ -586,7 +589,9 @@ async function openKind(...given) {
     byId("share-command").click();
     await until(() => byId("copied").textContent !== "");
     const command = byId("copied-text")?.value ?? "";
-    answerOf(view).querySelector(`[data-kind=${kind}]`)?.click();
+    const chip = (view === "look" ? byId("chips") : answerOf(view)).querySelector(`[data-kind=${kind}]`);
+    if (chip) chip.click();
+    else put("kind", kind);
     await until(isIdle);
     return {
         before,
@@ -594,6 +599,7 @@ async function openKind(...given) {
         after: said(view),
         names,
         faint,
+        isChip: Boolean(chip),
         focus: document.activeElement.id,
         copied: byId("copied").textContent
     };

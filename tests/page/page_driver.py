@@ -119,7 +119,7 @@ class Page:
 
     def see(self, text):
         """Puts a text into the field and waits for the answer."""
-        return self.do("await see(given[0]); return byId('view-look').textContent;", text)
+        return self.do("await see(given[0]); return shownOf();", text)
 
     def view(self, name):
         self.do(f"byId('tab-{name}').click();")

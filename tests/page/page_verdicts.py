@@ -1,0 +1,218 @@
+"""Asks the page for its first line: who can change an object, and how grave that is. It asks in Node, over the module
+that `make wasm` builds. Each case of the verdict has rows with its sentence, worked out by hand. Each row of
+windows/examples.toml, and each class of Windows' schema if Debian's samba-ad-provision is there, has the verdict that
+its findings and their severities give, and what Windows itself sets is never grave.
+Without Node or the module it is skipped in a line.
+"""
+import functools
+import json
+import os
+import pathlib
+import shutil
+import subprocess
+import tomllib
+
+import preload
+import risk_rows
+
+TOP = pathlib.Path(__file__).resolve().parents[2]
+SCRIPT = pathlib.Path(__file__).resolve().with_suffix(".mjs")
+SECONDS = 1200
+
+ACCOUNT = "S-1-5-21-1-2-3-1105"
+RESET = "00299570-246d-11d0-a768-00aa006e0529"  # User-Force-Change-Password
+FOLDER = "C:\\Data "
+BASE = "(A;OICI;FA;;;SY)(A;OICI;FA;;;BA)"
+ONLY = "Only administrators and the system can change this folder"
+# The text, the verdict and the sentence.
+ROWS = [
+    # No descriptor, or one that is refused.
+    ("hello", "unknown", "This is no security descriptor"),
+    ("Path Owner Access\n---- ----- ------\nData CORP\\ann BUILTIN\\Users Allow  FullControl", "unknown",
+     "This is the table of Get-Acl, which leaves the descriptor out"),
+    ("Data CORP\\Sales:(OI)(CI)(F)", "unknown", "This listing of icacls has names that need SIDs"),
+    ("C:\\Data", "unknown", "This is a path, without its descriptor"),
+    ("D:(A;;FA;;;BA)(A;;FR;;;)", "unknown", "Can't be read: ACE 2 has no trustee."),
+    ("D:(A;;FA;;;Everyone)", "unknown", "Can't be read: ACE 1: \u201cEveryone\u201d is no SID."),
+    ("D:(A;;XX;;;BA)", "unknown", "Can't be read: ACE 1: \u201cXX\u201d are no rights."),
+    # Conditions.
+    ('O:BAG:SYD:(XA;;FA;;;WD;(@User.Title=="PM"))(A;;FA;;;BA)', "unknown",
+     "Depends on the condition of ACE 1: if it holds, Everyone has full control of this folder"),
+    ('O:BAG:SYD:(XD;;FA;;;WD;(@User.Title=="PM"))(A;;FA;;;BU)', "unknown",
+     "Depends on the condition of ACE 1: unless it holds, Users have full control of this folder"),
+    ('O:BAG:SYD:(XA;;FA;;;BU;(Member_of {SID(BA)}))(A;;FA;;;WD)', "act", "Everyone has full control of this folder"),
+    ('O:BAG:SYD:(XA;;FR;;;BU;(Member_of {SID(BA)}))(A;;FA;;;BA)', "fine",
+     "Only administrators can change this folder"),
+    ('O:BAG:SYD:(A;;FA;;;BA)S:(RA;;;;;WD;("Project",TS,0,"Windows"))', "fine",
+     "Only administrators can change this folder"),
+    ('O:BAG:SYD:(XA;;FA;;;WD;(@User.Title=="PM")', "unknown",
+     "Can't be read: ACE 1: XA, conditional allow (callback), is not evaluated."),
+    # No list, or one that lets nobody in.
+    (FOLDER + "O:BAG:SYD:NO_ACCESS_CONTROL", "act", "Everyone has full control: the DACL is null"),
+    (FOLDER + "O:BAG:SY", "act", "Everyone has full control: there is no DACL"),
+    (FOLDER + "O:BAG:SYD:", "look", "Nobody gets in: the DACL is empty"),
+    (FOLDER + "O:BAG:SYD:(A;OICIIO;FA;;;BU)", "look", "Nobody gets in: no ACE allows anything here"),
+    (FOLDER + "O:BAG:SYD:(D;;FA;;;BU)", "look", "Nobody gets in: no ACE allows anything here"),
+    (FOLDER + "O:BAG:SYD:(D;;FA;;;WD)(A;;FA;;;BA)", "look", "Nobody gets in: ACE 1 denies everyone"),
+    # The owner of such a list can give itself any right.
+    (FOLDER + f"O:{ACCOUNT}G:SYD:", "look", "Account 1105 owns this folder, and so can change its permissions"),
+    # What the rules find, the worst of it.
+    ("D:\\Data\\Projects O:BAG:SYD:AI(D;;LC;;;BU)(A;OICIID;FA;;;SY)(A;OICIID;0x1301bf;;;AU)(A;OICIID;FA;;;BA)S:AI"
+     "(ML;OICI;NW;;;ME)", "act", "Authenticated Users can modify this folder and everything in it"),
+    (FOLDER + f"O:BAG:SYD:(A;OICI;0x1301bf;;;BU)(A;;FA;;;{ACCOUNT})(A;;FA;;;WD)", "act",
+     "Everyone has full control of this folder"),
+    (FOLDER + "O:BAG:SYD:(A;OICIIO;FA;;;WD)(A;;0x1301bf;;;BU)" + BASE, "act", "Users can modify this folder"),
+    (FOLDER + "O:BAG:SYD:(A;OICIIO;FA;;;BU)" + BASE, "look",
+     "Users have full control of what is made in this folder, not the object itself"),
+    (FOLDER + f"O:BAG:SYD:(A;;FA;;;{ACCOUNT})" + BASE, "look", "Account 1105 has full control of this folder"),
+    (FOLDER + f"O:BAG:SYD:(A;;WO;;;{ACCOUNT})" + BASE, "look", "Account 1105 can take ownership of this folder"),
+    (FOLDER + f"O:{ACCOUNT}G:SYD:" + BASE, "look",
+     "Account 1105 owns this folder, and so can change its permissions"),
+    (FOLDER + "O:BAG:SYD:(A;;FW;;;AC)" + BASE, "look", "All Application Packages can write this folder"),
+    # A share's files have permissions of their own.
+    ({"text": "O:BAG:SYD:(A;;FA;;;WD)", "kind": "share", "isKindChosen": True}, "look",
+     "Everyone has full control of files through this share"),
+    # Aliases of an unknown domain.
+    (FOLDER + "O:DAG:DUD:(A;;FA;;;DU)", "act", "Domain Users have full control of this folder"),
+    (FOLDER + "O:DAG:DUD:(A;;FA;;;DA)(A;;FR;;;DU)", "fine", "Only administrators can change this folder"),
+    # An ability of a directory object, and one that its class decides about.
+    ({"text": f"O:BAD:(OA;;CR;{RESET};;{ACCOUNT})", "kind": "ds", "isKindChosen": True, "classes": "user"}, "act",
+     "Account 1105 can set a new password"),
+    (f"O:BAD:(OA;;CR;{RESET};;{ACCOUNT})", "unknown",
+     "Depends on its class: if it is a user or one of 5 other classes, Account 1105 can set a new password"),
+    # Named accounts, and those who are trusted.
+    (FOLDER + f"O:BAG:SYD:(A;OICI;0x1301bf;;;{ACCOUNT})" + BASE, "named",
+     "Account 1105 can modify this folder and everything in it, beside administrators and the system"),
+    (FOLDER + f"O:BAG:SYD:(A;;0x1301bf;;;{ACCOUNT})(A;;0x1301bf;;;S-1-5-21-1-2-3-1106)(A;;FW;;;LS)" + BASE, "named",
+     "Account 1105 and 2 others can change this folder, beside administrators and the system"),
+    (FOLDER + f"D:(A;;0x1301bf;;;{ACCOUNT})", "named", "Only Account 1105 can modify this folder"),
+    (FOLDER + f"O:BAG:SYD:(D;;0x1301bf;;;{ACCOUNT})(A;;0x1301bf;;;{ACCOUNT})" + BASE, "fine", ONLY),
+    (FOLDER + "O:BAG:SYD:" + BASE, "fine", ONLY),
+    (FOLDER + "O:BAG:SYD:(A;OICIIO;GA;;;CO)(A;;0x1200a9;;;BU)" + BASE, "fine", ONLY),
+    (FOLDER + "D:(A;;FR;;;WD)", "fine", "Nobody can change this folder"),
+    (FOLDER + "D:(A;;FR;;;BA)(A;;FA;;;S-1-5-80-956008885-3418522649-1831038044-1853292631-2271478464)", "fine",
+     "Only TrustedInstaller can change this folder"),
+    # The kind is open: what all that fit have in common, or on whom it depends.
+    ("D:(A;;GA;;;WD)", "act", "Everyone has full control"),
+    ("D:(A;;WD;;;WD)", "act", "Everyone can change the permissions of this"),
+    ("D:(A;;SD;;;WD)(A;;RC;;;BU)", "act", "Everyone can delete this"),
+    (f"D:(A;;DC;;;{ACCOUNT})(A;;GA;;;SY)", "unknown", "Depends on what this is: Account 1105 may be able to change it"),
+    (f"D:(A;;DC;;;{ACCOUNT})(A;;DC;;;S-1-5-21-1-2-3-1106)(A;;DC;;;LS)", "unknown",
+     "Depends on what this is: 3 accounts may be able to change it"),
+    ("O:SYD:(A;;GA;;;BA)(A;;RC;;;BU)", "fine", "Only administrators and the system can change this"),
+]
+# What is said below the sentence.
+REASONS = [
+    ("D:\\Data O:BAG:SYD:AI(D;;LC;;;BU)(A;OICIID;0x1301bf;;;AU)", "By ACE 2, inherited."),
+    ("D:\\Data O:BAG:SYD:AI(D;;LC;;;BU)(A;OICIID;0x1301bf;;;AU)", "Except that Users may not add subfolders (ACE 1)."),
+    (FOLDER + f"O:BAG:SYD:(A;;0x1301bf;;;WD)(A;;FA;;;{ACCOUNT})(A;;FA;;;S-1-5-21-1-2-3-1106)",
+     "2 more findings below."),
+    (FOLDER + "O:BAG:SYD:(A;;0x1200a9;;;BU)" + BASE, "Users can read it."),
+    (FOLDER + "O:DAG:DUD:(A;;FA;;;DA)", "for an unknown domain"),
+    (FOLDER + "O:BAG:SY", "Unless the source left it out"),
+    (FOLDER + "O:BAG:SYD:", "Administrators can still change that, as owner."),
+    ('O:BAG:SYD:(XA;;FR;;;BU;(Member_of {SID(BA)}))(A;;FA;;;BA)', "ACE 1 has a condition"),
+    ({"text": "O:BAG:SYD:(A;;FA;;;WD)", "kind": "share", "isKindChosen": True}, "permissions of their own"),
+    ({"text": "O:BAD:(OA;;CR;ab721a53-1e2f-11d0-9819-00aa0040529b;;WD)(A;;0xf01ff;;;BA)", "kind": "ds",
+      "isKindChosen": True, "classes": "user"}, "Everyone has what Windows itself gives."),
+    ("hello", "(Get-Acl PATH).Sddl"),
+]
+DIRECTORY = ("ds", "template")
+OF_NOTHING = {"fine", "named"}
+
+
+@functools.lru_cache(None)
+def severities():
+    """The severities of each rule, usually and for directory objects, and of each ability, which may have several."""
+    with open(TOP / "windows/rules.toml", "rb") as file:
+        rules = tomllib.load(file)["rule"]
+    abilities = {}
+    with open(TOP / "windows/directory.toml", "rb") as file:
+        for one in tomllib.load(file)["ability"]:
+            abilities.setdefault(one["name"], set()).add(one["severity"])
+    usual = {one["name"]: {one["severity"]} for one in rules}
+    return {**usual, **abilities}, {**usual, **{one["name"]: {one.get("directory", one["severity"])} for one in rules},
+                                    **abilities}
+
+
+def severities_of(row, finding):
+    rule, sid, _ = finding.split("|")
+    found = severities()[row["kind"] in DIRECTORY][rule]
+    # An owner that is a group of everybody is as grave as that group's rights.
+    return found | {"high"} if rule == "foreign-owner" and not sid.startswith("S-1-5-21-1-2-3-1") else found
+
+
+def state_of(row):
+    return {"text": row["sddl"], "kind": row["kind"], "isKindChosen": True, "classes": row.get("place", ""),
+            "domain": row.get("domain", "")}
+
+
+def judge_example(count, row, got):
+    """A row has the verdict of the worst that is found, and without that none but one of nothing."""
+    found = row.get("finds", ())
+    each = [severities_of(row, one) for one in found]
+    what = f"{row['kind']} {row.get('place', '')} {row['sddl']}: {got['verdict']}, {got['sentence']}"
+    if got["key"] == "nobody":
+        count.add(got["verdict"] == "look" and (not found or "make" in got["reasons"] or "below" in got["reasons"]),
+                  f"{found} of {what}")
+    elif not found:
+        count.add(got["verdict"] in OF_NOTHING, f"nothing is found of {what}")
+    elif row["kind"] == "ds" and not row.get("place"):
+        count.add(got["verdict"] in {"act", "look", "unknown"}, f"{found} of {what}")
+    elif is_lowered(row):
+        count.add(got["verdict"] in {"act", "look"}, f"{found} of {what}")
+    elif {"high"} in each:
+        count.add(got["verdict"] == "act", f"{found} of {what}")
+    elif any("high" in one for one in each):
+        count.add(got["verdict"] in {"act", "look"}, f"{found} of {what}")
+    else:
+        count.add(got["verdict"] == "look", f"{found} of {what}")
+
+
+def is_lowered(row):
+    """Whether a rule of some findings has a lower severity for some rights, which the rows don't tell."""
+    return row["kind"] in ("folder", "share")
+
+
+def judge_bare(count, row, own, got):
+    """Where nothing tells the kind nothing is graver. The two attributes are told by their names, and what broad groups
+    may do to a share is less grave."""
+    is_open = got["asksKind"] is not None and row["kind"] not in ("share", "delegation", "managed-password")
+    is_right = not is_open or got["verdict"] != "act" or own["verdict"] == "act"
+    count.add(is_right, f"{row['sddl']} as {row['kind']}: {own['verdict']}, without a kind: {got['sentence']}")
+
+
+def add_options(words):
+    words.add_argument("--library", default=str(TOP / "out/systems/wasm/sdtool.mjs"), help="the page's library")
+
+
+def asked(library, states):
+    ended = subprocess.run(["node", str(SCRIPT), library], input=json.dumps(states), capture_output=True, text=True,
+                           timeout=SECONDS)
+    if ended.returncode:
+        print(ended.stderr[-3000:])
+        return None
+    return json.loads(ended.stdout)
+
+
+def main(count: preload.Count, chosen: preload.Given) -> None:
+    if not (shutil.which("node") and os.path.exists(chosen.library)):
+        print(f"skipped: no Node, or no {chosen.library}")
+        return
+    examples = risk_rows.rows()
+    of_text = lambda text: text if isinstance(text, dict) else {"text": text}  # noqa: E731
+    states = [*(of_text(row[0]) for row in (*ROWS, *REASONS)), *map(state_of, examples),
+              *({"text": row["sddl"]} for row in examples)]
+    answers = asked(chosen.library, states)
+    count.add(answers is not None, "the page gave no answers")
+    if answers is None:
+        return
+    for (text, verdict, sentence), got in zip(ROWS, answers):
+        count.add((got["verdict"], got["sentence"]) == (verdict, sentence),
+                  f"{text}: {got['verdict']} {got['sentence']!r}, not {verdict} {sentence!r}")
+    for (text, said), got in zip(REASONS, answers[len(ROWS):]):
+        count.add(said in got["reasons"], f"{text}: {got['reasons']!r} has not {said!r}")
+    rest = answers[len(ROWS) + len(REASONS):]
+    for row, own, bare in zip(examples, rest, rest[len(examples):]):
+        judge_example(count, row, own)
+        judge_bare(count, row, own, bare)
