@@ -7,6 +7,7 @@ import {isHarmless} from "./abilities.mjs";
 import {grantedOf, reasonsOf, tokenOf} from "./access.mjs";
 import {aceText, guidBytes} from "./library.mjs";
 import {
+    atRisk,
     doing,
     everybodyClass,
     inheritedBy,
@@ -66,12 +67,8 @@ function rankOfRights({mask, says = ""}, kind) {
     if (isOfPermissions) {
         return (mask & TAKE_OVER) >>> 0 === TAKE_OVER && (mask & ~TAKE_OVER) !== 0 ? 0 : 1;
     }
-    return says ? 2 : (mask & ~addingTo(kind)) !== 0 ? 3 : 4;
+    return says ? 2 : (mask & ~atRisk(kind, ["adding"])) !== 0 ? 3 : 4;
 }
-
-// The rights that only add to a folder, a key or a directory object.
-const ADDING = new Map([["folder", 0x116], ["share", 0x114], ["key", 0x24], ["ds", 0x1]]);
-const addingTo = (kind) => ADDING.get(kind) ?? 0;
 
 // Permissions of a share are not all: its files have their own.
 const gravityOf = ({severity, who}, {kind, isKindOpen}) =>

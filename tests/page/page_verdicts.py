@@ -136,7 +136,9 @@ def severities():
 
 
 def severities_of(row, finding):
-    rule, sid, _ = finding.split("|")
+    rule, sid, _, *severity = finding.split("|")
+    if severity:
+        return set(severity)
     found = severities()[row["kind"] in DIRECTORY][rule]
     # An owner that is a group of everybody is as grave as that group's rights.
     return found | {"high"} if rule == "foreign-owner" and not sid.startswith("S-1-5-21-1-2-3-1") else found
@@ -159,19 +161,15 @@ def judge_example(count, row, got):
         count.add(got["verdict"] in OF_NOTHING, f"nothing is found of {what}")
     elif row["kind"] == "ds" and not row.get("place"):
         count.add(got["verdict"] in {"act", "look", "unknown"}, f"{found} of {what}")
-    elif is_lowered(row):
-        count.add(got["verdict"] in {"act", "look"}, f"{found} of {what}")
-    elif {"high"} in each:
+    elif {"high"} in each and row["kind"] != "share":
         count.add(got["verdict"] == "act", f"{found} of {what}")
-    elif any("high" in one for one in each):
+    elif any("high" in one for one in each) and row["kind"] != "share":
         count.add(got["verdict"] in {"act", "look"}, f"{found} of {what}")
-    else:
+    elif {"medium"} in each or row["kind"] != "share":
         count.add(got["verdict"] == "look", f"{found} of {what}")
-
-
-def is_lowered(row):
-    """Whether a rule of some findings has a lower severity for some rights, which the rows don't tell."""
-    return row["kind"] in ("folder", "share")
+    else:
+        # Groups of everybody are less grave for a share, and accounts are not.
+        count.add(got["verdict"] in {"act", "look"}, f"{found} of {what}")
 
 
 def judge_bare(count, row, own, got):
