@@ -9,7 +9,8 @@ import {valueIn} from "./tables.mjs";
 import {markAce} from "./text_view.mjs";
 import {say, WORDS} from "./words.mjs";
 
-const MOST_ROWS = 40; // of the grid, until more are asked for
+const EXTENDED = 0x100; // a right that says nothing without its object type
+const MOST_ROWS = 40;   // of the grid, until more are asked for
 const ROWS_OF_A_TURN = 10;
 const MOST_GROUPS = 15; // of trustees
 const MOST_NAMES = 3;   // of a group
@@ -58,8 +59,10 @@ function canInWords(row, granted, kind, rights) {
         const some = shortOf([name, ...(more ? rightsInWords(kind, more) : [])]);
         own.splice(0, 1, say(words.but, {rights: some, lost: shortOf(rightsInWords(kind, lost))}));
     }
-    const ofTypes = typed.map(({object, mask}) => say(words.typed,
-                                  {rights: shortOf(rightsInWords(kind, mask)), name: guidInWords(object, mask)}));
+    const ofTypes = typed.map(
+        ({object, mask}) => (mask === EXTENDED ?
+                guidInWords(object, mask) :
+                say(words.typed, {rights: shortOf(rightsInWords(kind, mask)), name: guidInWords(object, mask)})));
     const all = [...own, ...(ofTypes.length ? [firstOf(ofTypes, MOST_TYPED, String)] : [])];
     return all.join("; ") || (row.granted ? words.noMore : words.nothing);
 }
@@ -94,30 +97,32 @@ function becauseInWords(all, rows) {
     ].join("; ");
 }
 
-// How unusual it is what a trustee can do: others that change something, those who are trusted, those that read.
-function orderOf(row, {change, read}, domain) {
-    const all = row.typed.reduce((mask, one) => mask | one.mask, row.granted);
-    const isTold = isTrusted(row.sid, domain);
-    return (all & change) !== 0 ? (isTold ? 1 : 0) : (all & read) !== 0 ? 2 : all !== 0 ? 3 : 4;
+// How unusual it is what a trustee can do: others that change something, those who are trusted or whom Windows itself
+// lets, those that read.
+function orderOf({granted, typed, sid}, {change, read}, isUsual) {
+    const all = typed.reduce((mask, one) => mask | one.mask, granted);
+    return (all & change) !== 0 ? (isUsual || isTrusted(sid, "") ? 1 : 0) : (all & read) !== 0 ? 2 : all !== 0 ? 3 : 4;
 }
 
-// The rows of the grid, those alike together: {rows, can, because, order, numbers}.
+// The rows of the grid, those alike together: {rows, can, order, all}. What is granted for an object type is told of
+// the trustee whose ACE names it.
 function trusteesOf(result, kind) {
     const {grid} = result;
     const masks = {change: maskDoing(kind, "change"), read: maskDoing(kind, "read")};
-    const inherited = new Set(linesOf(result.model.dacl.aces)
-                                  .map((text) => JSON.parse(text))
-                                  .filter((ace) => ace.flags.includes("ID"))
-                                  .map(({number}) => number));
+    const aces =
+        new Map(linesOf(result.model.dacl.aces).map((text) => JSON.parse(text)).map((ace) => [ace.number, ace]));
+    const inherited = new Set([...aces.values()].filter(({flags}) => flags.includes("ID")).map(({number}) => number));
     const groups = new Map();
     for (const row of grid.rows) {
-        const own = ownOf(row);
-        const can = canInWords(row, own, kind, grid.rights);
-        const order = orderOf({...row, granted: own}, masks, "");
+        const granted = ownOf(row);
+        const own = row.numbers.map((number) => aces.get(number));
+        const typed = row.typed.filter(({object}) => own.some((ace) => ace.object === object));
+        const can = canInWords({...row, typed}, granted, kind, grid.rights);
+        const order = orderOf({granted, typed, sid: row.sid}, masks, own.length > 0 && own.every(({usual}) => usual));
         const key = `${order} ${can}`;
         const group = groups.get(key) ?? {rows: [], can, order, all: []};
         group.rows.push(row);
-        group.all.push(becauseOf(row, own, inherited));
+        group.all.push(becauseOf({...row, typed}, granted, inherited));
         groups.set(key, group);
     }
     const isFirst = ({rows}) => rows.some(({sid}) => sid === result.judged.who?.[0]);
