@@ -214,6 +214,14 @@ const pasteInto = (id, text) => {
     byId(id).dispatchEvent(new window.ClipboardEvent("paste", given));
 };
 
+// A paste that is into no field.
+const pasteOver = (text) => {
+    const transfer = new window.DataTransfer();
+    transfer.setData("text/plain", text);
+    const given = {clipboardData: transfer, dataType: "text/plain", data: text, bubbles: true, cancelable: true};
+    document.body.dispatchEvent(new window.ClipboardEvent("paste", given));
+};
+
 // How long a key has to wait for the page until it has answered.
 async function whileBusy(act) {
     const gaps = [];

@@ -126,6 +126,8 @@ TESTS = [
     page_size.test_stop,
     page_people.test_keyboard,
     page_people.test_buttons,
+    page_people.test_first_line,
+    page_people.test_several_verdicts,
     page_people.test_many_trustees,
     page_people.test_share,
     page_people.test_address,

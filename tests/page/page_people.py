@@ -97,6 +97,64 @@ def test_buttons(count, page, given):
     count.add("Our people" in sids, "a name of the user")
 
 
+PROJECTS = ("D:\\Data\\Projects O:BAG:SYD:AI(D;;LC;;;BU)(A;OICIID;FA;;;SY)(A;OICIID;0x1301bf;;;AU)(A;OICIID;FA;;;BA)"
+            "S:AI(ML;OICI;NW;;;ME)")
+OPEN = "O:SYD:(A;;CCDCLCSWRPWPDTLOCRSDRCWDWO;;;BA)(A;;DC;;;S-1-5-21-1-2-3-1105)"
+SENTENCES = [(PROJECTS, "act", "Authenticated Users can modify this folder and everything in it"),
+             (OPEN, "unknown", "Depends on what this is: Account 1105 may be able to change it")]
+PASTE = "pasteOver(given[0]); await until(isIdle);"
+
+
+def test_first_line(count, page, _):
+    """What is pasted anywhere is answered by a sentence that is seen without a scroll, and the text is folded."""
+    for width, height in ((1280, 800), (390, 844)):
+        page.browser.size(width, height)
+        for text, verdict, sentence in SENTENCES:
+            page.open()
+            got = page.do(
+                f"{PASTE} const box = byId('sentence').getBoundingClientRect(); return [byId('first').dataset.verdict, "
+                "byId('sentence').lastChild.textContent, box.top >= 0 && box.bottom <= innerHeight, "
+                "byId('text').checkVisibility(), byId('first').compareDocumentPosition(byId('view-look')) & 4];", text)
+            count.add(got == [verdict, sentence, True, False, 4], f"{width} x {height}, {text}: {got}")
+    page.browser.size(1280, 900)
+    page.open()
+    lines = page.do(f"{PASTE} return each('#lines tr', (row) => row.textContent);", PROJECTS)
+    wanted = ["O:BA G:SY", "D:AI", "1", "2", "3", "4", "S:AI", "1"]
+    is_so = len(lines) == len(wanted) and all(one.startswith(start) for one, start in zip(lines, wanted))
+    count.add(is_so, f"the text line by line: {lines}")
+    # What somebody points at and its ACEs are marked, and one row at a time is in the order of the Tab key.
+    got = page.do("byId('dacl-3').focus(); return [each('.trustee.tied', (row) => "
+                  "row.querySelector('.name').textContent), each('tr.ace[tabindex=\"0\"]').length, "
+                  "byId('ace-words').textContent];")
+    count.add(got[0] == ["Authenticated Users", "Users"] and got[1] == 1 and "ACE 3" in got[2], f"what is tied: {got}")
+    got = page.do("document.querySelector('.trustee').dispatchEvent(new PointerEvent('pointerover', {bubbles: true})); "
+                  "return each('tr.ace.tied', (row) => row.id);")
+    count.add(got == ["dacl-3"], f"the ACEs of a trustee: {got}")
+    got = page.do("byId('share-another').click(); return [byId('text').checkVisibility(), document.activeElement.id];")
+    count.add(got == [True, "text"], f"another text: {got}")
+
+
+def test_several_verdicts(count, page, _):
+    """Several descriptors are a table of verdicts, the worst first, with filters."""
+    page.open()
+    texts = {"C:\\Fine": "O:BAD:(A;;FA;;;BA)", "C:\\Open": "O:BAD:(A;;FA;;;WD)", "C:\\Wrong": "O:BAD:(A;;FA;;;Ann)",
+             "C:\\Usual": "O:BAD:(A;;FA;;;BA)", "C:\\Ann": "O:BAD:(A;;0x1301bf;;;S-1-5-21-1-2-3-1105)(A;;FA;;;BA)"}
+    pasted = "".join(f"{name}\n{sddl}\n" for name, sddl in texts.items())
+    page.do(f"{PASTE} await until(() => byId('many-heading'));", pasted)
+    rows = "return each('table.many tbody tr', (row) => [row.dataset.verdict, row.querySelector('.open').textContent]);"
+    got = page.do("return [byId('first').dataset.verdict, byId('sentence').lastChild.textContent];")
+    count.add(got == ["act", "1 of 5 can be changed by everybody or nearly everybody"], f"the verdict on all: {got}")
+    got = page.do(rows)
+    wanted = [["act", "C:\\Open"], ["unknown", "C:\\Wrong"], ["named", "C:\\Ann"], ["fine", "C:\\Fine"]]
+    count.add(got == wanted, f"the verdicts on several: {got}")
+    got = page.do(f"byId('many-fine').click(); {rows}")
+    count.add(got == wanted[3:], f"a filter: {got}")
+    got = page.do("byId('many-all').click(); document.querySelector('tr[data-verdict=named] .open').click(); "
+                  "await until(isIdle); return [byId('one').textContent, byId('chosen').value];")
+    sentence = "C:\\Ann: Account 1105 can modify this folder, beside administrators"
+    count.add(got == [sentence, "4"], f"one of them: {got}")
+
+
 def test_many_trustees(count, page, _):
     """A list for more trustees than are asked about at once: none is lost, and no broad group is left for later."""
     page.open()
