@@ -128,7 +128,8 @@ def givens(row, of_class):
         denied = "".join(f"(OD;;{right};{leaf};;{{}})" for leaf, _ in paths)
         yield Given(f"{denied}(A;;{right};;;{{}})", "?" in row["types"])  # types without a known name are left
     for leaf, of_set in paths:
-        yield from of_path(right, leaf, of_set, of_class)
+        is_left = [one for _, one in paths].count(of_set) > 1, "?" in row["types"]
+        yield from of_path(right, leaf, of_set, of_class, is_left)
 
 
 def of_several(right, leaves, of_class):
@@ -140,8 +141,9 @@ def of_several(right, leaves, of_class):
         yield Given(f"(OD;;{right};{leaf};;{{}})(OA;;{right};{of_class};;{{}})", False)
 
 
-def of_path(right, leaf, of_set, of_class):
-    """The same of one object type. The first ACE decides that is for it, for its set, for the class or for all."""
+def of_path(right, leaf, of_set, of_class, is_left):
+    """The same of one object type. The first ACE decides that is for it, for its set, for the class or for all. is_left:
+    whether other types of the set give the ability, and types of no set that is named."""
     allowed, denied = f"(OA;;{right};{leaf};;{{}})", f"(OD;;{right};{leaf};;{{}})"
     yield from (Given(aces, True) for aces in (
         allowed, f"(OA;;GA;{leaf};;{{}})", f"{allowed}(D;;GA;;;{{}})", f"{allowed}(OD;;{right};{of_class};;{{}})"))
@@ -152,9 +154,9 @@ def of_path(right, leaf, of_set, of_class):
         return
     yield Given(f"(OA;;{right};{of_set};;{{}})", True)
     yield Given(f"{allowed}(OD;;{right};{of_set};;{{}})", True)
-    yield from (Given(aces, False) for aces in (
-        f"{denied}(OA;;{right};{of_set};;{{}})", f"(OD;;{right};{of_set};;{{}}){allowed}",
-        f"(OD;;{right};{of_set};;{{}})(A;;{right};;;{{}})"))
+    yield Given(f"(OD;;{right};{of_set};;{{}}){allowed}", False)
+    yield Given(f"{denied}(OA;;{right};{of_set};;{{}})", is_left[0])
+    yield Given(f"(OD;;{right};{of_set};;{{}})(A;;{right};;;{{}})", is_left[1])
 
 
 class Entry(NamedTuple):
