@@ -138,15 +138,14 @@ def test_words_come_first(place: Place) -> None:
                    ["who", "0"],
                    ["who", "change", "--groups", "nothing"], ["who", "dcsync", "--groups", "accept.toml"]]
     for words in (*([*words[:1], "pipe", *words[1:]] for words in wrong), *([*words, "pipe"] for words in wrong_first)):
-        try:
-            ended = subprocess.run([place.python, "-m", "sdtool.audit", *words], cwd=place.folder,
-                                   env=place.environment, stdin=subprocess.DEVNULL, capture_output=True,
-                                   timeout=SECONDS / 5, text=True)
-        except subprocess.TimeoutExpired:
-            place.count.add(False, f"{words} reads the source before the words")
-            continue
-        place.expect((ended.returncode, ended.stdout, bool(ended.stderr), "Traceback" in ended.stderr),
-                     (2, "", True, False), f"{words}: {ended.stderr}")
+        run = subprocess.Popen([place.python, "-m", "sdtool.audit", *words], cwd=place.folder, env=place.environment,
+                               stdin=subprocess.DEVNULL, stdout=subprocess.PIPE, stderr=subprocess.PIPE, text=True)
+        end = when_read(place.folder / "pipe", run)
+        if end is not None:
+            os.close(end)
+        stdout, stderr = run.communicate()
+        place.expect((end, run.returncode, stdout, bool(stderr), "Traceback" in stderr), (None, 2, "", True, False),
+                     f"{words}, and none reads the source: {stderr}")
 
 
 def test_files_named_twice(place: Place) -> None:
