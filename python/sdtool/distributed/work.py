@@ -609,6 +609,8 @@ def done(worker: Any, fields: Tuple[Any, ...], pickled: bytes, key: str, avoided
         return work.outcome(tell, each, *calls[number])
 
     try:
+        if len(calls) == 1:
+            return worker.address, "outcomes", [outcome(0)]
         with concurrent.futures.ThreadPoolExecutor(AT_ONCE) as threads:
             return worker.address, "outcomes", list(threads.map(outcome, range(len(calls))))
     finally:
