@@ -1,5 +1,5 @@
 // What rights of a directory object let somebody do, by name: windows/directory.toml has the list.
-import {everybodyClass, isTrusted, meaningOfSid} from "./meanings.mjs";
+import {everybodyClass, isTrusted, meaningOfSid, tableOf} from "./meanings.mjs";
 import {guidNames} from "./schema.mjs";
 import {ABILITIES, HARMLESS} from "./windows.mjs";
 
@@ -66,6 +66,13 @@ function typesOfAll({types, right}, got, where, givesAll) {
     return hasAll ? [...new Set([...types.flat(), ...own.map(({object}) => object)])] : [];
 }
 
+// The rights by which a trustee has an ability that has object types of its own: all of them, where it has full
+// control.
+function wholeOf(ability, object, got) {
+    const full = tableOf("ds").mapping[3];
+    return object === "" && !isOfAll(ability) && (got.mask & full) === full ? full : ability.right;
+}
+
 // The rights that may give an ability, with their object types. What is told of all object types isn't told of each,
 // and whoever may write all properties needs no validated writes.
 function waysOf(ability, got, where) {
@@ -76,8 +83,8 @@ function waysOf(ability, got, where) {
             (isWhole && ((got.mask | mask) & writing) === 0 && isOwn(object, where.own)));
 }
 
-// The abilities of a trustee, each once: {rule, mask, object, types, severity, says}. TYPES are all object types by
-// which it comes. GOT has its rights, and WHERE is the object, {classes, own, hasAccounts}. GIVES is asked about an
+// The abilities of a trustee, each once: {rule, mask, whole, object, types, severity, says}. TYPES are all object types
+// by which it comes. GOT has its rights, and WHERE is the object, {classes, own, hasAccounts}. GIVES is asked about an
 // ability that some ACE gives, GIVES_ALL about one of several rights.
 export function abilitiesOf(sid, got, where, {gives, givesAll}, isTold, domain) {
     const found = new Map();
@@ -96,7 +103,8 @@ export function abilitiesOf(sid, got, where, {gives, givesAll}, isTold, domain) 
         if (ability.all) {
             const types = typesOfAll(ability, got, where, givesAll);
             if (types.length) {
-                found.set(ability.name, {...told, types});
+                const [own] = types.slice(ability.types.flat().length);
+                found.set(ability.name, {...told, types, whole: wholeOf(ability, own, got)});
             }
             continue;
         }
@@ -104,7 +112,8 @@ export function abilitiesOf(sid, got, where, {gives, givesAll}, isTold, domain) 
                         .find(({object, mask}) => (mask & ability.right) !== 0 &&
                                 pathsOf(ability, object).some((path) => gives(ability.right, [...path, object])));
         if (way) {
-            found.set(ability.name, {...told, object: way.object, types: [way.object]});
+            const whole = wholeOf(ability, way.object, got);
+            found.set(ability.name, {...told, object: way.object, types: [way.object], whole});
         }
     }
     return [...found.values()];

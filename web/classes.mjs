@@ -41,6 +41,10 @@ function alike(aces) {
     return [...groups.values()];
 }
 
+// The numbers of the ACEs of two findings.
+const joined =
+    (one, other) => [...new Set([...(one?.numbers ?? []), ...other.numbers])].sort((first, second) => first - second);
+
 // What the rules find of an object of any class. What isn't found of each has the classes that it is found of alone, or
 // those that it isn't found of.
 export function risksOfAny(library, model, options) {
@@ -51,10 +55,11 @@ export function risksOfAny(library, model, options) {
     const found = new Map();
     for (const [one, ...more] of groups) {
         for (const risk of risksOf(library, model, {...options, classes: [one]})) {
-            const key = JSON.stringify({...risk, numbers: null});
-            const {risk: before, of} = found.get(key) ?? {risk: {numbers: []}, of: []};
-            const numbers = [...new Set([...before.numbers, ...risk.numbers])].sort((first, second) => first - second);
-            found.set(key, {risk: {...risk, numbers}, of: [...new Set([...of, one, ...more])]});
+            const key = JSON.stringify({...risk, numbers: null, whole: null});
+            const {risk: before, of} = found.get(key) ?? {risk: {}, of: []};
+            const whole = risk.whole && {...risk.whole, numbers: joined(before.whole, risk.whole)};
+            const merged = {...risk, numbers: joined(before, risk), ...(whole ? {whole} : {})};
+            found.set(key, {risk: merged, of: [...new Set([...of, one, ...more])]});
         }
     }
     const classes = groups.flat();

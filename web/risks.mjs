@@ -284,9 +284,10 @@ function ofDirectory(sid, view, wanted, got, where, answers, {kind, domain}, mor
         return ofMask(wanted.rule, kind, sid, view, only({mask: 0, typed: [over]}, doing(kind, "change")), more);
     }
     const had = abilitiesOf(sid, got, where, answers, isOfEverybody(wanted), domain);
-    const named = had.map(({rule, mask, object, types, severity, says}) => {
+    const named = had.map(({rule, mask, whole, object, types, severity, says}) => {
         const numbers = answers.numbersOf(mask, types);
-        return {rule, severity, who: sid, numbers, mask, says, ...(object ? {object} : {}), ...more};
+        const all = whole === mask ? {} : {whole: {mask: whole, numbers: answers.numbersOf(whole, types)}};
+        return {rule, severity, who: sid, numbers, mask, says, ...all, ...(object ? {object} : {}), ...more};
     });
     const rest = isOfEverybody(wanted) ? only(restOf(got, had, where), wanted.mask) : {mask: 0, typed: []};
     return [...named, ...ofMask(wanted.rule, kind, sid, view, rest, more)];

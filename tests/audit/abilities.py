@@ -142,8 +142,8 @@ def of_several(right, leaves, of_class):
 
 
 def of_path(right, leaf, of_set, of_class, is_left):
-    """The same of one object type. The first ACE decides that is for it, for its set, for the class or for all. is_left:
-    whether other types of the set give the ability, and types of no set that is named."""
+    """The same of one object type. The first ACE decides that is for it, for its set, for the class or for all. is_left
+    says whether other types of the set give the ability, and types of no set that is named."""
     allowed, denied = f"(OA;;{right};{leaf};;{{}})", f"(OD;;{right};{leaf};;{{}})"
     yield from (Given(aces, True) for aces in (
         allowed, f"(OA;;GA;{leaf};;{{}})", f"{allowed}(D;;GA;;;{{}})", f"{allowed}(OD;;{right};{of_class};;{{}})"))
