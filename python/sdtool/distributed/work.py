@@ -274,9 +274,9 @@ class Place:
                     return f"would have its answers behind a link, at {folder}"
             if os.path.islink(given.folder):
                 return f"would have its answers behind a link, at {given.folder}"
-        is_itself = is_same(given.fs, self.fs) and given.path == given.answers
-        if is_itself or not self.is_there(given.answers):
-            return f"has answers at {given.answers}, which no run wrote" if self.is_there(given.answers) else ""
+        is_itself, is_there = is_same(given.fs, self.fs) and given.path == given.answers, self.is_there(given.answers)
+        if is_itself or not is_there:
+            return f"has answers at {given.answers}, which no run wrote" if is_there else ""
         manifest = self.manifest_of(given.folder)
         other = f"{self.ours}/inputs/{given.answers[len(self.root) + 1:]}" if is_parts else given.answers
         if manifest is None:
