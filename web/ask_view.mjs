@@ -47,7 +47,7 @@ export function makeAsk(asked, refresh) {
         longField("ask-token", asked.token, set("token"), {most: MOST_LIST, "aria-describedby": "ask-token-hint"});
     return [
         make("h2", {id: "ask-heading"}, WORDS.ask.heading),
-        make("div", {class: "split"},
+        make("div", {class: "split"}, make("div", {id: "ask-result"}),
             make("div", {class: "form"}, labelled(WORDS.ask.token, token.field, WORDS.ask.tokenHint), token.note,
                 tokenButtons(asked, token.put, refresh), box("ask-exact", WORDS.ask.exact, asked.exact, set("exact")),
                 box("ask-maximum", WORDS.ask.maximum, asked.maximum, set("maximum")),
@@ -62,8 +62,7 @@ export function makeAsk(asked, refresh) {
                 make("fieldset", {}, make("legend", {}, WORDS.ask.privileges),
                     make("div", {class: "boxes"},
                         box("ask-take", WORDS.ask.takeOwnership, asked.takeOwnership, set("takeOwnership")),
-                        box("ask-security", WORDS.ask.security, asked.security, set("security"))))),
-            make("div", {id: "ask-result"})),
+                        box("ask-security", WORDS.ask.security, asked.security, set("security")))))),
     ];
 }
 
@@ -150,16 +149,16 @@ export function showAsk(result, {kind, names, texts}) {
     }
     const {columns} = WORDS.ask;
     const isGranted = result.verdict.granted;
+    const said = isGranted ? verdictText(result, kind) : `${WORDS.ask.denied}. ${verdictText(result, kind)}`;
     show(place,
-        make("p", {class: `verdict ${isGranted ? "allow" : "deny"}`},
-            make("strong", {}, isGranted ? WORDS.ask.granted : WORDS.ask.denied), " ",
+        make("p", {class: `verdict ${isGranted ? "allow" : "deny"}`}, make("strong", {}, said), " ",
             make("code", {}, `${isGranted ? "granted" : "denied"} ${maskText(result.verdict.mask)}`)),
-        make("p", {}, verdictText(result, kind)), tokenLine(result, names), beside(result),
+        tokenLine(result, names), beside(result),
         result.isForWhole ? make("p", {class: "hint"}, WORDS.ask.whole) : null,
         make("div", {class: "scroll", tabindex: "0", role: "region", "aria-label": columns.reason},
             make("table", {class: "reasons"},
                 make("thead", {},
                     make("tr", {}, Object.values(columns).map((text) => make("th", {scope: "col"}, text)))),
                 make("tbody", {}, result.reasons.map((reason) => reasonRow(reason, kind, texts))))));
-    return [`${isGranted ? WORDS.ask.granted : WORDS.ask.denied}. ${verdictText(result, kind)}`];
+    return [said];
 }

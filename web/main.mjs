@@ -14,14 +14,17 @@ import {faultInWords, namesOfReport, ownNames, shownName, visible} from "./namin
 import {commaed, formatted, isLarge, longField} from "./parts_view.mjs";
 import {nameOfObject, objectWords, placeOfObject, ReportView} from "./report_view.mjs";
 import {kindQuestion} from "./kind_view.mjs";
+import {tabBehind, tie} from "./keyboard.mjs";
 import {isDirectory} from "./meanings.mjs";
 import {showAce, showText, showWritten} from "./text_view.mjs";
 import {oneOfMany, showMany, showVerdictOfMany} from "./many_view.mjs";
 import {makeVerdict, showSentence, showVerdict} from "./verdict_view.mjs";
 import {knownGuids} from "./schema.mjs";
 import {addressOf, commandLine, takeAddress} from "./sharing.mjs";
+import {hush, speak} from "./speech.mjs";
 import {freshState, MOST_LIST} from "./state.mjs";
 import {valueIn} from "./tables.mjs";
+import {takeTheme, turnTheme} from "./theme.mjs";
 import {say, WORDS} from "./words.mjs";
 import {FileDesk, SECONDS_TO_ANSWER, serve, startDesk, TooSlow} from "./worker.mjs";
 
@@ -29,7 +32,6 @@ const MOST_UNREAD = 8;        // words of an address
 const MOST_UNREAD_TEXT = 100; // characters of each
 const MOST_COPIED = 200_000;  // characters that are shown at once of what is copied
 const MILLISECONDS_TO_TELL = 300;
-const THEMES = ["light", "dark"];
 const ANSWERED = ["ask", "inherit", "compare"]; // views that ask a question of their own
 const EXAMPLES = {
     folder: [
@@ -267,11 +269,7 @@ class Page {
             event.preventDefault();
             this.another();
         });
-        byId("theme").addEventListener("click", () => {
-            const isDark = document.documentElement.dataset.theme === "dark" ||
-                (!document.documentElement.dataset.theme && matchMedia("(prefers-color-scheme: dark)").matches);
-            keepTheme(isDark ? "light" : "dark");
-        });
+        byId("theme").addEventListener("click", turnTheme);
     }
 
     // An address that somebody typed or followed.
@@ -282,13 +280,11 @@ class Page {
     }
 
     moveTab(event) {
-        const {views} = this;
-        const at = views.indexOf(this.state.view);
-        const to = valueIn({ArrowRight: at + 1, ArrowLeft: at - 1, Home: 0, End: views.length - 1}, event.key);
-        if (to !== undefined) {
+        const view = tabBehind(event.key, this.views, this.state.view);
+        if (view) {
             event.preventDefault();
-            this.choose(views[(to + views.length) % views.length]);
-            byId(`tab-${this.state.view}`).focus();
+            this.choose(view);
+            byId(`tab-${view}`).focus();
         }
     }
 
@@ -475,8 +471,7 @@ class Page {
         }
         if (views.includes("look")) {
             OF_TEXT.forEach((id) => byId(id).classList.add(OLDER));
-            clearTimeout(this.speaking);
-            byId("spoken").textContent = "";
+            hush();
         }
         return turn;
     }
@@ -508,19 +503,13 @@ class Page {
     tell(text, spoken = text) {
         byId("found").textContent = text;
         OF_TEXT.forEach((id) => byId(id).classList.remove(OLDER));
-        this.speak(spoken);
+        speak(spoken);
     }
 
     tellBusy() {
         byId("found").textContent = WORDS.busy;
         byId("found").classList.remove(OLDER);
-        this.speak(WORDS.busy);
-    }
-
-    // What a screen reader says, a moment after the last key.
-    speak(text) {
-        clearTimeout(this.speaking);
-        this.speaking = setTimeout(() => { byId("spoken").textContent = text; }, 600);
+        speak(WORDS.busy);
     }
 
     async showResult(result) {
@@ -598,7 +587,7 @@ class Page {
         if (many.next < many.most || !many.rows.length) {
             return;
         }
-        this.speak(showVerdictOfMany(many.rows, many));
+        speak(showVerdictOfMany(many.rows, many));
         const one = many.rows[this.state.chosen];
         show(byId("one"), one && oneOfMany(one, this.names));
         showMany(many.rows, {
@@ -708,7 +697,7 @@ class Page {
         let shown = null;
         if (result.error) {
             this.show(view, make("p", {class: "fault-name"}, errorWords(result.error)));
-            this.speak(errorWords(result.error));
+            speak(errorWords(result.error));
         } else if (result.isEmpty || result.domainFault) {
             this.show(view, make("p", {class: "hint"}, WORDS.waiting));
         } else if (result.descriptorFault) {
@@ -716,11 +705,11 @@ class Page {
                 make("p", {}, WORDS.error.intro));
         } else if (result.asksKind && view !== "compare") {
             this.show(view, kindQuestion(view, result, this.context.onKind));
-            this.speak(valueIn(WORDS.kindAsked, result.asksKind));
+            speak(valueIn(WORDS.kindAsked, result.asksKind));
         } else {
             const answer = showAnswer(result, {...this.context, kind: result.asksKind ? "" : result.kind}, isOver);
             this.isNew(view);
-            this.speak(answer[0]);
+            speak(answer[0]);
             shown = answer[1];
         }
         this.asked = result;
@@ -790,48 +779,26 @@ class Page {
         this.copy(commandLine({...state, domain}, look, asked), WORDS.share.command);
     }
 
+    // Of what the answers are, on paper: the name, the kind, and options that differ from those of a new page.
+    printedOptions(result) {
+        const {domain, object, classes, common} = this.state;
+        const {kinds, kindLabel, domainLabel, objectLabel, classesLabel, print} = WORDS;
+        const options = [
+            [print.name, shownName(result.entry?.name ?? "")], [kindLabel, valueIn(kinds, this.shownKind) ?? ""],
+            [domainLabel, domain], [objectLabel, object], [classesLabel, classes]
+        ];
+        const told = options.filter(([, value]) => value).map(([name, value]) => `${name}: ${visible(value)}`);
+        return [...told, ...(common ? [] : [print.alone])].join("; ");
+    }
+
     showPrintHead(result) {
         show(byId("print-head"), make("h1", {}, WORDS.print.heading),
-            make("p", {}, say(WORDS.print.made, {version: this.version})),
+            make("p", {},
+                say(WORDS.print.made, {version: this.version, date: new Date().toLocaleDateString(WORDS.language)})),
+            make("p", {}, this.printedOptions(result)),
             make("p", {}, `${WORDS.print.text}: `, make("code", {}, visible((result.line ?? "").slice(0, 3000)))));
         byId("print-head").hidden = false;
         byId("print-head").classList.remove(OLDER);
-    }
-}
-
-// Marks the ACEs that something tells of, and what tells of an ACE.
-function tie(target) {
-    const about = target.closest?.("[data-aces], [data-ace]");
-    document.querySelectorAll(".tied").forEach((one) => one.classList.remove("tied"));
-    if (!about) {
-        return;
-    }
-    const numbers = (about.dataset.aces ?? about.dataset.ace).split(" ").filter(Boolean);
-    const others = about.dataset.ace ? numbers.map((number) => `[data-aces~="${number}"]`) :
-                                       numbers.map((number) => `[data-ace="${number}"]`);
-    if (others.length) {
-        [about, ...document.querySelectorAll(others.join(", "))].forEach((one) => one.classList.add("tied"));
-    }
-}
-
-// A theme that somebody chose is kept, where the browser keeps something for this page.
-function keepTheme(theme) {
-    document.documentElement.dataset.theme = theme;
-    try {
-        localStorage.setItem("theme", theme);
-    } catch {
-        // It is that of this page alone.
-    }
-}
-
-function takeTheme() {
-    try {
-        const theme = localStorage.getItem("theme");
-        if (THEMES.includes(theme)) {
-            document.documentElement.dataset.theme = theme;
-        }
-    } catch {
-        // The browser's own theme counts.
     }
 }
 

@@ -31,7 +31,7 @@ const ALLOWS = ["A", "OA"];
 const DENIES = ["D", "OD"];
 const GRAVE = ["high", "medium"];
 const CLASSES = ["anyone", "logged-on", "application"]; // those of everybody, the widest first
-const MOST_ASKED = 3000;                                // ACEs times kinds
+const MOST_ASKED = 1000;                                // ACEs times kinds
 
 const isHere = (ace) => !ace.flags.includes("IO");
 const isAllowing = (ace) => ALLOWS.includes(ace.kind);

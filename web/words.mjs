@@ -784,7 +784,13 @@ export const WORDS = {
         open: "Object of the report",
         back: "Back to the report",
     },
-    print: {heading: "Report of permissions", made: "Made by sdtool {version}", text: "Descriptor"},
+    print: {
+        heading: "Report of permissions",
+        made: "Made by sdtool {version}, {date}",
+        name: "Name",
+        alone: "each trustee alone, without Everyone and Authenticated Users",
+        text: "Descriptor",
+    },
 
     names: mapped(SIDS, ([, name]) => name),
     relativeNames: mapped(OF_A_DOMAIN, ([, name]) => name),

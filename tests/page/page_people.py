@@ -118,7 +118,7 @@ def test_first_line(count, page, _):
             count.add(got == [verdict, sentence, True, False, 4], f"{width} x {height}, {text}: {got}")
     page.browser.size(1280, 900)
     page.open()
-    lines = page.do(f"{PASTE} return each('#lines tr', (row) => row.textContent);", PROJECTS)
+    lines = page.do(f"{PASTE} return each('#lines tbody tr', (row) => row.textContent);", PROJECTS)
     wanted = ["O:BA G:SY", "D:AI", "1", "2", "3", "4", "S:AI", "1"]
     is_so = len(lines) == len(wanted) and all(one.startswith(start) for one, start in zip(lines, wanted))
     count.add(is_so, f"the text line by line: {lines}")
@@ -265,7 +265,7 @@ def test_accessible(count, page, _):
 # What a screen reader says of an answer, once the keys are still.
 SPOKEN = {
     "look": "Act: Everyone has full control of this folder. That is everybody, also without logging on. By ACE 1.",
-    "ask": "Granted. Granted: full control",
+    "ask": "Granted: full control",
     "inherit": "The new folder: 2 ACEs",
     "compare": "The two differ. Trustees whose rights differ: 4.",
     "error": "Unknown: Can't be read: ACE 2: \u201cEveryone\u201d is no SID. So nothing is known of what it grants.",
