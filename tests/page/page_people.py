@@ -123,12 +123,12 @@ def test_first_line(count, page, _):
     is_so = len(lines) == len(wanted) and all(one.startswith(start) for one, start in zip(lines, wanted))
     count.add(is_so, f"the text line by line: {lines}")
     # What somebody points at and its ACEs are marked, and one row at a time is in the order of the Tab key.
-    got = page.do("byId('dacl-3').focus(); return [each('.trustee.tied', (row) => "
+    point = "dispatchEvent(new PointerEvent('pointerover', {bubbles: true}));"
+    got = page.do(f"byId('dacl-3').{point} return [each('.trustee.tied', (row) => "
                   "row.querySelector('.name').textContent), each('tr.ace[tabindex=\"0\"]').length, "
                   "byId('ace-words').textContent];")
     count.add(got[0] == ["Authenticated Users", "Users"] and got[1] == 1 and "ACE 3" in got[2], f"what is tied: {got}")
-    got = page.do("document.querySelector('.trustee').dispatchEvent(new PointerEvent('pointerover', {bubbles: true})); "
-                  "return each('tr.ace.tied', (row) => row.id);")
+    got = page.do(f"document.querySelector('.trustee').{point} return each('tr.ace.tied', (row) => row.id);")
     count.add(got == ["dacl-3"], f"the ACEs of a trustee: {got}")
     got = page.do("byId('share-another').click(); return [byId('text').checkVisibility(), document.activeElement.id];")
     count.add(got == [True, "text"], f"another text: {got}")
