@@ -321,7 +321,7 @@ begin dm so tw se r pl h b p bs out k e =
     let e40 = not_letter b 40 p e refl in
     let e41 = not_letter b 41 p e refl in
     from_outside dm so (tw || is_seen se p) (with_head se p) (ended_with dm pl h r) (state_of p) no_text bs
-    (outside-head p)
+        (outside-head p)
     ∙ sym (from_outside dm so tw se r pl h (b ∷ 58 ∷ bs) out
     ∙ rw (
       headed b p bs e e40,

@@ -209,7 +209,7 @@ module _ (dm : Option SecurityId) (so tw : Bool) (se : Seen) where
   lost-field (Some e) t w n c h bs rest lost all =
       any-text e w n c h broken_text rest
       ∙ (broken-idle dm so tw se (Err e) w n c broken_text bs rest refl all
-      ∙ any-text e w n c broken_text h (bs ++ rest))
+          ∙ any-text e w n c broken_text h (bs ++ rest))
 
 -- 4. The reader after a run.
 
@@ -270,7 +270,7 @@ outside-goes s bs takes none plain buf r = (
   },
   λ domain before h. goes-on s bs buf domain before none
       (λ t rest. outside-run s.fields.domain s.sound s.twice s.seen (unless s.fault t) s.shape.state s.field bs rest
-      takes
+          takes
       r.calm.held plain) h,
 )
 

@@ -203,7 +203,7 @@ head-steps s e n before after letter head here held names ends notes = λ t k.
         ap (λ (x : SddlReader). x.twice) ends.same,
       )
           (begin-noted s.fields.domain s.sound s.twice s.seen (unless s.fault t) s.shape.state s.field letter head
-          rest x.0
+              rest x.0
           e.fault here held names x.2),
     )
 

@@ -48,7 +48,7 @@ returns-in-Some c =
       same = refl;
     }) in
     rw (c.at_state-self.ensures) (feeds-to s (record taken { shape = at_state (state.Ace c.args.which 0 field.Kind) })
-    c.args.buf.now c.args.text.now
+        c.args.buf.now c.args.text.now
     c.put_front.new.buf c.in-Some.rest.now c.requires.fresh.none c.requires.reader over)
 
 pub returns-in-Some-first_parenthesis : goal.returns-in-Some-first_parenthesis

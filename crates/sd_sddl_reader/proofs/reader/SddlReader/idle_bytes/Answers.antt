@@ -11,7 +11,7 @@ returns-then-is_lost-clause-read c = λ buf domain before r h.
     idle-goes s bytes buf domain before (no-letter s.shape r.shape (rw (c.in-Ace.is) refl))
     (λ t rest. rw (c.in-Ace.is)
     (lost-field s.fields.domain s.sound s.twice s.seen s.fault t c.in-Ace.«field-0» c.in-Ace.«field-1»
-    c.in-Ace.«field-2» s.field bytes rest
+        c.in-Ace.«field-2» s.field bytes rest
     (sym c.is_lost.ensures ∙ c.if-is_lost.true) c.in_field.ensures.inside)) h
 
 pub returns-then-ignores_blanks : goal.returns-then-ignores_blanks
@@ -22,7 +22,7 @@ returns-then-ignores_blanks c = record {
       let bytes = take c.blanks.result c.args.text.now in
       idle-goes s bytes buf domain before (none-if _ _ c.if-is_none.true c.is_none.ensures)
       (λ t rest. blanks-outside s.fields.domain s.sound s.twice s.seen (unless s.fault t) s.shape.state s.field bytes
-      rest
+          rest
       (outside-of s.shape.state c.in_default.not-Ace) r.calm.held
       (ignored s.field (sym c.ignores_blanks.ensures ∙ c.if-ignores_blanks.true)) c.blanks.ensures.blank) h;
 }

@@ -17,11 +17,8 @@ returns-clause-read c =
 
 pub returns-clause-reader : goal.returns-clause-reader
 returns-clause-reader c = record {
-  calm = record {
-    held = rw (c.new.ensures) (record { clean = refl; fits = omega arith });
-    gap = λ e. rw
-        (c.new.ensures) refl;
-  };
+  calm = record { held = rw (c.new.ensures) (record { clean = refl; fits = omega arith }); gap = λ e. rw
+      (c.new.ensures) refl };
   shape = shape-of _ (rw (c.at_state.ensures) refl);
   read = nothing_read;
   held = record { fields = λ _. c.new-2.ensures.held; fits = λ _. rw (c.at_state.ensures, c.each.ensures) fits-start };

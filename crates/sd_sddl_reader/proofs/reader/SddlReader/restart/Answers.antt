@@ -10,27 +10,18 @@ pub returns-clause-read : goal.returns-clause-read
 returns-clause-read c =
     let domain = c.restart.ensures.domain in (
       nothing_read,
-      record {
-        fields = λ _. c.restart.ensures.held;
-        fits = λ _. rw (c.at_state-self.ensures, c.each-self.ensures)
-            fits-start;
-      },
+      record { fields = λ _. c.restart.ensures.held; fits = λ _. rw (c.at_state-self.ensures, c.each-self.ensures)
+          fits-start },
       λ rest. rw (c.at_state-self.ensures, c.each-self.ensures) (started _ _ rest)
           ∙ ap (λ (d : Option SecurityId). reads_as d rest) domain,
     )
 
 pub returns-clause-reader : goal.returns-clause-reader
 returns-clause-reader c = record {
-  calm = record {
-    held = rw (c.clear.ensures) (record { clean = refl; fits = omega arith });
-    gap = λ e. rw
-        (c.clear.ensures) refl;
-  };
+  calm = record { held = rw (c.clear.ensures) (record { clean = refl; fits = omega arith }); gap = λ e. rw
+      (c.clear.ensures) refl };
   shape = shape-of _ (rw (c.at_state-self.ensures) refl);
   read = nothing_read;
-  held = record {
-    fields = λ _. c.restart.ensures.held;
-    fits = λ _. rw (c.at_state-self.ensures, c.each-self.ensures)
-        fits-start;
-  };
+  held = record { fields = λ _. c.restart.ensures.held; fits = λ _. rw (c.at_state-self.ensures, c.each-self.ensures)
+      fits-start };
 }
