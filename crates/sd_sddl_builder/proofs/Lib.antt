@@ -1,5 +1,4 @@
 pub mod FieldLaws
-pub mod HeadRows
 mod LineRows
 pub mod MeansLimits
 mod NameTexts

@@ -5,5 +5,4 @@ pub mod FoldedMeaning
 pub mod FoldedSections
 pub mod Heads
 pub mod MeaningLimits
-pub mod Shapes
 pub mod WholeTexts

@@ -1,3 +1,2 @@
--- What private contracts cite. No definition rests on these files.
+-- What private contracts cite. No definition rests on this file.
 pub mod AceEnds
-pub mod Heads

@@ -4,5 +4,4 @@ pub mod Inner
 pub mod Line
 pub mod Meaning
 pub mod NamedSid
-pub mod Shape
 pub mod WholeAce

@@ -5,14 +5,10 @@ mod fault;
 mod kept;
 mod name;
 mod reading;
-mod shape;
 mod slot;
 
 pub use fault::SddlFault;
 pub use kept::KeptDomains;
 pub use name::front_name;
 pub use reading::{FieldReader, fault_of};
-pub use shape::{
-    LineShape, State, at_state, head_of, is_ended, next_field, next_number, state_of, step,
-};
 pub use slot::{AceField, Head, Slot};

@@ -2,6 +2,7 @@ mod LargeRows
 mod Rows
 pub mod Cuttings
 pub mod Faults
-pub mod Reaches
+pub mod Shapes
 pub mod Steps
 pub mod Trims
+pub mod Walks

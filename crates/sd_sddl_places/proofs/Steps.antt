@@ -24,8 +24,8 @@ use Rattle.sd_sddl_builder.specs.declared.slot.Head.TheVariants as head
 use Rattle.sd_sddl_builder.specs.declared.slot.Slot.TheVariants as slot
 use Rattle.sd_sddl_builder.specs.declared.fault.SddlFault.TheVariants as fault
 use Rattle.sd_fault_places.specs.declared.place.Field.TheVariants as named
-use Rattle.sd_sddl_builder.specs.declared.shape.State.{State}
-use Rattle.sd_sddl_builder.specs.declared.shape.State.TheVariants as state
+use Rattle.sd_sddl_places.specs.declared.shape.Stand.{Stand}
+use Rattle.sd_sddl_places.specs.declared.shape.Stand.TheVariants as stand
 use Rattle.sd_fault_places.specs.declared.place.FaultPlace.{FaultPlace}
 use Rattle.sd_sddl_places.specs.Fields.{PlacedAce, PlacedField, PlacedPart, ace_field, ace_field_fault, aces_from}
 use Rattle.sd_sddl_places.specs.Fields.{cuts_from}
@@ -95,11 +95,19 @@ pub part-step : (at : ℕ) (rest : List ℕ) (p : Head) (k : ℕ) → front_head
     → k ≡ before_head false (drop 2 rest) → PartStep at rest p k
 part-step at rest p k e paired same = subst (λ n. PartStep at rest p n) (sym same) (step-of at rest p e paired)
 
+pub no-parts : (at : ℕ) (rest : List ℕ) → front_head rest ≡ None → placed at (parts_at rest) ≡ []
+no-parts at rest e = rw e refl
+
 pub second-on : (se : Seen) (at : ℕ) (rest : List ℕ) (p : Head) (k : ℕ) → PartStep at rest p k
     → get_part (part_of_head p) se ≡ false
     → second_head se (placed at (parts_at rest))
     ≡ second_head (set_part (part_of_head p) true se) (placed (at + (k + 2)) (parts_at (drop k (drop 2 rest))))
 second-on se at rest p k s e = ap (second_head se) s.shape ∙ rw e refl
+
+pub second-here : (se : Seen) (at : ℕ) (rest : List ℕ) (p : Head) (k : ℕ) → PartStep at rest p k
+    → get_part (part_of_head p) se ≡ true
+    → second_head se (placed at (parts_at rest)) ≡ Some (place (Some (part_of_head p)) None None at 2)
+second-here se at rest p k s e = ap (second_head se) s.shape ∙ rw e refl
 
 -- the parts of a text
 pub text-parts : (text : List ℕ) (k : ℕ) → is_paired false text ≡ true → k ≡ before_head false text
@@ -310,6 +318,9 @@ module _ (domain : Option SecurityId) (at : ℕ) (body : List ℕ) (w : Which) w
 
 -- 5. The text.
 
+pub shaped-paired : (text : List ℕ) → is_shaped text ≡ true → is_paired false text ≡ true
+shaped-paired text e = (and_parts (is_paired false text) _ e).0
+
 pub part-twice : (domain : Option SecurityId) (parts : List PlacedPart) (p : FaultPlace)
     → second_head (each_part false) parts ≡ Some p → place_in_parts domain parts ≡ Some (fault.PartTwice, p)
 part-twice domain parts p e = rw e refl
@@ -324,12 +335,12 @@ pub large-last : (domain : Option SecurityId) (parts : List PlacedPart)
     → place_in_parts domain parts ≡ first_large domain parts
 large-last domain parts e f = rw (e, f) refl
 
-pub at-reach : (s : State) (n size : ℕ) → (place_at s n size).range.offset ≡ n
-at-reach state.Before n size = refl
-at-reach (state.Sid p) n size = refl
-at-reach (state.AclFlags w) n size = refl
-at-reach (state.AfterAce w k) n size = refl
-at-reach (state.Ace w k f) n size = refl
+pub at-reach : (s : Stand) (n size : ℕ) → (place_at s n size).range.offset ≡ n
+at-reach stand.Before n size = refl
+at-reach (stand.Sid p) n size = refl
+at-reach (stand.Flags w) n size = refl
+at-reach (stand.Behind w k) n size = refl
+at-reach (stand.Ace w k f) n size = refl
 
 pub unshaped : (b : Bool) (x p : FaultPlace) → Some p ≡ (if b then None else Some x) → (b ≡ false) × (p ≡ x)
 unshaped true x p e = absurd cc

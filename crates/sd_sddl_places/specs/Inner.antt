@@ -1,3 +1,4 @@
 -- What private contracts and invariants cite. No definition rests on these files.
+pub mod Counted
 pub mod Cutting
 pub mod Faults

@@ -1,4 +1,4 @@
 pub mod Fields
 pub mod Inner
 pub mod Places
-pub mod Reach
+pub mod Shape

@@ -23,9 +23,9 @@ use Rattle.sd_fault_places.specs.declared.place.FaultPlace.{FaultPlace}
 use Rattle.sd_fault_places.specs.declared.place.Field.TheVariants as named
 use Rattle.sd_sddl_places.specs.Fields.{PlacedAce, PlacedField, PlacedPart, aces_from, field_fault, fields_in, kind_in}
 use Rattle.sd_sddl_places.specs.Fields.{name_of, parts_in, place}
-use Rattle.sd_sddl_places.specs.Reach.{reach, start, stop}
-use Rattle.sd_sddl_builder.specs.declared.shape.State.{State}
-use Rattle.sd_sddl_builder.specs.declared.shape.State.TheVariants as state
+use Rattle.sd_sddl_places.specs.Shape.{reach, start, stop}
+use Rattle.sd_sddl_places.specs.declared.shape.Stand.{Stand}
+use Rattle.sd_sddl_places.specs.declared.shape.Stand.TheVariants as stand
 
 -- 1. 20, the shape: the first byte with which no line goes on, in what stands open before it.
 
@@ -41,16 +41,16 @@ character_size (b ∷ bs) =
     else (if character_of 3 (b ∷ bs) then 3
     else (if character_of 4 (b ∷ bs) then 4 else 1)))
 
-abbrev pub place_at : State → ℕ → ℕ → FaultPlace
-place_at state.Before offset size = place None None None offset size
-place_at (state.Sid p) offset size = place (Some (sid_part_of p)) None (Some named.Sid) offset size
-place_at (state.AclFlags w) offset size = place (Some (part_of w)) None (Some named.Flags) offset size
-place_at (state.AfterAce w n) offset size = place (Some (part_of w)) None None offset size
-place_at (state.Ace w n f) offset size = place (Some (part_of w)) (Some n) (Some (name_of f)) offset size
+abbrev pub place_at : Stand → ℕ → ℕ → FaultPlace
+place_at stand.Before offset size = place None None None offset size
+place_at (stand.Sid p) offset size = place (Some (sid_part_of p)) None (Some named.Sid) offset size
+place_at (stand.Flags w) offset size = place (Some (part_of w)) None (Some named.Flags) offset size
+place_at (stand.Behind w n) offset size = place (Some (part_of w)) None None offset size
+place_at (stand.Ace w n f) offset size = place (Some (part_of w)) (Some n) (Some (name_of f)) offset size
 
 abbrev pub place_of_shape : List ℕ → FaultPlace
 place_of_shape text =
-    place_at (stop start text).state (reach start text) (character_size (drop (reach start text) text))
+    place_at (stop start text).stand (reach start text) (character_size (drop (reach start text) text))
 
 -- 2. 21, two parts with one letter: the second head of one letter, the first such from the left.
 

@@ -6,7 +6,8 @@ ghost use Rattle.sd_sddl_builder.specs.Line.{trim, trim_end};
 ghost use Rattle.sd_sddl_places.specs.Fields.{blanks_before};
 ghost use Rattle.sd_sddl_places.specs.Inner.Cutting.{before_byte, before_head, front_head, head_in, trim_start};
 
-use sd_sddl_builder::{Head, head_of};
+use crate::shape::head_of;
+use sd_sddl_builder::Head;
 use sd_sddl_fields::is_blank;
 
 /// How many bytes are before the first such byte.

@@ -8,17 +8,16 @@ ghost use Rattle.sd_sddl_builder.specs.Line.{is_paired, is_shaped};
 ghost use Rattle.sd_sddl_builder.specs.Meaning.{means};
 ghost use Rattle.sd_sddl_places.specs.Fields.{parts_in};
 ghost use Rattle.sd_sddl_places.specs.Places.{character_of, character_size, place_at, place_in_parts, place_of_shape};
-ghost use Rattle.sd_sddl_places.specs.Reach.{IsReach};
-ghost use Rattle.sd_sddl_builder.specs.Shape.{is_ended};
+ghost use Rattle.sd_sddl_places.specs.Shape.{IsReach, is_ended};
 ghost use Rattle.sd_sddl_places.specs.Places.{IsAtFirst, place_of_sddl_fault};
 
 use crate::cutting::{before_head, behind, until};
 use crate::fields::{name_of, place};
 use crate::parts::{first_faulty, first_large, second_head};
-use crate::reach::walk;
+use crate::shape::{Front, Stand, is_ended, walk};
 use sd_fault_places::{FaultPlace, Field};
 use sd_parts::Part;
-use sd_sddl_builder::{LineShape, SddlFault, State, is_ended};
+use sd_sddl_builder::SddlFault;
 use sd_sid::Sid;
 
 /// The first fault (20 to 30) of a text of SDDL under a domain, as `read_sddl` of `sd_sddl_reader` finds it, and where
@@ -45,20 +44,20 @@ fn shape_fault(text: &[u8]) -> Option<FaultPlace>
     requires small { length text.now < 2 ^ 32 }
     ensures { result ≡ (if is_shaped text.now then None else Some (place_of_shape text.now)) }
 {
-    let (reach, shape) = walk(text);
-    if is_whole(reach, shape, text) {
+    let (reach, front) = walk(text);
+    if is_whole(reach, front, text) {
         return None;
     }
-    Some(place_at(shape.state, reach, character_size(behind(text, reach))))
+    Some(place_at(front.stand, reach, character_size(behind(text, reach))))
 }
 
-fn is_whole(reach: usize, shape: LineShape, text: &[u8]) -> bool
-    ensures { result ≡ ((reach == length text.now) && is_ended shape) }
+fn is_whole(reach: usize, front: Front, text: &[u8]) -> bool
+    ensures { result ≡ ((reach == length text.now) && is_ended front) }
 {
     if reach != text.len() {
         return false;
     }
-    is_ended(shape)
+    is_ended(front)
 }
 
 fn place_in_parts(text: &[u8], domain: Option<&Sid>) -> Option<(SddlFault, FaultPlace)>
@@ -77,21 +76,21 @@ fn place_in_parts(text: &[u8], domain: Option<&Sid>) -> Option<(SddlFault, Fault
     first_large(at, parts, domain)
 }
 
-fn place_at(state: State, offset: usize, size: usize) -> FaultPlace
-    ensures { result ≡ place_at state offset size }
+fn place_at(stand: Stand, offset: usize, size: usize) -> FaultPlace
+    ensures { result ≡ place_at stand offset size }
 {
-    match state {
-        State::Before => place(None, None, None, offset, size),
-        State::Sid(part) => place(Some(Part::from(part)), None, Some(Field::Sid), offset, size),
-        State::AclFlags(which) => place(
+    match stand {
+        Stand::Before => place(None, None, None, offset, size),
+        Stand::Sid(part) => place(Some(Part::from(part)), None, Some(Field::Sid), offset, size),
+        Stand::Flags(which) => place(
             Some(Part::from(which)),
             None,
             Some(Field::Flags),
             offset,
             size,
         ),
-        State::AfterAce(which, _) => place(Some(Part::from(which)), None, None, offset, size),
-        State::Ace(which, number, field) => place(
+        Stand::Behind(which, _) => place(Some(Part::from(which)), None, None, offset, size),
+        Stand::Ace(which, number, field) => place(
             Some(Part::from(which)),
             Some(number),
             Some(name_of(field)),

@@ -6,6 +6,6 @@ mod cutting;
 mod fields;
 mod finding;
 mod parts;
-mod reach;
+mod shape;
 
 pub use finding::place_of_sddl_fault;

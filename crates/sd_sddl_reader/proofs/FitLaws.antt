@@ -10,8 +10,7 @@ use Rattle.sd_sddl_builder.specs.Line.{part_of_head, same_head}
 use Rattle.sd_sddl_builder.specs.FoldedReading.{FieldsRead, nothing_read, take_field}
 use Rattle.sd_text.specs.Chains.{and_then, unless}
 use Rattle.sd_sddl_fields.specs.Held.{Held, held_text}
-use Rattle.sd_sddl_reader.specs.Inner.Progress.{Seen, ended_with, is_seen, state_after, with_head}
-use Rattle.sd_sddl_builder.specs.Shape.{state_of}
+use Rattle.sd_sddl_reader.specs.Inner.Progress.{Seen, ended_with, is_seen, state_of, with_head}
 use Rattle.sd_sddl_reader.proofs.Steps.{seen_with}
 use Rattle.sd_sddl_builder.proofs.laws.FieldParts.{if-ok, lacks-taken, open-front, open-taken}
 use Rattle.sd_sddl_builder.specs.FieldReading.{CanTake, HasReadFields, Lacks}
@@ -21,8 +20,8 @@ use Rattle.sd_sddl_builder.specs.declared.slot.AceField.{AceField}
 use Rattle.sd_sddl_builder.specs.declared.slot.AceField.TheVariants as field
 use Rattle.sd_sddl_builder.specs.declared.slot.Head.{Head}
 use Rattle.sd_sddl_builder.specs.declared.slot.Head.TheVariants as head
-use Rattle.sd_sddl_builder.specs.declared.shape.State.{State}
-use Rattle.sd_sddl_builder.specs.declared.shape.State.TheVariants as state
+use Rattle.sd_sddl_reader.specs.declared.line.State.{State}
+use Rattle.sd_sddl_reader.specs.declared.line.State.TheVariants as state
 use Rattle.sd_parts.specs.declared.part.SidPart.TheVariants as sid_part
 use Rattle.sd_sddl_builder.specs.declared.slot.Slot.TheVariants as slot
 use Rattle.sd_sddl_reader.specs.declared.reader.SddlReader.{SddlReader}
@@ -54,7 +53,7 @@ not_or_false false e = refl
 -- an ACL's first parenthesis
 pub fits-first : (domain : Option SecurityId) (w : Which) (seen : Seen) (t u : FieldsRead) (text : List ℕ)
     → take_field domain t (slot.AclFlags w true) text ≡ Ok u
-    → Fits (state.AclFlags w) seen t → Fits (state.Ace w 0 field.Kind) seen u
+    → Fits (state.AclFlags w) seen t → Fits (state.Ace field.Kind) seen u
 fits-first domain w seen t u text e k = record {
   here = λ h f. absurd cc;
   lacks = λ h f.
@@ -65,16 +64,14 @@ fits-first domain w seen t u text e k = record {
 }
 
 -- a further one
-pub fits-next : (w : Which) (n : ℕ) (seen : Seen) (t : FieldsRead) → Fits (state.AfterAce w n) seen t
-    → Fits (state.Ace w n field.Kind) seen t
-fits-next w n seen t k = record { here = λ h f. absurd cc; lacks = k.lacks; opened = λ _. k.opened refl }
+pub fits-next : (seen : Seen) (t : FieldsRead) → Fits state.AfterAce seen t → Fits (state.Ace field.Kind) seen t
+fits-next seen t k = record { here = λ h f. absurd cc; lacks = k.lacks; opened = λ _. k.opened refl }
 
 -- a field of an ACE
-pub fits-field : (domain : Option SecurityId) (w : Which) (n : ℕ) (f : AceField) (p : State) (seen : Seen) (t u :
-    FieldsRead)
+pub fits-field : (domain : Option SecurityId) (f : AceField) (p : State) (seen : Seen) (t u : FieldsRead)
     (text : List ℕ) → take_field domain t (slot.Ace f) text ≡ Ok u
-    → ((h : Head) → is_at_front p h ≡ false) → Fits (state.Ace w n f) seen t → Fits p seen u
-fits-field domain w n f p seen t u text e none k = record {
+    → ((h : Head) → is_at_front p h ≡ false) → Fits (state.Ace f) seen t → Fits p seen u
+fits-field domain f p seen t u text e none k = record {
   here = λ h g. absurd (true≢false (sym g ∙ none h));
   lacks = λ h g.
       let unseen = not_or_false (is_seen seen h) (sym (ap (λ b. not (is_seen seen h) || b) (none h)) ∙ g) in
@@ -82,19 +79,6 @@ fits-field domain w n f p seen t u text e none k = record {
       (k.lacks h (or_left (not (is_seen seen h)) _ (not_from_false (is_seen seen h) unseen)));
   opened = λ _. open-taken domain t u f text e (k.opened refl);
 }
-
-pub fits-after : (domain : Option SecurityId) (w : Which) (n : ℕ) (f : AceField) (seen : Seen) (t u : FieldsRead)
-    (text : List ℕ) → take_field domain t (slot.Ace f) text ≡ Ok u → Fits (state.Ace w n f) seen t
-    → Fits (state_after w n f) seen u
-fits-after domain w n f seen t u text e k = fits-field domain w n f (state_after w n f) seen t u text e (none f) k
-  where
-    none : (f : AceField) (h : Head) → is_at_front (state_after w n f) h ≡ false
-    none field.Kind h = refl
-    none field.Flags h = refl
-    none field.Rights h = refl
-    none field.Object h = refl
-    none field.Inherited h = refl
-    none field.Sid h = refl
 
 -- 3. What a reader keeps.
 
@@ -144,7 +128,7 @@ fits-head p seen t u h keeps unseen k = record {
     by_same x false e f = lacking x (not_or (is_seen seen x) (same_head h x) f e)
 
 -- an ACL at its front, whose flags may be taken
-pub can-take-front : (s : SddlReader) (buf : List ℕ) (w : Which) (has_aces : Bool) → s.shape.state ≡ state.AclFlags w
+pub can-take-front : (s : SddlReader) (buf : List ℕ) (w : Which) (has_aces : Bool) → s.state ≡ state.AclFlags w
     → (t : FieldsRead) × LineHasRead s buf t
     → (t : FieldsRead) × (s.fault ≡ None → HasReadFields s.fields buf t × CanTake (slot.AclFlags w has_aces) t)
 can-take-front s buf w has_aces here held =
@@ -170,8 +154,8 @@ lacks-ended domain (state.Sid p) seen x fault fault' t u e none k h n l =
 lacks-ended domain (state.AclFlags w) seen x fault fault' t u e none k h n l =
     lacks-taken domain t u (slot.AclFlags w false) (held_text x) h (read-ok fault fault' t u _ e none)
     (not-here (state.AclFlags w) seen t k h n) l
-lacks-ended domain (state.AfterAce w m) seen x fault fault' t u e none k h n l = lacks-same h fault t u (rw none at e) l
-lacks-ended domain (state.Ace w m f) seen x fault fault' t u e none k h n l = lacks-same h fault t u (rw none at e) l
+lacks-ended domain state.AfterAce seen x fault fault' t u e none k h n l = lacks-same h fault t u (rw none at e) l
+lacks-ended domain (state.Ace f) seen x fault fault' t u e none k h n l = lacks-same h fault t u (rw none at e) l
 
 -- where no fault is found at the end of a part, none was there
 pub none-ended : (domain : Option SecurityId) (p : State) (x : Held) (fault fault' : Option SddlFault)
@@ -182,9 +166,8 @@ none-ended domain state.Before x (Some f) fault' t u e none = absurd (let no : O
 none-ended domain (state.Sid p) x (Some f) fault' t u e none = absurd (let no : Ok u ≡ Err f = (rw none at e) in cc)
 none-ended domain (state.AclFlags w) x (Some f) fault' t u e none = absurd
     (let no : Ok u ≡ Err f = (rw none at e) in cc)
-none-ended domain (state.AfterAce w n) x (Some f) fault' t u e none = absurd (let no : Ok u
-    ≡ Err f = (rw none at e) in cc)
-none-ended domain (state.Ace w n a) x (Some f) fault' t u e none = absurd (let no : Ok u ≡ Err f = (rw none at e) in cc)
+none-ended domain state.AfterAce x (Some f) fault' t u e none = absurd (let no : Ok u ≡ Err f = (rw none at e) in cc)
+none-ended domain (state.Ace a) x (Some f) fault' t u e none = absurd (let no : Ok u ≡ Err f = (rw none at e) in cc)
 
 -- the fault of a head: one where it was seen
 pub unseen-head : (seen : Bool) (f : SddlFault) (fault : Option SddlFault) → (if seen then Some f else fault) ≡ None
@@ -205,6 +188,6 @@ fits-start = record { here = λ h e. absurd cc; lacks = λ h e. nothing h; opene
 
 -- 6. A step that changes the text of the field at hand alone, or finds that the shape fails.
 
-pub keeps-same : (s s' : SddlReader) (field' : Held) (buf : List ℕ) (t : FieldsRead)
-    → s' ≡ record s { field = field' } → LineHasRead s buf t → LineHasRead s' buf t
-keeps-same s s' field' buf t same k = rw same (record { fields = k.fields; fits = k.fits })
+pub keeps-same : (s s' : SddlReader) (sound : Bool) (field' : Held) (buf : List ℕ) (t : FieldsRead)
+    → s' ≡ record s { sound = sound; field = field' } → LineHasRead s buf t → LineHasRead s' buf t
+keeps-same s s' sound field' buf t same k = rw same (record { fields = k.fields; fits = k.fits })

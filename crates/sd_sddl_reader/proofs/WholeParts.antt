@@ -1,6 +1,6 @@
 -- An owner, a group or the flags of an ACL that stand whole in what comes of a line, read where they stand.
 use Rattle.std.proofs.Common.{◌≡◌, ℕ, ◌≤◌, ◌⊎◌, inl, inr, Bool, true, false, ◌&&◌, ◌||◌, List, [], ◌∷◌, ◌++◌, length}
-use Rattle.std.proofs.Common.{Some, None, Ok, refl, ap, sym, ◌∙◌, arith, append_assoc}
+use Rattle.std.proofs.Common.{Some, None, Ok, refl, ap, sym, ◌∙◌, arith, append_assoc, length-append}
 use Rattle.std.specs.Prelude.{◌==◌, if◌then◌else◌, Option, Result}
 use Rattle.std.specs.List.{list_all, list_any}
 use Rattle.std.proofs.Math.Dec.{eqb-suc-zero}
@@ -18,10 +18,10 @@ use Rattle.sd_sddl_fields.proofs.laws.HeldRuns.{run-fits}
 use Rattle.sd_text.specs.Chains.{unless}
 use Rattle.sd_sddl_builder.specs.Line.{begins_with_colon, byte, head_at, head_of, pieces_from}
 use Rattle.sd_sddl_builder.specs.FoldedReading.{FieldsRead, take_field}
-use Rattle.sd_sddl_reader.specs.Inner.Progress.{Seen, ended_with, is_seen, rest_answer, with_head}
-use Rattle.sd_sddl_builder.specs.Shape.{at_state, is_inside, state_of}
+use Rattle.sd_sddl_reader.specs.Inner.Progress.{Seen, ended_with, is_inside, is_seen, rest_answer}
+use Rattle.sd_sddl_reader.specs.Inner.Progress.{state_of, with_head}
 use Rattle.sd_sddl_builder.specs.FieldReading.{HasReadFields}
-use Rattle.sd_sddl_reader.specs.Inner.Reads.{IsFresh, LineHasRead, Steps, answer_at}
+use Rattle.sd_sddl_reader.specs.Inner.Reads.{Feeds, IsFresh, IsReader, LineHasRead, Steps, answer_at}
 use Rattle.sd_sddl_reader.specs.Inner.WholePart.{HeadAfter, HeadBehind, IsPlainText}
 use Rattle.sd_sddl_builder.specs.declared.fault.SddlFault.{SddlFault}
 use Rattle.sd_sddl_builder.specs.declared.fault.SddlFault.TheVariants as fault
@@ -29,17 +29,16 @@ use Rattle.sd_sddl_builder.specs.declared.slot.AceField.TheVariants as field
 use Rattle.sd_sddl_builder.specs.declared.slot.Head.{Head}
 use Rattle.sd_sddl_builder.specs.declared.slot.Slot.{Slot}
 use Rattle.sd_sddl_builder.specs.declared.slot.Slot.TheVariants as slot
-use Rattle.sd_sddl_builder.specs.declared.shape.LineShape.{LineShape}
-use Rattle.sd_sddl_builder.specs.declared.shape.State.{State}
-use Rattle.sd_sddl_builder.specs.declared.shape.State.TheVariants as state
+use Rattle.sd_sddl_reader.specs.declared.line.State.{State}
+use Rattle.sd_sddl_reader.specs.declared.line.State.TheVariants as state
 use Rattle.sd_sddl_reader.specs.declared.reader.SddlReader.{SddlReader}
 use Rattle.sd_sddl_reader.proofs.FieldTexts.{same_blank, same_text, with_held}
 use Rattle.sd_sddl_reader.proofs.FitLaws.{fits-first, fits-head, lacks-ended, none-ended, unseen-head}
-use Rattle.sd_sddl_reader.proofs.TextRuns.{not_true, nothing-held, plain-is}
+use Rattle.sd_sddl_reader.proofs.Runs.{blank-is, not_true, nothing-held, plain-is}
 use Rattle.sd_sddl_builder.proofs.laws.Heads.{no-colon, not_letter}
 use Rattle.sd_sddl_builder.proofs.laws.Heads.{no_head as unheaded}
-use Rattle.sd_sddl_reader.proofs.Steps.{begin-noted, blank-is, open_first, outside_text}
-use Rattle.sd_sddl_reader.proofs.WholeFields.{StepsTo, whole-held}
+use Rattle.sd_sddl_reader.proofs.Steps.{begin-noted, open_first, outside_text}
+use Rattle.sd_sddl_reader.proofs.WholeFields.{fed-on, reader-at, whole-held}
 
 -- 1. The answer to a text outside parentheses.
 
@@ -154,21 +153,20 @@ text-then dm so tw se r p t (b ∷ bs) letter more plain fits all n =
 pub record EndsPart (s : SddlReader) (before : List ℕ) (e : SddlReader) (after : List ℕ) : Type 0 where
   pub read : (t : FieldsRead) → LineHasRead s before t → (u : FieldsRead)
       × (e.fault ≡ None → HasReadFields e.fields after u)
-      × (unless e.fault u ≡ ended_with s.fields.domain s.shape.state s.field (unless s.fault t))
+      × (unless e.fault u ≡ ended_with s.fields.domain s.state s.field (unless s.fault t))
   pub cleared : e.field ≡ no_text
   pub domain : e.fields.domain ≡ s.fields.domain
   pub same : e ≡ record s { field = e.field; fault = e.fault; fields = e.fields }
 
 -- a head was noted
 pub record NotesHead (e : SddlReader) (head : Head) (n : SddlReader) : Type 0 where
-  pub shape : n.shape ≡ at_state (state_of head)
+  pub state : n.state ≡ state_of head
   pub twice : n.twice ≡ (e.twice || is_seen e.seen head)
   pub seen : n.seen ≡ with_head e.seen head
   pub fault : n.fault ≡ (if is_seen e.seen head then Some fault.PartTwice else e.fault)
-  pub same : n ≡ record e { shape = n.shape; twice = n.twice; seen = n.seen; fault = n.fault }
+  pub same : n ≡ record e { state = n.state; twice = n.twice; seen = n.seen; fault = n.fault }
 
-pub head-steps : (s e n : SddlReader) (before after : List ℕ) (letter : ℕ) (head : Head)
-    → is_inside s.shape.state ≡ false
+pub head-steps : (s e n : SddlReader) (before after : List ℕ) (letter : ℕ) (head : Head) → is_inside s.state ≡ false
     → IsHeld s.field → head_of letter ≡ Some head → EndsPart s before e after → NotesHead e head n
     → Steps s before (letter ∷ 58 ∷ []) n after
 head-steps s e n before after letter head here held names ends notes = λ t k.
@@ -181,15 +179,15 @@ head-steps s e n before after letter head here held names ends notes = λ t k.
       record {
         fields = λ none. rw (fields) (x.1 (found none).1);
         fits = λ none.
-            let clear = none-ended s.fields.domain s.shape.state s.field s.fault e.fault t x.0 x.2 (found none).1 in
+            let clear = none-ended s.fields.domain s.state s.field s.fault e.fault t x.0 x.2 (found none).1 in
             let unseen : is_seen s.seen head ≡ false = ap (λ (x : Seen). is_seen x head) (sym seen) ∙ (found none).0 in
-            rw (notes.shape, notes.seen, seen)
-            (fits-head s.shape.state s.seen t x.0 head
-            (lacks-ended s.fields.domain s.shape.state s.seen s.field s.fault e.fault t x.0 x.2 (found none).1
+            rw (notes.state, notes.seen, seen)
+            (fits-head s.state s.seen t x.0 head
+            (lacks-ended s.fields.domain s.state s.seen s.field s.fault e.fault t x.0 x.2 (found none).1
             (k.fits clear)) unseen (k.fits clear));
       },
       λ rest. rw (
-        notes.shape,
+        notes.state,
         notes.seen,
         notes.twice,
         notes.fault,
@@ -202,8 +200,7 @@ head-steps s e n before after letter head here held names ends notes = λ t k.
         seen,
         ap (λ (x : SddlReader). x.twice) ends.same,
       )
-          (begin-noted s.fields.domain s.sound s.twice s.seen (unless s.fault t) s.shape.state s.field letter head
-              rest x.0
+          (begin-noted s.fields.domain s.sound s.twice s.seen (unless s.fault t) s.state s.field letter head rest x.0
           e.fault here held names x.2),
     )
 
@@ -218,12 +215,19 @@ pub record TakesWhole (s : SddlReader) (before : List ℕ) (sl : Slot) (text : L
   pub domain : e.fields.domain ≡ s.fields.domain
   pub same : e ≡ record s { fault = e.fault; fields = e.fields }
 
+-- a step over what stands before a rest, after which nothing is held
+pub record StepsTo (s : SddlReader) (before text : List ℕ) (n : SddlReader) (after rest : List ℕ) : Type 0 where
+  pub bytes : List ℕ
+  pub stands : text ≡ bytes ++ rest
+  pub steps : Steps s before bytes n after
+  pub field : n.field ≡ no_text
+  pub pending : n.pending ≡ None
+
 -- the reader with what is held of the field at hand
 abbrev holding : SddlReader → Held → SddlReader
 holding s h = record s { field = h }
 
-ends-sid : (s e : SddlReader) (before after t : List ℕ) (h : Held) (p : SidPart) → s.shape.state ≡ state.Sid p
-    → IsFresh s
+ends-sid : (s e : SddlReader) (before after t : List ℕ) (h : Held) (p : SidPart) → s.state ≡ state.Sid p → IsFresh s
     → held_text h ≡ t → TakesWhole s before (slot.Sid p) t e after → EndsPart (holding s h) before e after
 ends-sid s e before after t h p here f text w = record {
   read = λ r k.
@@ -249,7 +253,7 @@ behind-none t head rest text h = record {
 }
 
 pub steps-sid : (s e n : SddlReader) (before after t rest text : List ℕ) (p : SidPart) (head : Head)
-    → s.shape.state ≡ state.Sid p → IsFresh s → HeadBehind t head rest text → TakesWhole s before (slot.Sid p) t e after
+    → s.state ≡ state.Sid p → IsFresh s → HeadBehind t head rest text → TakesWhole s before (slot.Sid p) t e after
     → NotesHead e head n → StepsTo s before text n after rest
 steps-sid s e n before after t rest text p head here f h w notes =
     let whole : Held = record { text = t; gap = false; broken = false } in
@@ -279,13 +283,13 @@ steps-sid s e n before after t rest text p head here f h w notes =
                 x.2 more ∙ run,
           );
       field = ap (λ (x : SddlReader). x.field) notes.same ∙ (ap (λ (x : SddlReader). x.field) w.same ∙ f.begins);
-      letter = ap (λ (x : LineShape). x.letter) notes.shape;
+      pending = ap (λ (x : SddlReader). x.pending) notes.same ∙ (ap (λ (x : SddlReader). x.pending) w.same ∙ f.none);
     }
 
 pub steps-flags : (s e : SddlReader) (before after t rest text : List ℕ) (which : Which)
-    → s.shape.state ≡ state.AclFlags which → IsFresh s → IsPlainText t → text ≡ t ++ 40 ∷ rest
+    → s.state ≡ state.AclFlags which → IsFresh s → IsPlainText t → text ≡ t ++ 40 ∷ rest
     → TakesWhole s before (slot.AclFlags which true) t e after
-    → StepsTo s before text (record e { shape = at_state (state.Ace which 0 field.Kind) }) after rest
+    → StepsTo s before text (record e { state = state.Ace field.Kind }) after rest
 steps-flags s e before after t rest text which here f plain stands w =
     let held = whole-held t (text-inside t plain.plain) plain.fits in
     let seen = ap (λ (x : SddlReader). x.seen) w.same in
@@ -319,5 +323,18 @@ steps-flags s e before after t rest text which here f plain stands w =
                 more refl t plain.plain plain.fits),
           );
       field = ap (λ (x : SddlReader). x.field) w.same ∙ f.begins;
-      letter = refl;
+      pending = ap (λ (x : SddlReader). x.pending) w.same ∙ f.none;
+    }
+
+-- such a step is what a call does that takes bytes at the front
+pub feeds-to : (s n : SddlReader) (before text after rest : List ℕ) → s.pending ≡ None → IsReader s before
+    → StepsTo s before text n after rest → Feeds s before text n after rest
+feeds-to s n before text after rest none reader over =
+    let e = over.steps reader.read reader.held in
+    record {
+      shorter = omega (arith, ap length over.stands, length-append over.bytes rest);
+      reader = reader-at n after over.field over.pending e.0 e.1;
+      read = λ domain fed h.
+          fed-on s n before after domain over.bytes rest text (fed ++ text) none over.pending over.steps over.stands
+          (fed, h, refl);
     }

@@ -3,9 +3,6 @@
 
 mod line;
 mod reader;
-mod runs;
-mod usual_flags;
-mod usual_sids;
 mod whole;
 
 pub use reader::{SddlReader, read_sddl};

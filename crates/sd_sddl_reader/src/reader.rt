@@ -1,34 +1,26 @@
-//! The general way to read a line: byte by byte, as `step` of `sd_sddl_builder` leads on.
+//! A line, read as it comes: byte by byte, or at once what is whole in a piece.
 
-ghost use Rattle.std.specs.Prelude.{◌≡◌, ◌≤◌, ◌-◌, ◌==◌, ℕ, List, [], ◌∷◌, ◌++◌, codes, length, take, ◌||◌};
-ghost use Rattle.std.specs.Prelude.{if◌then◌else◌, true, false, Option, Some, None, Ok, Err, IfOk, IfSome, OnErr, OnOk};
-ghost use Rattle.std.specs.Prelude.{MatchOption, MatchResult};
-ghost use Rattle.std.specs.Option.{is_some, option_copied, option_to_list};
-ghost use Rattle.std.specs.Str.{byte as char};
-ghost use Rattle.sd_parts.specs.declared.part.Which.{Which as AclKind};
+ghost use Rattle.std.specs.Prelude.{◌≡◌, ◌≤◌, ◌-◌, ℕ, List, [], ◌∷◌, ◌++◌, codes, length, take, ◌||◌, if◌then◌else◌};
+ghost use Rattle.std.specs.Prelude.{true, false, Option, Some, None, Ok, Err, IfOk, IfSome, OnErr, OnOk, MatchOption};
+ghost use Rattle.std.specs.Prelude.{MatchResult};
+ghost use Rattle.std.specs.Option.{is_some, option_copied};
 ghost use Rattle.sd_sid.specs.Sid.{IsSid, SecurityId};
 ghost use Rattle.sd_view.specs.Descriptor.{IsDescriptor, Shows};
 ghost use Rattle.sd_view.specs.WrittenForm.{IsWritten, IsWrittenForm};
 ghost use Rattle.sd_sddl_fields.specs.Held.{IsHeld, no_text, held_text};
 ghost use Rattle.sd_sddl_builder.specs.Line.{byte, head_at, head_of as head_named, pieces_from};
 ghost use Rattle.sd_sddl_builder.specs.FoldedReading.{FieldsRead, finished, take_field};
-ghost use Rattle.sd_sddl_builder.specs.Shape.{IsLineShape, at_state, is_between, is_inside, state_of};
-ghost use Rattle.sd_sddl_builder.specs.Shape.{step as next_shape};
-ghost use Rattle.sd_sddl_fields.specs.FieldTexts.{is_blank};
-ghost use Rattle.sd_sddl_builder.specs.declared.slot.Head.{Head as HeadNamed};
 ghost use Rattle.sd_text.specs.Chains.{and_then, unless};
 ghost use Rattle.sd_sddl_builder.specs.Meaning.{means};
 ghost use Rattle.sd_sddl_builder.specs.FieldReading.{CanTake, HasReadFields};
 ghost use Rattle.sd_sddl_reader.specs.Inner.WholePart.{IsPlainText};
-ghost use Rattle.sd_sddl_reader.specs.Inner.Progress.{ended_with, is_seen, with_head};
+ghost use Rattle.sd_sddl_reader.specs.Inner.Progress.{ended_with, is_inside, is_seen, state_of, with_head};
 
+use crate::line::{State, blanks, head_of, in_field, next_field, plain_outside, state_of};
 use sd_buffer::SdBuf;
 use sd_parts::Parts;
-use sd_sddl_builder::{
-    AceField, FieldReader, Head, LineShape, SddlFault, Slot, State, at_state, fault_of, head_of,
-    is_ended, state_of, step,
-};
-use sd_sddl_fields::FieldText;
+use sd_sddl_builder::{AceField, FieldReader, Head, SddlFault, Slot, fault_of};
+use sd_sddl_fields::{FieldText, is_blank, plain_inside};
 use sd_sid::Sid;
 
 /// A reader of one line, by bytes or pieces, beside the buffer in which the descriptor is built.
@@ -43,9 +35,10 @@ use sd_sid::Sid;
 /// ```
 #[derive(Drop)]
 pub struct SddlReader {
-    pub(crate) shape: LineShape,
-    // Whether the line has a shape so far.
-    pub(crate) sound: bool,
+    pub(crate) state: State,
+    // A letter that is a head if a colon comes next.
+    pub(crate) pending: Option<u8>,
+    sound: bool,
     twice: bool,
     // The heads that stood in the line so far.
     seen: Parts<bool>,
@@ -60,7 +53,8 @@ impl SddlReader {
     ghost use Rattle.sd_sddl_reader.specs.SddlReading.{IsReading, ReadsSddl};
     ghost use Rattle.sd_sddl_builder.specs.FieldReading.{Ends, HasReadFields};
     ghost use Rattle.sd_sddl_reader.specs.Inner.Reads.{CanStep, Feeds, LineHasRead, IsCalm};
-    ghost use Rattle.sd_sddl_reader.specs.Inner.Reads.{IsFresh, IsReader, Reads, StepsOn, StepsOver, answer_at};
+    ghost use Rattle.sd_sddl_reader.specs.Inner.Reads.{IsFresh, IsReader, IsText, Reads, StepsOn, StepsOver};
+    ghost use Rattle.sd_sddl_reader.specs.Inner.Reads.{StepsText, answer_at};
 
     /// A reader that was fed nothing.
     pub fn new(domain: Option<Sid>, buf: &mut SdBuf) -> Self
@@ -68,7 +62,8 @@ impl SddlReader {
         ensures read { ReadsSddl result buf.new domain [] }
     {
         SddlReader {
-            shape: at_state(State::Before),
+            state: State::Before,
+            pending: None,
             sound: true,
             twice: false,
             seen: Parts::each(false),
@@ -83,7 +78,8 @@ impl SddlReader {
         ensures reader { IsReading self.new buf.new }
         ensures read { ReadsSddl self.new buf.new domain [] }
     {
-        self.shape = at_state(State::Before);
+        self.state = State::Before;
+        self.pending = None;
         self.sound = true;
         self.twice = false;
         self.seen = Parts::each(false);
@@ -92,118 +88,105 @@ impl SddlReader {
         self.fields.restart(domain, buf);
     }
 
-    // A byte with which the line goes on.
-    #[inline(always)]
-    fn go_on(&mut self, buf: &mut SdBuf, byte: u8, next: LineShape)
-        requires ready { IsReader self.old buf.old }
-        requires next { next_shape self.old.shape byte ≡ Some next }
-        ensures answers { StepsOn self.old buf.old (option_to_list self.old.shape.letter ++ byte ∷ []) self.new
-            buf.new }
-        ensures reader { IsReader self.new buf.new }
-    {
-        if let State::Ace(_, _, field) = self.shape.state {
-            self.put_inside(buf, field, byte, next);
-        } else if let Some(letter) = self.shape.letter {
-            self.put_after(buf, letter, byte, next);
-        } else {
-            self.put_alone(buf, byte, next);
-        }
-    }
-
     // A byte inside parentheses.
-    fn put_inside(&mut self, buf: &mut SdBuf, field: AceField, byte: u8, next: LineShape)
-        requires here { (w : AclKind) × (n : ℕ) × (self.old.shape.state ≡ State.Ace w n field) }
+    fn put_inside(&mut self, buf: &mut SdBuf, field: AceField, byte: u8)
+        requires here { self.old.state ≡ State.Ace field }
         requires ready { CanStep self.old buf.old }
-        requires next { next_shape self.old.shape byte ≡ Some next }
         ensures { StepsOver self.old buf.old (byte ∷ []) self.new buf.new }
     {
         match byte {
-            b')' | b';' => {
-                self.end_field(buf, Slot::Ace(field));
-                self.shape = next;
-            }
-            _ => {
-                self.field.push_within(byte);
-                self.shape = next;
-            }
+            b'(' => self.sound = false,
+            b')' => self.end_ace(buf, field),
+            b';' => self.end_ace_field(buf, field),
+            _ => self.field.push_within(byte),
         }
     }
 
-    // A byte outside parentheses after a letter, which begins a head if the byte is a colon, and is text otherwise.
-    fn put_after(&mut self, buf: &mut SdBuf, letter: u8, byte: u8, next: LineShape)
-        requires here { is_inside self.old.shape.state ≡ false }
+    // The parenthesis that ends an ACE.
+    fn end_ace(&mut self, buf: &mut SdBuf, field: AceField)
+        requires here { self.old.state ≡ State.Ace field }
         requires ready { CanStep self.old buf.old }
-        requires letter { self.old.shape.letter ≡ Some letter }
-        requires names { (p : HeadNamed) × (head_named letter ≡ Some p) }
-        requires next { next_shape self.old.shape byte ≡ Some next }
-        ensures answers { StepsOn self.old buf.old (letter ∷ byte ∷ []) self.new buf.new }
-        ensures reader { IsReader self.new buf.new }
+        ensures { StepsOver self.old buf.old (codes ")") self.new buf.new }
     {
-        match head_of(letter) {
-            Some(head) if byte == b':' => self.begin_part(buf, letter, head),
-            _ => {
-                self.put_text(letter);
-                self.put_alone(buf, byte, next);
-            }
-        }
-    }
-
-    // A byte outside parentheses, after no letter. If it is one, it waits.
-    fn put_alone(&mut self, buf: &mut SdBuf, byte: u8, next: LineShape)
-        requires here { is_inside self.old.shape.state ≡ false }
-        requires ready { CanStep self.old buf.old }
-        requires next { next_shape (at_state self.old.shape.state) byte ≡ Some next }
-        ensures answers { StepsOn self.old buf.old (byte ∷ []) self.new buf.new }
-        ensures reader { IsReader self.new buf.new }
-    {
-        if next.letter.is_some() {
-            self.shape = next;
-        } else if byte == b'(' {
-            self.begin_ace(buf, next);
+        if let AceField::Sid = field {
+            self.end_field(buf, Slot::Ace(field));
+            self.state = State::AfterAce;
         } else {
-            self.put_text(byte);
-            self.shape = next;
+            self.sound = false;
+        }
+    }
+
+    // The semicolon that ends a field of an ACE.
+    fn end_ace_field(&mut self, buf: &mut SdBuf, field: AceField)
+        requires here { self.old.state ≡ State.Ace field }
+        requires ready { CanStep self.old buf.old }
+        ensures { StepsOver self.old buf.old (codes ";") self.new buf.new }
+    {
+        if let AceField::Sid = field {
+            self.sound = false;
+        } else {
+            self.end_field(buf, Slot::Ace(field));
+            self.state = State::Ace(next_field(field));
+        }
+    }
+
+    // A byte outside parentheses that begins no head.
+    fn put_outside(&mut self, buf: &mut SdBuf, byte: u8)
+        requires here { is_inside self.old.state ≡ false }
+        requires ready { CanStep self.old buf.old }
+        ensures answers { StepsText self.old buf.old byte self.new buf.new }
+        ensures calm { IsCalm self.new }
+        ensures pending { self.new.pending ≡ self.old.pending }
+    {
+        match byte {
+            b'(' => self.begin_ace(buf),
+            b')' | b':' => self.sound = false,
+            _ => self.put_text(byte),
         }
     }
 
     // The parenthesis that begins an ACE.
-    fn begin_ace(&mut self, buf: &mut SdBuf, next: LineShape)
-        requires here { is_inside self.old.shape.state ≡ false }
+    fn begin_ace(&mut self, buf: &mut SdBuf)
+        requires here { is_inside self.old.state ≡ false }
         requires ready { CanStep self.old buf.old }
-        requires next { next_shape (at_state self.old.shape.state) (char "(") ≡ Some next }
         ensures { StepsOver self.old buf.old (codes "(") self.new buf.new }
     {
-        if let State::AclFlags(which) = self.shape.state {
-            self.end_field(buf, Slot::AclFlags(which, true));
-            self.shape = next;
-        } else {
-            self.field.clear();
-            self.shape = next;
+        match self.state {
+            State::AclFlags(which) => {
+                self.end_field(buf, Slot::AclFlags(which, true));
+                self.state = State::Ace(AceField::Kind);
+            }
+            State::AfterAce => {
+                self.field.clear();
+                self.state = State::Ace(AceField::Kind);
+            }
+            _ => self.sound = false,
         }
     }
 
-    // A byte of a text, or a blank, outside parentheses.
+    // A byte of a text outside parentheses.
     fn put_text(&mut self, b: u8)
-        requires here { is_inside self.old.shape.state ≡ false }
-        requires opens { (b == char "(") ≡ false }
-        requires closes { (b == char ")") ≡ false }
-        requires colon { (b == char ":") ≡ false }
-        requires blank { is_between self.old.shape.state ≡ true → is_blank b ≡ true }
+        requires here { is_inside self.old.state ≡ false }
         requires calm { IsCalm self.old }
+        requires text { IsText b }
         ensures answers { (t : FieldsRead) (rest : List ℕ) → head_at (byte b) (pieces_from false rest).after ≡ None
             → answer_at self.new t rest ≡ answer_at self.old t (b ∷ rest) }
         ensures calm { IsCalm self.new }
-        ensures same { self.new ≡ record self.old { field = self.new.field } }
+        ensures same { self.new ≡ record self.old { sound = self.new.sound; field = self.new.field } }
     {
-        match self.shape.state {
+        match self.state {
             State::Sid(_) | State::AclFlags(_) => self.field.push_outer(b),
-            _ => {}
+            _ => {
+                if !is_blank(b) {
+                    self.sound = false;
+                }
+            }
         }
     }
 
     /// A head, of a letter that waited and its colon.
     pub(crate) fn begin_part(&mut self, buf: &mut SdBuf, letter: u8, head: Head)
-        requires here { is_inside self.old.shape.state ≡ false }
+        requires here { is_inside self.old.state ≡ false }
         requires ready { CanStep self.old buf.old }
         requires letter { head_named letter ≡ Some head }
         ensures { StepsOver self.old buf.old (letter ∷ codes ":") self.new buf.new }
@@ -215,14 +198,14 @@ impl SddlReader {
     /// Notes a head. After a second head with the same letter, the reader only checks the shape and builds nothing
     /// more.
     pub(crate) fn note_head(&mut self, head: Head)
-        ensures shape { self.new.shape ≡ at_state (state_of head) }
+        ensures state { self.new.state ≡ state_of head }
         ensures twice { self.new.twice ≡ (self.old.twice || is_seen self.old.seen head) }
         ensures seen { self.new.seen ≡ with_head self.old.seen head }
         ensures fault { self.new.fault
             ≡ (if is_seen self.old.seen head then Some SddlFault.PartTwice else self.old.fault) }
         ensures same { self.new
             ≡ record self.old {
-              shape = self.new.shape;
+              state = self.new.state;
               twice = self.new.twice;
               seen = self.new.seen;
               fault = self.new.fault;
@@ -234,7 +217,7 @@ impl SddlReader {
             self.fault = Some(SddlFault::PartTwice);
         }
         self.seen.set(part, true);
-        self.shape = at_state(state_of(head));
+        self.state = state_of(head);
     }
 
     // Reads the field at hand, where each one before it read, and makes room for the next.
@@ -277,21 +260,56 @@ impl SddlReader {
 
     // The end of the part at hand, with no ACE since its head or none open.
     fn end_part(&mut self, buf: &mut SdBuf)
-        requires here { is_inside self.old.shape.state ≡ false }
+        requires here { is_inside self.old.state ≡ false }
         requires ready { CanStep self.old buf.old }
         ensures read { (t : FieldsRead) → LineHasRead self.old buf.old t → (u : FieldsRead)
             × (self.new.fault ≡ None → HasReadFields self.new.fields buf.new u)
             × (unless self.new.fault u
-            ≡ ended_with self.old.fields.domain self.old.shape.state self.old.field (unless self.old.fault t)) }
+            ≡ ended_with self.old.fields.domain self.old.state self.old.field (unless self.old.fault t)) }
         ensures cleared { self.new.field ≡ no_text }
         ensures domain { self.new.fields.domain ≡ self.old.fields.domain }
         ensures same { self.new
             ≡ record self.old { field = self.new.field; fault = self.new.fault; fields = self.new.fields } }
     {
-        match self.shape.state {
+        match self.state {
             State::Sid(part) => self.end_field(buf, Slot::Sid(part)),
             State::AclFlags(which) => self.end_field(buf, Slot::AclFlags(which, false)),
             _ => self.field.clear(),
+        }
+    }
+
+    // A byte outside parentheses with none that waits before it.
+    #[inline(always)]
+    fn feed_alone(&mut self, buf: &mut SdBuf, byte: u8)
+        requires here { is_inside self.old.state ≡ false }
+        requires ready { CanStep self.old buf.old }
+        requires pending { self.old.pending ≡ None }
+        ensures answers { StepsOn self.old buf.old (byte ∷ []) self.new buf.new }
+        ensures reader { IsReader self.new buf.new }
+    {
+        if head_of(byte).is_some() {
+            self.pending = Some(byte);
+        } else {
+            self.put_outside(buf, byte);
+        }
+    }
+
+    // A byte outside parentheses after a letter that waits.
+    fn feed_after(&mut self, buf: &mut SdBuf, letter: u8, byte: u8)
+        requires here { is_inside self.old.state ≡ false }
+        requires ready { CanStep self.old buf.old }
+        requires pending { self.old.pending ≡ Some letter }
+        requires letter { IsText letter }
+        ensures answers { StepsOn self.old buf.old (letter ∷ byte ∷ []) self.new buf.new }
+        ensures reader { IsReader self.new buf.new }
+    {
+        self.pending = None;
+        match head_of(letter) {
+            Some(head) if byte == b':' => self.begin_part(buf, letter, head),
+            _ => {
+                self.put_text(letter);
+                self.feed_alone(buf, byte);
+            }
         }
     }
 
@@ -305,9 +323,12 @@ impl SddlReader {
         if !self.sound {
             return;
         }
-        match step(self.shape, byte) {
-            Some(next) => self.go_on(buf, byte, next),
-            None => self.sound = false,
+        if let State::Ace(field) = self.state {
+            self.put_inside(buf, field, byte);
+        } else if let Some(letter) = self.pending {
+            self.feed_after(buf, letter, byte);
+        } else {
+            self.feed_alone(buf, byte);
         }
     }
 
@@ -354,6 +375,64 @@ impl SddlReader {
         &after[run..]
     }
 
+    // Appends the bytes at the front that belong to the current field, in one call, and returns their number. Bytes
+    // that change nothing are taken first. A field that has no byte yet may be whole in what follows, so no more is
+    // taken of it. Once the shape of the line is broken, the error is known, and all bytes are taken.
+    fn feed_run(&mut self, text: &[u8]) -> usize
+        ensures within { result ≤ length text.now }
+        ensures reader { (buf : List ℕ) → IsReader self.old buf → IsReader self.new buf }
+        ensures read { (buf : List ℕ) (domain : Option SecurityId) (before : List ℕ) → IsReader self.old buf
+            → Reads self.old buf domain before
+            → Reads self.new buf domain (before ++ take result text.now) }
+    {
+        if !self.sound {
+            return text.len();
+        }
+        let idle = self.idle_bytes(text);
+        if idle > 0 || self.field.is_empty() {
+            return idle;
+        }
+        match self.state {
+            State::Ace(_) => {
+                let count = plain_inside(text);
+                self.field.push_run(&text[..count]);
+                count
+            }
+            State::Sid(_) | State::AclFlags(_) if self.pending.is_none() => {
+                let count = plain_outside(text);
+                self.field.push_run(&text[..count]);
+                count
+            }
+            _ => 0,
+        }
+    }
+
+    // How many bytes at the front change nothing. Outside parentheses that is so for blanks at the ends of a field.
+    // Inside, it is so for all bytes of a field that is lost.
+    fn idle_bytes(&self, text: &[u8]) -> usize
+        ensures within { result ≤ length text.now }
+        ensures read { (buf : List ℕ) (domain : Option SecurityId) (before : List ℕ) → IsReader self.now buf
+            → Reads self.now buf domain before → Reads self.now buf domain (before ++ take result text.now) }
+    {
+        if let State::Ace(_) = self.state {
+            if self.is_lost() {
+                return in_field(text);
+            }
+            return 0;
+        }
+        if self.pending.is_none() && self.field.ignores_blanks() {
+            return blanks(text);
+        }
+        0
+    }
+
+    // Whether it is known that the field at hand, or one before it, doesn't read.
+    fn is_lost(&self) -> bool
+        ensures { result ≡ (is_some self.now.fault || self.now.field.broken) }
+    {
+        self.fault.is_some() || self.field.is_broken()
+    }
+
     /// Ends the line. The buffer then holds what the line means, or nothing if it has a fault. The reader can only be
     /// restarted after it.
     pub fn end(&mut self, buf: &mut SdBuf) -> Result<(), SddlFault>
@@ -369,25 +448,10 @@ impl SddlReader {
         ensures form { OnOk result (IsWrittenForm buf.new) }
         ensures empty { OnErr result (buf.new ≡ []) }
     {
-        self.note_end();
-        self.finish_alone(buf)
-    }
-
-    // Notes that the line has no more bytes. So a letter that waits is text.
-    fn note_end(&mut self)
-        requires calm { IsCalm self.old }
-        requires shape { IsLineShape self.old.shape }
-        ensures read { (buf : List ℕ) (t : FieldsRead) → LineHasRead self.old buf t → LineHasRead self.new buf t }
-        ensures answers { (t : FieldsRead)
-            → answer_at self.new t [] ≡ answer_at self.old t (option_to_list self.old.shape.letter ++ []) }
-        ensures calm { IsCalm self.new }
-        ensures ended { self.new.sound ≡ true → is_inside self.new.shape.state ≡ false }
-    {
-        if !is_ended(self.shape) {
-            self.sound = false;
-        } else if let Some(letter) = self.shape.letter {
+        if let Some(letter) = self.pending {
             self.put_text(letter);
         }
+        self.finish_alone(buf)
     }
 
     /// Ends the line, as `end` does.
@@ -407,10 +471,9 @@ impl SddlReader {
         self.end(buf)
     }
 
-    // The end of a line that was noted.
+    // The end of a line with no byte that waits.
     fn finish_alone(&mut self, buf: &mut SdBuf) -> Result<(), SddlFault>
-        requires ready { CanStep self.old buf.old }
-        requires ended { self.old.sound ≡ true → is_inside self.old.shape.state ≡ false }
+        requires { CanStep self.old buf.old }
         ensures exact { (t : FieldsRead) → LineHasRead self.old buf.old t
             → MatchResult (finished (answer_at self.old t []))
             (λ d. (result ≡ Ok tt) × Shows buf.new d)
@@ -429,14 +492,16 @@ impl SddlReader {
         }
     }
 
-    // What it gives.
+    // What a line gives that ends here, with no byte that waits.
     fn end_line(&mut self, buf: &mut SdBuf) -> Result<(), SddlFault>
-        requires ready { CanStep self.old buf.old }
-        requires ended { self.old.sound ≡ true → is_inside self.old.shape.state ≡ false }
+        requires { CanStep self.old buf.old }
         ensures { (t : FieldsRead) → LineHasRead self.old buf.old t
             → Ends (finished (answer_at self.old t [])) result buf.new }
     {
         if !self.sound {
+            return Err(SddlFault::Shape);
+        }
+        if let State::Ace(_) = self.state {
             return Err(SddlFault::Shape);
         }
         self.end_part(buf);

@@ -1,31 +1,30 @@
-//! A fast way: fields and ACEs that are whole in a piece of a line, read where they stand.
-//!
-//! It equals `feed` of each byte, and is tried at the front of a piece and before each field. Without it these rows of
-//! tests/instructions.txt fail: 'the mixture from SDDL to hex', '1,500 ACEs a line from SDDL to hex', 'path: owner,
-//! group and flags of both ACLs'.
+//! What is whole in a piece of a line, taken at once.
 
-ghost use Rattle.std.specs.Prelude.{◌≡◌, ◌≤◌, true, false, Option, Some, None};
+ghost use Rattle.std.specs.Prelude.{◌≡◌, ◌≤◌, true, false, Option, Some, None, MatchOption};
 ghost use Rattle.sd_sddl_fields.specs.Held.{no_text};
 ghost use Rattle.sd_sddl_builder.specs.FoldedReading.{FieldsRead, take_field};
 ghost use Rattle.sd_sddl_builder.specs.FieldReading.{CanTake, HasReadFields};
 ghost use Rattle.sd_text.specs.Chains.{unless};
 ghost use Rattle.sd_sddl_reader.specs.Inner.WholePart.{IsPlainText};
-ghost use Rattle.sd_sddl_builder.specs.Shape.{is_inside};
+ghost use Rattle.sd_sddl_reader.specs.Inner.Progress.{is_inside};
 ghost use Rattle.sd_sddl_reader.specs.Inner.Reads.{Feeds, IsFresh, IsReader};
 
-use crate::line::{behind_blanks, first_parenthesis, front_head, next_head};
+use crate::line::{
+    State, behind_blanks, first_parenthesis, front_head, next_account, next_head, next_named,
+    usual_front,
+};
 use crate::reader::SddlReader;
-use crate::usual_flags::usual_front;
 use sd_buffer::SdBuf;
+use sd_builder::Trustee;
 use sd_parts::{SidPart, Which};
-use sd_sddl_builder::{AceField, Slot, State, at_state, next_number};
+use sd_sddl_builder::{AceField, Slot};
 
 impl SddlReader {
     // Whether the field at hand has no byte yet, no byte waits, and all fields so far read.
     fn is_fresh(&self) -> bool
         ensures { result ≡ true → IsFresh self.now }
     {
-        self.shape.letter.is_none() && self.fault.is_none() && self.field.is_empty()
+        self.pending.is_none() && self.fault.is_none() && self.field.is_empty()
     }
 
     /// Whether a field comes next that `feed_whole` tries, and none before it was wrong.
@@ -33,8 +32,8 @@ impl SddlReader {
     pub(crate) fn is_before_field(&self) -> bool
         ensures { result ≡ true → IsFresh self.now }
     {
-        match self.shape.state {
-            State::Before | State::AfterAce(_, _) => false,
+        match self.state {
+            State::Before | State::AfterAce => false,
             _ => self.is_fresh(),
         }
     }
@@ -61,8 +60,8 @@ impl SddlReader {
         if !self.is_fresh() {
             return text;
         }
-        match self.shape.state {
-            State::Before | State::AfterAce(_, _) => self.feed_head(buf, text),
+        match self.state {
+            State::Before | State::AfterAce => self.feed_head(buf, text),
             _ => text,
         }
     }
@@ -89,7 +88,7 @@ impl SddlReader {
         if !self.is_fresh() {
             return text;
         }
-        match self.shape.state {
+        match self.state {
             State::Sid(part) => self.feed_sid(buf, part, text),
             _ => text,
         }
@@ -104,7 +103,7 @@ impl SddlReader {
         if !self.is_fresh() {
             return text;
         }
-        match self.shape.state {
+        match self.state {
             State::AclFlags(which) => self.feed_flags(buf, which, text),
             _ => text,
         }
@@ -119,15 +118,15 @@ impl SddlReader {
         if !self.is_fresh() {
             return text;
         }
-        match self.shape.state {
-            State::Ace(which, number, AceField::Kind) => self.feed_aces(buf, which, number, text),
+        match self.state {
+            State::Ace(AceField::Kind) => self.feed_aces(buf, text),
             _ => text,
         }
     }
 
     // Takes a head.
     fn feed_head<'a>(&mut self, buf: &mut SdBuf, text: &'a [u8]) -> &'a [u8]
-        requires here { is_inside self.old.shape.state ≡ false }
+        requires here { is_inside self.old.state ≡ false }
         requires fresh { IsFresh self.old }
         requires reader { IsReader self.old buf.old }
         ensures { Feeds self.old buf.old text.now self.new buf.new result.now }
@@ -143,7 +142,7 @@ impl SddlReader {
 
     // Takes an owner or a group that is whole in the text, and the head that ends it.
     fn feed_sid<'a>(&mut self, buf: &mut SdBuf, part: SidPart, text: &'a [u8]) -> &'a [u8]
-        requires here { self.old.shape.state ≡ State.Sid part }
+        requires here { self.old.state ≡ State.Sid part }
         requires fresh { IsFresh self.old }
         requires reader { IsReader self.old buf.old }
         ensures { Feeds self.old buf.old text.now self.new buf.new result.now }
@@ -154,9 +153,66 @@ impl SddlReader {
         self.feed_other_sid(buf, part, text)
     }
 
+    // The same for an account of a domain, or a name that means one SID everywhere. If no such SID is whole in the
+    // text, nothing changes.
+    #[inline(always)]
+    fn feed_usual<'a>(&mut self, buf: &mut SdBuf, part: SidPart, text: &'a [u8]) -> Option<&'a [u8]>
+        requires here { self.old.state ≡ State.Sid part }
+        requires fresh { IsFresh self.old }
+        requires reader { IsReader self.old buf.old }
+        ensures { MatchOption result ((self.new ≡ self.old) × (buf.new ≡ buf.old))
+            (λ rest. Feeds self.old buf.old text.now self.new buf.new rest.now) }
+    {
+        if text.len() < 2 {
+            return None;
+        }
+        // A name such as BA has a letter where the text of an account has its first dash.
+        if text[1] == b'-' {
+            let rest = self.put_account(buf, part, text)?;
+            return Some(rest);
+        }
+        let rest = self.put_named(buf, part, text)?;
+        Some(rest)
+    }
+
+    // The same for an account. Apart, so that other SIDs keep their registers.
+    #[inline(never)]
+    fn put_account<'a>(
+        &mut self,
+        buf: &mut SdBuf,
+        part: SidPart,
+        text: &'a [u8],
+    ) -> Option<&'a [u8]>
+        requires here { self.old.state ≡ State.Sid part }
+        requires fresh { IsFresh self.old }
+        requires reader { IsReader self.old buf.old }
+        ensures { MatchOption result ((self.new ≡ self.old) × (buf.new ≡ buf.old))
+            (λ rest. Feeds self.old buf.old text.now self.new buf.new rest.now) }
+    {
+        let (account, head, rest) = next_account(text, &self.fields.kept)?;
+        self.fields.put_sid(buf, part, Trustee::Account(account));
+        self.note_head(head);
+        Some(rest)
+    }
+
+    // The same for a name. The SID's numbers come from the table of names.
+    #[inline(never)]
+    fn put_named<'a>(&mut self, buf: &mut SdBuf, part: SidPart, text: &'a [u8]) -> Option<&'a [u8]>
+        requires here { self.old.state ≡ State.Sid part }
+        requires fresh { IsFresh self.old }
+        requires reader { IsReader self.old buf.old }
+        ensures { MatchOption result ((self.new ≡ self.old) × (buf.new ≡ buf.old))
+            (λ rest. Feeds self.old buf.old text.now self.new buf.new rest.now) }
+    {
+        let (name, head, rest) = next_named(text)?;
+        self.fields.put_sid(buf, part, Trustee::Named(name));
+        self.note_head(head);
+        Some(rest)
+    }
+
     // The same for any SID.
     fn feed_other_sid<'a>(&mut self, buf: &mut SdBuf, part: SidPart, text: &'a [u8]) -> &'a [u8]
-        requires here { self.old.shape.state ≡ State.Sid part }
+        requires here { self.old.state ≡ State.Sid part }
         requires fresh { IsFresh self.old }
         requires reader { IsReader self.old buf.old }
         ensures { Feeds self.old buf.old text.now self.new buf.new result.now }
@@ -173,20 +229,20 @@ impl SddlReader {
 
     // Takes the flags of an ACL that are whole in the text, and the parenthesis of its first ACE.
     fn feed_flags<'a>(&mut self, buf: &mut SdBuf, which: Which, text: &'a [u8]) -> &'a [u8]
-        requires here { self.old.shape.state ≡ State.AclFlags which }
+        requires here { self.old.state ≡ State.AclFlags which }
         requires fresh { IsFresh self.old }
         requires reader { IsReader self.old buf.old }
         ensures { Feeds self.old buf.old text.now self.new buf.new result.now }
     {
         if let Some((front, rest)) = usual_front(text) {
             self.fields.put_front(buf, which, front);
-            self.shape = at_state(State::Ace(which, 0, AceField::Kind));
+            self.state = State::Ace(AceField::Kind);
             return rest;
         }
         match first_parenthesis(text) {
             Some((field, rest)) => {
                 self.take_whole(buf, Slot::AclFlags(which, true), field);
-                self.shape = at_state(State::Ace(which, 0, AceField::Kind));
+                self.state = State::Ace(AceField::Kind);
                 rest
             }
             None => text,
@@ -211,33 +267,23 @@ impl SddlReader {
     }
 
     // Takes the ACEs that are whole at the front of the text, from behind the first parenthesis of the first one, with
-    // the blanks behind each, and answers what follows them. The number of the ACE is not written for each one.
-    fn feed_aces<'a>(
-        &mut self,
-        buf: &mut SdBuf,
-        which: Which,
-        number: u32,
-        text: &'a [u8],
-    ) -> &'a [u8]
-        requires here { self.old.shape.state ≡ State.Ace which number AceField.Kind }
+    // the blanks behind each, and answers what follows them.
+    fn feed_aces<'a>(&mut self, buf: &mut SdBuf, text: &'a [u8]) -> &'a [u8]
+        requires here { self.old.state ≡ State.Ace AceField.Kind }
         requires fresh { IsFresh self.old }
         requires reader { IsReader self.old buf.old }
         ensures { Feeds self.old buf.old text.now self.new buf.new result.now }
     {
-        let mut number = number;
         let mut rest = text;
         while let Some(after) = self.fields.take_ace(buf, rest) {
-            number = next_number(number);
+            self.state = State::AfterAce;
             let behind = behind_blanks(after);
             match behind.split_first() {
                 Some((b'(', next)) => rest = next,
-                _ => {
-                    self.shape = at_state(State::AfterAce(which, number));
-                    return behind;
-                }
+                _ => return behind,
             }
+            self.state = State::Ace(AceField::Kind);
         }
-        self.shape = at_state(State::Ace(which, number, AceField::Kind));
         rest
     }
 }

@@ -1,42 +1,41 @@
 -- The reader of a line: what it has read, and what its buffer holds.
-use Rattle.std.specs.Prelude.{◌≡◌, ◌≤◌, ℕ, Bool, true, false, ◌||◌, not, List, ◌++◌, Option, None}
+use Rattle.std.specs.Prelude.{◌≡◌, ◌≤◌, ℕ, Bool, true, false, ◌||◌, not, ◌==◌, List, ◌∷◌, ◌++◌, Option, Some, None}
 use Rattle.std.specs.Prelude.{length, Result}
 use Rattle.std.specs.Option.{option_to_list}
+use Rattle.std.specs.Str.{byte as char}
 use Rattle.sd_sid.specs.Sid.{SecurityId}
 use Rattle.sd_builder.specs.Draft.{IsOpen}
 use Rattle.sd_sddl_fields.specs.Held.{IsHeld, no_text}
-use Rattle.sd_sddl_builder.specs.Line.{same_head}
+use Rattle.sd_sddl_builder.specs.Line.{byte, head_at, pieces_from, same_head}
 use Rattle.sd_sddl_builder.specs.FieldReading.{HasReadFields, Lacks}
 use Rattle.sd_sddl_builder.specs.FoldedReading.{FieldsRead, reads_as}
 use Rattle.sd_text.specs.Chains.{unless}
-use Rattle.sd_sddl_builder.specs.Shape.{IsLineShape, is_inside}
-use Rattle.sd_sddl_reader.specs.Inner.Progress.{Seen, rest_answer, is_seen}
+use Rattle.sd_sddl_reader.specs.Inner.Progress.{Seen, rest_answer, is_inside, is_seen}
 use Rattle.sd_sddl_builder.specs.declared.fault.SddlFault.{SddlFault}
 use Rattle.sd_sddl_builder.specs.declared.slot.Head.{Head}
 use Rattle.sd_sddl_builder.specs.declared.slot.Head.TheVariants as head
-use Rattle.sd_sddl_builder.specs.declared.shape.State.{State}
-use Rattle.sd_sddl_builder.specs.declared.shape.State.TheVariants as state
+use Rattle.sd_sddl_reader.specs.declared.line.State.{State}
+use Rattle.sd_sddl_reader.specs.declared.line.State.TheVariants as state
 use Rattle.sd_sddl_reader.specs.declared.reader.SddlReader.{SddlReader}
 
 -- the answer if a text follows, whatever byte waits, where the fields so far say this
 abbrev pub answer_at : SddlReader → FieldsRead → List ℕ → Result FieldsRead SddlFault
-answer_at s t text = rest_answer s.fields.domain s.sound s.twice s.seen (unless s.fault t)
-    s.shape.state s.field text
+answer_at s t text = rest_answer s.fields.domain s.sound s.twice s.seen (unless s.fault t) s.state s.field text
 
 -- the part at hand, of which no field was read
 abbrev pub is_at_front : State → Head → Bool
 is_at_front state.Before h = false
 is_at_front (state.Sid p) h = same_head (head.Sid p) h
 is_at_front (state.AclFlags w) h = same_head (head.Acl w) h
-is_at_front (state.AfterAce w n) h = false
-is_at_front (state.Ace w n f) h = false
+is_at_front state.AfterAce h = false
+is_at_front (state.Ace f) h = false
 
 abbrev pub is_in_acl : State → Bool
 is_in_acl state.Before = false
 is_in_acl (state.Sid p) = false
 is_in_acl (state.AclFlags w) = false
-is_in_acl (state.AfterAce w n) = true
-is_in_acl (state.Ace w n f) = true
+is_in_acl state.AfterAce = true
+is_in_acl (state.Ace f) = true
 
 -- the part at hand was seen, the parts that did not stand in the line so far are not given, and an ACL with ACEs is
 -- open
@@ -48,7 +47,7 @@ pub record Fits (p : State) (seen : Seen) (t : FieldsRead) : Type 0 where
 -- as long as there is no fault, what was read is held
 pub record LineHasRead (s : SddlReader) (buf : List ℕ) (t : FieldsRead) : Type 0 where
   pub fields : s.fault ≡ None → HasReadFields s.fields buf t
-  pub fits : s.fault ≡ None → Fits s.shape.state s.seen t
+  pub fits : s.fault ≡ None → Fits s.state s.seen t
 
 -- a step over some bytes: whatever was read before it, something is read after it that gives the same answers
 abbrev pub Steps : SddlReader → List ℕ → List ℕ → SddlReader → List ℕ → Type 0
@@ -56,16 +55,23 @@ Steps old before bytes new after =
     (t : FieldsRead) → LineHasRead old before t → (u : FieldsRead) × LineHasRead new after u
     × ((rest : List ℕ) → answer_at new u rest ≡ answer_at old t (bytes ++ rest))
 
--- the same where a letter may wait for the byte after it
+-- the same for a byte outside parentheses that begins no head
+abbrev pub StepsText : SddlReader → List ℕ → ℕ → SddlReader → List ℕ → Type 0
+StepsText old before b new after =
+    (t : FieldsRead) → LineHasRead old before t → (u : FieldsRead) × LineHasRead new after u
+    × ((rest : List ℕ) → head_at (byte b) (pieces_from false rest).after ≡ None
+    → answer_at new u rest ≡ answer_at old t (b ∷ rest))
+
+-- the same where a byte may wait for the next one after it
 abbrev pub StepsOn : SddlReader → List ℕ → List ℕ → SddlReader → List ℕ → Type 0
 StepsOn old before bytes new after =
     (t : FieldsRead) → LineHasRead old before t → (u : FieldsRead) × LineHasRead new after u
-    × ((rest : List ℕ) → answer_at new u (option_to_list new.shape.letter ++ rest) ≡ answer_at old t (bytes ++ rest))
+    × ((rest : List ℕ) → answer_at new u (option_to_list new.pending ++ rest) ≡ answer_at old t (bytes ++ rest))
 
 -- what is held of a field is clean, and inside parentheses no blank counts as an end
 pub record IsCalm (s : SddlReader) : Type 0 where
   pub held : IsHeld s.field
-  pub gap : is_inside s.shape.state ≡ true → s.field.gap ≡ false
+  pub gap : is_inside s.state ≡ true → s.field.gap ≡ false
 
 -- what a step needs
 pub record CanStep (s : SddlReader) (buf : List ℕ) : Type 0 where
@@ -73,22 +79,29 @@ pub record CanStep (s : SddlReader) (buf : List ℕ) : Type 0 where
   -- something was read
   pub held : (t : FieldsRead) × LineHasRead s buf t
 
--- a step over some bytes behind which no letter waits, and what is held of a field is clean
+-- a step over some bytes that leaves what waits, and what is held of a field clean
 pub record StepsOver (old : SddlReader) (before bytes : List ℕ) (new : SddlReader) (after : List ℕ) : Type 0 where
   pub answers : Steps old before bytes new after
   pub calm : IsCalm new
-  pub letter : new.shape.letter ≡ None
+  pub pending : new.pending ≡ old.pending
 
--- no byte of the field at hand came yet, no letter waits, and there is no fault
+-- a byte that waits is no parenthesis and no colon
+pub record IsText (b : ℕ) : Type 0 where
+  pub opens : (b == char "(") ≡ false
+  pub closes : (b == char ")") ≡ false
+  pub colon : (b == char ":") ≡ false
+
+-- no byte of the field at hand came yet, none waits, and there is no fault
 pub record IsFresh (s : SddlReader) : Type 0 where
-  pub none : s.shape.letter ≡ None
+  pub none : s.pending ≡ None
   pub clear : s.fault ≡ None
   pub begins : s.field ≡ no_text
 
 -- what holds between two bytes
 pub record IsReader (s : SddlReader) (buf : List ℕ) : Type 0 where
   pub calm : IsCalm s
-  pub shape : IsLineShape s.shape
+  pub still : is_inside s.state ≡ true → s.pending ≡ None
+  pub letter : (b : ℕ) → s.pending ≡ Some b → IsText b
   -- something was read
   pub read : FieldsRead
   pub held : LineHasRead s buf read
@@ -98,7 +111,7 @@ pub record IsReader (s : SddlReader) (buf : List ℕ) : Type 0 where
 abbrev pub Reads : SddlReader → List ℕ → Option SecurityId → List ℕ → Type 0
 Reads s buf domain text =
     (t : FieldsRead) × LineHasRead s buf t
-    × ((rest : List ℕ) → answer_at s t (option_to_list s.shape.letter ++ rest) ≡ reads_as domain (text ++ rest))
+    × ((rest : List ℕ) → answer_at s t (option_to_list s.pending ++ rest) ≡ reads_as domain (text ++ rest))
 
 -- they have read the line but for this rest of it
 abbrev pub FedTo : SddlReader → List ℕ → Option SecurityId → List ℕ → List ℕ → Type 0

@@ -4,9 +4,9 @@ use Rattle.std.specs.Prelude.{IfSome, drop}
 use Rattle.sd_sddl_builder.specs.Line.{is_shaped}
 use Rattle.sd_sddl_places.specs.Fields.{parts_in}
 use Rattle.sd_sddl_places.specs.Places.{IsAtFirst, character_size, place_of_shape}
-use Rattle.sd_sddl_places.specs.Reach.{IsReach, reach, start, stop}
+use Rattle.sd_sddl_places.specs.Shape.{IsReach, reach, start, stop}
 use Rattle.sd_sddl_places.proofs.Faults.{fault_at, same-fault}
-use Rattle.sd_sddl_places.proofs.Reaches.{is-reach}
+use Rattle.sd_sddl_places.proofs.Shapes.{is-reach}
 use Rattle.sd_sddl_places.proofs.Steps.{at-reach, told-first, told-shaped, told-unshaped, unshaped, well-shaped}
 use Rattle.sd_sddl_places.proofs.finding.place_of_sddl_fault.Goals as goal
 
@@ -22,7 +22,7 @@ returns-in-Some-clause-shape c = λ e.
     let u = unshaped (is_shaped c.args.text.now) (place_of_shape c.args.text.now) c.in-Some.place
     (sym c.in-Some.is ∙ c.shape_fault.ensures) in
     let at : c.in-Some.place.range.offset ≡ reach start c.args.text.now = ap (λ p. p.range.offset) u.1
-    ∙ at-reach (stop start c.args.text.now).state (reach start c.args.text.now)
+    ∙ at-reach (stop start c.args.text.now).stand (reach start c.args.text.now)
     (character_size (drop (reach start c.args.text.now) c.args.text.now)) in
     subst (λ n. IsReach n c.args.text.now) (sym at) (is-reach c.args.text.now)
 

@@ -1,7 +1,7 @@
 use Rattle.std.proofs.Common.{◌≡◌, Some, ◌∙◌, sym, ap}
 use Rattle.sd_sddl_builder.specs.Line.{is_shaped}
 use Rattle.sd_sddl_places.specs.Places.{place_of_shape}
-use Rattle.sd_sddl_places.proofs.Reaches.{shape-walked}
+use Rattle.sd_sddl_places.proofs.Shapes.{shape-walked}
 use Rattle.sd_sddl_places.proofs.Steps.{shape-none, shape-some}
 use Rattle.sd_sddl_places.proofs.finding.shape_fault.Goals as goal
 

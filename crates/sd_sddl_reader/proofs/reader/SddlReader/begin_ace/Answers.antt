@@ -1,8 +1,7 @@
-use Rattle.std.proofs.Common.{true, refl, ap, arith}
+use Rattle.std.proofs.Common.{true, refl, sym, ap, ◌∙◌, arith}
 use Rattle.sd_text.specs.Chains.{unless}
-use Rattle.sd_sddl_builder.specs.declared.shape.LineShape.{LineShape}
 use Rattle.sd_sddl_reader.specs.declared.reader.SddlReader.{SddlReader}
-use Rattle.sd_sddl_reader.proofs.Steps.{open_first, opened, opens-first, opens-next}
+use Rattle.sd_sddl_reader.proofs.Steps.{open_first, open_next, open_nowhere, unsound}
 use Rattle.sd_sddl_reader.proofs.FitLaws.{can-take-front, fits-first, fits-next, none-before, read-ok}
 use Rattle.sd_sddl_reader.proofs.reader.SddlReader.begin_ace.Goals as goal
 
@@ -16,8 +15,6 @@ end_field-requires c =
 pub returns-in-AclFlags : goal.returns-in-AclFlags
 returns-in-AclFlags c =
     let s = c.args.self.now in
-    let w = c.in-AclFlags.which in
-    let at = opens-first w c.args.next (let is = c.in-AclFlags.is in rw is at c.requires.next) in
     let same = c.end_field.ensures.same in
     let sound = ap (λ (r : SddlReader). r.sound) same in
     let twice = ap (λ (r : SddlReader). r.twice) same in
@@ -27,8 +24,8 @@ returns-in-AclFlags c =
         e.0,
         record {
           fields = e.1;
-          fits = λ none. rw (seen, at)
-              (fits-first s.fields.domain w s.seen t e.0 _
+          fits = λ none. rw seen
+              (fits-first s.fields.domain c.in-AclFlags.which s.seen t e.0 _
               (read-ok s.fault _ t e.0 _ e.2 none)
               (rw (c.in-AclFlags.is) at (k.fits (none-before s.fault _ t e.0 _ e.2 none))));
         },
@@ -36,41 +33,49 @@ returns-in-AclFlags c =
           sound,
           twice,
           seen,
-          at,
           c.in-AclFlags.is,
           e.2,
           c.end_field.ensures.cleared,
           c.end_field.ensures.domain,
         )
-            (open_first s.fields.domain s.sound s.twice s.seen (unless s.fault t) s.field rest w
+            (open_first s.fields.domain s.sound s.twice s.seen (unless s.fault t) s.field rest c.in-AclFlags.which
             c.requires.ready.calm.held),
       ));
       calm = record {
         held = rw (c.end_field.ensures.cleared) (record { clean = refl; fits = omega arith });
         gap = λ _. rw (c.end_field.ensures.cleared) refl;
       };
-      letter = ap (λ (m : LineShape). m.letter) at;
+      pending = ap (λ (r : SddlReader). r.pending) same;
     }
 
-pub returns-in_default : goal.returns-in_default
-returns-in_default c =
+pub returns-in-AfterAce : goal.returns-in-AfterAce
+returns-in-AfterAce c =
     let s = c.args.self.now in
-    let at = opens-next s.shape.state c.requires.here c.in_default.not-AclFlags c.args.next c.requires.next in
-    let w = at.0 in
-    let n = at.1 in
-    let here = at.2 in
-    let next = at.3 in
     record {
       answers = λ t k. (
         t,
-        record { fields = k.fields; fits = λ none. rw next (fits-next w n s.seen t (rw here at (k.fits none))) },
-        λ rest. rw (c.clear.ensures)
-            (opened s.fields.domain s.sound s.twice s.seen (unless s.fault t) s.field rest s.shape.state w n
-            c.args.next here next),
+        record { fields = k.fields; fits = λ none. fits-next s.seen t (rw (c.in-AfterAce.is) at (k.fits none)) },
+        λ rest. rw (c.in-AfterAce.is, c.clear.ensures)
+            (open_next s.fields.domain s.sound s.twice s.seen (unless s.fault t) s.field rest),
       );
       calm = record {
         held = rw (c.clear.ensures) (record { clean = refl; fits = omega arith });
         gap = λ _. rw (c.clear.ensures) refl;
       };
-      letter = ap (λ (m : LineShape). m.letter) next;
+      pending = refl;
+    }
+
+pub returns-in_default : goal.returns-in_default
+returns-in_default c =
+    let s = c.args.self.now in
+    record {
+      answers = λ t k. (
+        t,
+        record { fields = k.fields; fits = k.fits },
+        λ rest. unsound s.fields.domain true s.twice s.seen (unless s.fault t) s.field rest s.state
+            ∙ sym (open_nowhere s.fields.domain s.sound s.twice s.seen (unless s.fault t) s.field rest s.state
+            c.requires.here c.in_default.not-AclFlags c.in_default.not-AfterAce),
+      );
+      calm = record { held = c.requires.ready.calm.held; gap = c.requires.ready.calm.gap };
+      pending = refl;
     }

@@ -1,5 +1,4 @@
 use Rattle.std.proofs.Common.{ap, refl, arith, ◌∙◌}
-use Rattle.sd_sddl_builder.specs.declared.shape.LineShape.{LineShape}
 use Rattle.sd_sddl_reader.specs.declared.reader.SddlReader.{SddlReader}
 use Rattle.sd_sddl_reader.proofs.WholeParts.{head-steps}
 use Rattle.sd_sddl_reader.proofs.reader.SddlReader.begin_part.Goals as goal
@@ -15,7 +14,7 @@ returns c =
           c.requires.here c.requires.ready.calm.held c.requires.letter
           (record { read = ended.read; cleared = ended.cleared; domain = ended.domain; same = ended.same })
           (record {
-            shape = noted.shape;
+            state = noted.state;
             twice = noted.twice;
             seen = noted.seen;
             fault = noted.fault;
@@ -25,5 +24,6 @@ returns c =
         held = rw cleared (record { clean = refl; fits = omega arith });
         gap = λ _. rw cleared refl;
       };
-      letter = ap (λ (m : LineShape). m.letter) noted.shape;
+      pending =
+          ap (λ (r : SddlReader). r.pending) noted.same ∙ ap (λ (r : SddlReader). r.pending) ended.same;
     }

@@ -1,6 +1,6 @@
 use Rattle.std.proofs.Common.{◌≡◌, ◌∙◌, arith, length}
 use Rattle.std.proofs.lemmas.Bool.Decides.{nat_tests}
-use Rattle.sd_sddl_reader.proofs.TextRuns.{fed-whole}
+use Rattle.sd_sddl_reader.proofs.Runs.{fed-whole}
 use Rattle.sd_sddl_reader.proofs.reader.SddlReader.feed_all.Goals as goal
 
 pub loop-rest-preserved : goal.loop-rest-preserved

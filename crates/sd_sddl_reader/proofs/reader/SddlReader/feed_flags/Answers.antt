@@ -1,10 +1,8 @@
 use Rattle.std.proofs.Common.{refl, true}
 use Rattle.sd_sddl_builder.specs.declared.slot.AceField.TheVariants as field
-use Rattle.sd_sddl_builder.specs.Shape.{at_state}
-use Rattle.sd_sddl_builder.specs.declared.shape.State.TheVariants as state
+use Rattle.sd_sddl_reader.specs.declared.line.State.TheVariants as state
 use Rattle.sd_sddl_reader.proofs.FitLaws.{can-take-front}
-use Rattle.sd_sddl_reader.proofs.WholeParts.{steps-flags, text-inside}
-use Rattle.sd_sddl_reader.proofs.WholeFields.{feeds-to}
+use Rattle.sd_sddl_reader.proofs.WholeParts.{feeds-to, steps-flags, text-inside}
 use Rattle.sd_sddl_reader.specs.declared.reader.SddlReader.{SddlReader}
 use Rattle.sd_builder.specs.Draft.{closed}
 use Rattle.sd_sddl_builder.specs.FoldedReading.{begun_or_null, take_field, take_front, with_flags}
@@ -47,9 +45,8 @@ returns-in-Some c =
       domain = c.put_front.ensures.domain;
       same = refl;
     }) in
-    rw (c.at_state-self.ensures) (feeds-to s (record taken { shape = at_state (state.Ace c.args.which 0 field.Kind) })
-        c.args.buf.now c.args.text.now
-    c.put_front.new.buf c.in-Some.rest.now c.requires.fresh.none c.requires.reader over)
+    feeds-to s (record taken { state = state.Ace field.Kind }) c.args.buf.now c.args.text.now
+    c.put_front.new.buf c.in-Some.rest.now c.requires.fresh.none c.requires.reader over
 
 pub returns-in-Some-first_parenthesis : goal.returns-in-Some-first_parenthesis
 returns-in-Some-first_parenthesis c =
@@ -59,7 +56,6 @@ returns-in-Some-first_parenthesis c =
     c.requires.here c.requires.fresh
     c.in-Some-first_parenthesis.ensures.found.0 c.in-Some-first_parenthesis.ensures.found.1
     (record { read = taken.read; domain = taken.domain; same = taken.same }) in
-    rw (c.at_state-self-in-Some-first_parenthesis.ensures)
-    (feeds-to c.args.self.now (record c.take_whole.new.self { shape = at_state (state.Ace c.args.which 0 field.Kind) })
+    feeds-to c.args.self.now (record c.take_whole.new.self { state = state.Ace field.Kind })
     c.args.buf.now c.args.text.now
-    c.take_whole.new.buf c.in-Some-first_parenthesis.rest.now c.requires.fresh.none c.requires.reader over)
+    c.take_whole.new.buf c.in-Some-first_parenthesis.rest.now c.requires.fresh.none c.requires.reader over

@@ -1,6 +1,6 @@
 use Rattle.std.proofs.Common.{[], ◌∷◌, ◌++◌, refl, take, ap, length, length-drop, arith}
 use Rattle.std.proofs.lemmas.List.{take_rest}
-use Rattle.sd_sddl_reader.proofs.TextRuns.{fed-more}
+use Rattle.sd_sddl_reader.proofs.Runs.{fed-more}
 use Rattle.sd_sddl_reader.proofs.reader.SddlReader.feed_front.Goals as goal
 
 pub returns-clause-fed : goal.returns-clause-fed

@@ -1,5 +1,4 @@
-use Rattle.sd_sddl_reader.proofs.WholeParts.{behind-none, steps-sid}
-use Rattle.sd_sddl_reader.proofs.WholeFields.{feeds-to}
+use Rattle.sd_sddl_reader.proofs.WholeParts.{behind-none, feeds-to, steps-sid}
 use Rattle.sd_sddl_reader.proofs.reader.SddlReader.feed_other_sid.Goals as goal
 
 pub returns-in-Some : goal.returns-in-Some
@@ -11,7 +10,7 @@ returns-in-Some c =
     (behind-none _ _ _ _ c.in-Some.ensures.found)
     (record { read = taken.read; domain = taken.domain; same = taken.same })
     (record {
-      shape = noted.shape;
+      state = noted.state;
       twice = noted.twice;
       seen = noted.seen;
       fault = noted.fault;

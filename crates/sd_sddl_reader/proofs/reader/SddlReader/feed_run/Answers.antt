@@ -1,17 +1,17 @@
 use Rattle.std.proofs.Common.{length, take}
-use Rattle.sd_sddl_reader.proofs.TextRuns.{inside-goes, lost-goes, none-if, outside-goes}
+use Rattle.sd_sddl_reader.proofs.Runs.{inside-goes, lost-goes, none-if, outside-goes}
 use Rattle.sd_sddl_reader.proofs.reader.SddlReader.feed_run.Goals as goal
 
 pub returns-in-Ace-clause-reader : goal.returns-in-Ace-clause-reader
 returns-in-Ace-clause-reader c = λ buf r.
     rw (c.push_run.ensures)
-    ((inside-goes c.args.self.now c.in-Ace.«field-0» c.in-Ace.«field-1» c.in-Ace.«field-2»
+    ((inside-goes c.args.self.now c.in-Ace.«field-0»
     (take c.plain_inside-count.result c.args.text.now) c.in-Ace.is c.plain_inside-count.ensures.plain buf r).0)
 
 pub returns-in-Ace-clause-read : goal.returns-in-Ace-clause-read
 returns-in-Ace-clause-read c = λ buf domain before r.
     rw (c.push_run.ensures)
-    ((inside-goes c.args.self.now c.in-Ace.«field-0» c.in-Ace.«field-1» c.in-Ace.«field-2»
+    ((inside-goes c.args.self.now c.in-Ace.«field-0»
     (take c.plain_inside-count.result c.args.text.now) c.in-Ace.is c.plain_inside-count.ensures.plain buf r).1
     domain before)
 

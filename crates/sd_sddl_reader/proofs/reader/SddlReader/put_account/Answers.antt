@@ -2,8 +2,7 @@ use Rattle.std.proofs.Common.{refl}
 use Rattle.sd_sid.specs.Account.{account_sid}
 use Rattle.sd_sddl_builder.specs.FoldedReading.{take_field, with_owner_or_group}
 use Rattle.sd_sddl_builder.proofs.laws.WholeTexts.{whole-readable}
-use Rattle.sd_sddl_reader.proofs.WholeParts.{steps-sid, text-inside}
-use Rattle.sd_sddl_reader.proofs.WholeFields.{feeds-to}
+use Rattle.sd_sddl_reader.proofs.WholeParts.{feeds-to, steps-sid, text-inside}
 use Rattle.sd_sddl_reader.specs.declared.reader.SddlReader.{SddlReader}
 use Rattle.sd_sddl_reader.proofs.reader.SddlReader.put_account.Goals as goal
 
@@ -29,7 +28,7 @@ returns c =
       same = refl;
     })
     (record {
-      shape = noted.shape;
+      state = noted.state;
       twice = noted.twice;
       seen = noted.seen;
       fault = noted.fault;
