@@ -208,7 +208,7 @@ if "${MAKE:-make}" --no-print-directory program; then
             audit_package
         start_lane audit_forms hostile_lists audit_terminal audit_growth risk_rows abilities severities many_types
         start_lane distributed distributed_faults
-        start_lane page page_kinds page_questions page_units "risk_rows --page" lowering systems
+        start_lane page page_kinds page_questions page_verdicts page_units "risk_rows --page" lowering systems
     else
         echo "the library is not built, so its tests have not run"
         ((failed += 1))
