@@ -40,32 +40,36 @@ class _Bytes:
     def __init__(self, stream: Any) -> None:
         self._stream = stream
         self._held = b""
+        self._next = 0  # of what is held, the first byte that isn't taken
         self.at = 0  # bytes taken
 
     def look(self, count: int) -> bytes:
-        parts, wanted = [self._held], count - len(self._held)
-        while wanted > 0:
-            part = self._stream.read1(_PART)
-            if not part:
-                break
-            parts.append(part)
-            wanted -= len(part)
-        self._held = b"".join(parts)
-        return self._held[:count]
+        wanted = count - len(self._held) + self._next
+        if wanted > 0:
+            parts = [self._held[self._next:]]
+            while wanted > 0:
+                part = self._stream.read1(_PART)
+                if not part:
+                    break
+                parts.append(part)
+                wanted -= len(part)
+            self._held, self._next = b"".join(parts), 0
+        return self._held[self._next:self._next + count]
 
     def take(self, count: int) -> bytes:
         data = self.look(count)
-        self._held = self._held[len(data):]
+        self._next += len(data)
         self.at += len(data)
         return data
 
     def some(self, most: int) -> bytes:
         """At least one byte, unless the stream is at its end."""
-        return self.take(min(most, max(1, len(self._held)))) or b""
+        return self.take(min(most, max(1, len(self._held) - self._next)))
 
-    def give_back(self, data: bytes) -> None:
-        self._held = data + self._held
-        self.at -= len(data)
+    def give_back(self, count: int) -> None:
+        """Bytes of the last ones that were taken at once."""
+        self._next -= count
+        self.at -= count
 
 
 class _Copied:
@@ -123,7 +127,7 @@ class _Packed(io.RawIOBase):
             self._ready = memoryview(self._unpacker.decompress(data))
             rest = getattr(self._unpacker, "unused_data", b"") if self._unpacker.eof else b""
             if rest:
-                self._source.give_back(rest)
+                self._source.give_back(len(rest))
                 self._count(-len(rest))
             self.crc = zlib.crc32(self._ready, self.crc)
             self.whole += len(self._ready)
