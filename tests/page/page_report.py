@@ -146,7 +146,10 @@ def judge_views(count, local, maker, texts, names):
         text = texts[name]
         is_hex = text[:2] == "01"
         answer = page_driver.line_of(maker.given.program, ["convert", "--from", "hex" if is_hex else "sddl"], text)
-        if answer.startswith("error "):
+        if answer == "error 23 needs-domain":
+            # The page reads such a text under a domain that stands in, and says so.
+            is_right = "Aliases of a domain" in got["look"] and one["answer"] == "unknown"
+        elif answer.startswith("error "):
             number = answer.split()[1]
             is_right = f"(error {number} " in got["look"] and got["cells"] == 0 and one["answer"] == "unknown"
         else:
