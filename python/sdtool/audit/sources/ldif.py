@@ -8,7 +8,7 @@ from typing import Dict, Iterator, List, NamedTuple, Tuple, Union
 from sdtool._windows import CONTAINERS, DESCRIPTORS
 from sdtool.audit.sources import binary, ndr
 from sdtool.audit.sources.frame import Format, Lines, Look, Piece
-from sdtool.audit.sources.items import LONGEST_NAME, Item, bytes_item, item_of, shortened, unreadable
+from sdtool.audit.sources.items import Item, bytes_item, item_of, unreadable
 from sdtool.audit.sources.options import SourceOptions
 from sdtool.audit.sources.places import NAMED_PLACES, Place
 from sdtool.audit.sources.samba import Unknown
@@ -117,8 +117,6 @@ def _parsed(block: _Block) -> Entry:
             continue
         if title == "dn" and not is_named:
             name, is_named = value.decode("utf-8", "surrogateescape"), True
-            if len(name) > LONGEST_NAME:
-                name, reason = shortened(name), "the name of the entry is longer than any is"
             continue
         if not is_named:
             reason = reason or "the entry doesn't begin with its name (dn)"
