@@ -10,6 +10,8 @@ mod builder;
 #[cfg(test)]
 mod check;
 #[cfg(test)]
+mod edits;
+#[cfg(test)]
 mod numbers;
 #[cfg(test)]
 mod plain_check;
