@@ -23,8 +23,7 @@ HEAD = """# Tests
 `tests/run audit_forms page_kinds` runs two tests, `tests/run audit/` all of a folder; `--only WORD` chooses parts, \
 `--list` prints the names. `tools/contents.py` writes this page from the first sentence of each docstring.
 
-`rows/` has the worked rows, `reference/` the independent implementation that answers are compared with. `tables.py` \
-and `usual_texts.py` are links: proved texts name them.
+`rows/` has the worked rows, `reference/` the independent implementation that answers are compared with.
 """
 ENOUGH_WORDS, LONG, MOST_WORDS = 8, 15, 25
 SENTENCE = re.compile(r".*?\.(?=\s|$)")

@@ -4,7 +4,7 @@ has four checks:
   parts of others  no file names another crate's `specs.Inner`, or a module of its `proofs` outside `proofs.laws`
   laws             no file of `proofs/laws` names `specs.Inner` of its own crate, or the goals of one of its functions
   dependencies     crates.txt lists for this crate each crate that a file of `src` names, and none that no file names
-  size             `src` has at most 1,200 lines
+  size             `src` has at most 1,200 lines, since a change below a crate has all of it checked again
 
 Of the page and of the audit, docs/ARCHITECTURE.md has a table of modules from the top. Each imports only what comes
 later there, and the table has each module. A name with a slash is a folder of the audit: its modules may import each

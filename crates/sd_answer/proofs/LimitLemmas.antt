@@ -20,8 +20,8 @@ use Rattle.sd_sddl_builder.specs.declared.fault.SddlFault.{SddlFault}
 use Rattle.sd_buffer.proofs.laws.Base64Bytes.{spelled-base64}
 use Rattle.sd_answer.specs.Answer.{Meaning, bytes_mean, line_limit, line_means}
 use Rattle.sd_answer.specs.Answer.{meaning, or_byte_fault, or_sddl_fault, text_means}
-use Rattle.sd_answer.specs.declared.fault.LineFault.{LineFault}
-use Rattle.sd_answer.specs.declared.fault.LineFault.TheVariants.{TooLong}
+use Rattle.sd_faults.specs.declared.line_fault.LineFault.{LineFault}
+use Rattle.sd_faults.specs.declared.line_fault.LineFault.TheVariants.{TooLong}
 use Rattle.sd_answer.specs.declared.job.Form.{Form}
 use Rattle.sd_answer.specs.declared.job.Form.TheVariants as form
 use Rattle.sd_answer.specs.declared.job.Job.{Job}

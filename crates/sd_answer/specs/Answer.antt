@@ -27,10 +27,10 @@ use Rattle.sd_explain.specs.Explain.{explain}
 use Rattle.sd_sddl_builder.specs.Meaning.{means}
 use Rattle.sd_sddl_builder.specs.declared.fault.SddlFault.{SddlFault}
 use Rattle.sd_sddl_printer.specs.Printed.{sddl}
-use Rattle.sd_answer.specs.Faults.{fault_text}
+use Rattle.sd_faults.specs.Faults.{fault_text}
 use Rattle.sd_answer.specs.LineEnd.{line_feed}
-use Rattle.sd_answer.specs.declared.fault.LineFault.{LineFault}
-use Rattle.sd_answer.specs.declared.fault.LineFault.TheVariants.{TooLong, Text, Sd, Sddl, Derive}
+use Rattle.sd_faults.specs.declared.line_fault.LineFault.{LineFault}
+use Rattle.sd_faults.specs.declared.line_fault.LineFault.TheVariants.{TooLong, Text, Sd, Sddl, Derive}
 use Rattle.sd_answer.specs.declared.job.Act.{Act}
 use Rattle.sd_answer.specs.declared.job.Act.TheVariants.{Check, Convert, Explain}
 use Rattle.sd_answer.specs.declared.job.Act.TheVariants as act

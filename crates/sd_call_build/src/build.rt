@@ -11,8 +11,8 @@ use crate::layout::put_new;
 use crate::new::{LIST, NewAcl, NewDescriptor};
 use crate::reading::{first_wrong, is_wrong_sid};
 use crate::sizes::part_sizes;
-use sd_answer::LineFault;
 use sd_call::{Argument, CallFault, Front, Outcome, done, failed, too_small};
+use sd_faults::LineFault;
 use sd_parts::{HEADER_SIZE, Parts};
 use sd_sddl_builder::SddlFault;
 

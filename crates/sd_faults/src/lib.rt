@@ -1,0 +1,10 @@
+//! The faults of a line, and of all faults the numbers, the names and what they mean.
+#![tactic(auto)]
+
+mod fault_names;
+mod line_fault;
+mod meanings;
+
+pub use fault_names::fault_name;
+pub use line_fault::{LineFault, part_number, part_text, print_fault, put_fault};
+pub use meanings::meaning;
