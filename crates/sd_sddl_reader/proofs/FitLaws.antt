@@ -10,7 +10,7 @@ use Rattle.sd_sddl_builder.specs.Line.{part_of_head, same_head}
 use Rattle.sd_sddl_builder.specs.FoldedReading.{FieldsRead, nothing_read, take_field}
 use Rattle.sd_text.specs.Chains.{and_then, unless}
 use Rattle.sd_sddl_fields.specs.Held.{Held, held_text}
-use Rattle.sd_sddl_reader.specs.Inner.Progress.{Seen, ended_with, is_seen, state_after, with_head}
+use Rattle.sd_sddl_reader.specs.Inner.Progress.{Seen, ended_with, is_seen, with_head}
 use Rattle.sd_sddl_builder.specs.Shape.{state_of}
 use Rattle.sd_sddl_reader.proofs.Steps.{seen_with}
 use Rattle.sd_sddl_builder.proofs.laws.FieldParts.{if-ok, lacks-taken, open-front, open-taken}
@@ -82,19 +82,6 @@ fits-field domain w n f p seen t u text e none k = record {
       (k.lacks h (or_left (not (is_seen seen h)) _ (not_from_false (is_seen seen h) unseen)));
   opened = λ _. open-taken domain t u f text e (k.opened refl);
 }
-
-pub fits-after : (domain : Option SecurityId) (w : Which) (n : ℕ) (f : AceField) (seen : Seen) (t u : FieldsRead)
-    (text : List ℕ) → take_field domain t (slot.Ace f) text ≡ Ok u → Fits (state.Ace w n f) seen t
-    → Fits (state_after w n f) seen u
-fits-after domain w n f seen t u text e k = fits-field domain w n f (state_after w n f) seen t u text e (none f) k
-  where
-    none : (f : AceField) (h : Head) → is_at_front (state_after w n f) h ≡ false
-    none field.Kind h = refl
-    none field.Flags h = refl
-    none field.Rights h = refl
-    none field.Object h = refl
-    none field.Inherited h = refl
-    none field.Sid h = refl
 
 -- 3. What a reader keeps.
 

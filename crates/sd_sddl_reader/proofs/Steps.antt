@@ -218,7 +218,7 @@ module _ (dm : Option SecurityId) (so tw : Bool) (se : Seen) (r : Result FieldsR
   inner = sections (pieces_from true bs).after
 
   -- the entry ends after its last field
-  close_last : (w : Which) (n : ℕ)
+  pub close_last : (w : Which) (n : ℕ)
       → rest_answer dm so tw se (and_then r (λ b. take_field dm b (slot.Ace field.Sid) (held_text h)))
       (state.AfterAce w (next_number n)) no_text bs ≡ rest_answer dm so tw se r (state.Ace w n field.Sid) h (41 ∷ bs)
   unfolding rest_answer judged rest
@@ -230,7 +230,7 @@ module _ (dm : Option SecurityId) (so tw : Bool) (se : Seen) (r : Result FieldsR
       (read_fields dm (flat_map ace_fields (aces rest.before) ++ fields_of rest.parts))) (inner_ended h)))
 
   -- the next field
-  cut : (w : Which) (n : ℕ) (c : AceField) → is_last c ≡ false
+  pub cut : (w : Which) (n : ℕ) (c : AceField) → is_last c ≡ false
       → rest_answer dm so tw se (and_then r (λ b. take_field dm b (slot.Ace c) (held_text h)))
       (state.Ace w n (next_field c)) no_text bs ≡ rest_answer dm so tw se r (state.Ace w n c) h (59 ∷ bs)
   unfolding rest_answer judged inner
@@ -416,24 +416,24 @@ module _ (dm : Option SecurityId) (so tw : Bool) (se : Seen) (r : Result FieldsR
 
 -- 10. What a step of the shape says.
 
--- a byte that ends a field
-pub ends-field : (w : Which) (n : ℕ) (l : Option ℕ) (f : AceField) (b : ℕ) (m : LineShape) → (b ≡ 41) ⊎ (b ≡ 59)
-    → step (record { state = state.Ace w n f; letter = l }) b ≡ Some m
-    → (b ≡ end_of f) × (m ≡ at_state (state_after w n f))
-ends-field w n l field.Sid b m (inl e) s =
-    (e, let t : Some (at_state (state.AfterAce w (next_number n))) ≡ Some m = rw e at s in cc)
-ends-field w n l field.Kind b m (inr e) s =
-    (e, let t : Some (at_state (state.Ace w n field.Flags)) ≡ Some m = rw e at s in cc)
-ends-field w n l field.Flags b m (inr e) s =
-    (e, let t : Some (at_state (state.Ace w n field.Rights)) ≡ Some m = rw e at s in cc)
-ends-field w n l field.Rights b m (inr e) s =
-    (e, let t : Some (at_state (state.Ace w n field.Object)) ≡ Some m = rw e at s in cc)
-ends-field w n l field.Object b m (inr e) s =
-    (e, let t : Some (at_state (state.Ace w n field.Inherited)) ≡ Some m = rw e at s in cc)
-ends-field w n l field.Inherited b m (inr e) s =
-    (e, let t : Some (at_state (state.Ace w n field.Sid)) ≡ Some m = rw e at s in cc)
-ends-field w n l f b m (inl e) s = absurd (let t : None ≡ Some m = rw e at s in cc)
-ends-field w n l f b m (inr e) s = absurd (let t : None ≡ Some m = rw e at s in cc)
+-- where an ACE ends, and where a field ends
+pub closes-field : (w : Which) (n : ℕ) (l : Option ℕ) (f : AceField) (m : LineShape)
+    → step (record { state = state.Ace w n f; letter = l }) 41 ≡ Some m → f ≡ field.Sid
+closes-field w n l field.Sid m e = refl
+closes-field w n l field.Kind m e = absurd (let t : None ≡ Some m = e in cc)
+closes-field w n l field.Flags m e = absurd (let t : None ≡ Some m = e in cc)
+closes-field w n l field.Rights m e = absurd (let t : None ≡ Some m = e in cc)
+closes-field w n l field.Object m e = absurd (let t : None ≡ Some m = e in cc)
+closes-field w n l field.Inherited m e = absurd (let t : None ≡ Some m = e in cc)
+
+pub cuts-field : (w : Which) (n : ℕ) (l : Option ℕ) (f : AceField) (m : LineShape)
+    → step (record { state = state.Ace w n f; letter = l }) 59 ≡ Some m → is_last f ≡ false
+cuts-field w n l field.Sid m e = absurd (let t : None ≡ Some m = e in cc)
+cuts-field w n l field.Kind m e = refl
+cuts-field w n l field.Flags m e = refl
+cuts-field w n l field.Rights m e = refl
+cuts-field w n l field.Object m e = refl
+cuts-field w n l field.Inherited m e = refl
 
 -- a byte of a field
 pub within-field : (w : Which) (n : ℕ) (l : Option ℕ) (f : AceField) (b : ℕ) (m : LineShape) → (b == 41) ≡ false

@@ -5,7 +5,6 @@ ghost use Rattle.std.specs.Prelude.{if◌then◌else◌, true, false, Option, So
 ghost use Rattle.std.specs.Prelude.{MatchOption, MatchResult};
 ghost use Rattle.std.specs.Option.{is_some, option_copied, option_to_list};
 ghost use Rattle.std.specs.Str.{byte as char};
-ghost use Rattle.sd_parts.specs.declared.part.Which.{Which as AclKind};
 ghost use Rattle.sd_sid.specs.Sid.{IsSid, SecurityId};
 ghost use Rattle.sd_view.specs.Descriptor.{IsDescriptor, Shows};
 ghost use Rattle.sd_view.specs.WrittenForm.{IsWritten, IsWrittenForm};
@@ -26,7 +25,7 @@ use sd_buffer::SdBuf;
 use sd_parts::Parts;
 use sd_sddl_builder::{
     AceField, FieldReader, Head, LineShape, SddlFault, Slot, State, at_state, fault_of, head_of,
-    is_ended, state_of, step,
+    is_ended, next_field, next_number, state_of, step,
 };
 use sd_sddl_fields::FieldText;
 use sd_sid::Sid;
@@ -101,8 +100,8 @@ impl SddlReader {
             buf.new }
         ensures reader { IsReader self.new buf.new }
     {
-        if let State::Ace(_, _, field) = self.shape.state {
-            self.put_inside(buf, field, byte, next);
+        if let State::Ace(_, _, _) = self.shape.state {
+            self.put_inside(buf, byte);
         } else if let Some(letter) = self.shape.letter {
             self.put_after(buf, letter, byte, next);
         } else {
@@ -110,26 +109,32 @@ impl SddlReader {
         }
     }
 
-    // A byte inside parentheses.
-    fn put_inside(&mut self, buf: &mut SdBuf, field: AceField, byte: u8, next: LineShape)
-        requires here { (w : AclKind) × (n : ℕ) × (self.old.shape.state ≡ State.Ace w n field) }
+    // A byte inside parentheses. Where a field ends, the state is written anew: a copy of the next one takes longer.
+    #[inline(always)]
+    fn put_inside(&mut self, buf: &mut SdBuf, byte: u8)
+        requires here { is_inside self.old.shape.state ≡ true }
+        requires letter { self.old.shape.letter ≡ None }
         requires ready { CanStep self.old buf.old }
-        requires next { next_shape self.old.shape byte ≡ Some next }
+        requires next { (m : LineShape) × (next_shape self.old.shape byte ≡ Some m) }
         ensures { StepsOver self.old buf.old (byte ∷ []) self.new buf.new }
     {
-        match byte {
-            b')' | b';' => {
-                self.end_field(buf, Slot::Ace(field));
-                self.shape = next;
-            }
-            _ => {
-                self.field.push_within(byte);
-                self.shape = next;
+        if let State::Ace(which, number, field) = self.shape.state {
+            match byte {
+                b')' => {
+                    self.end_field(buf, Slot::Ace(field));
+                    self.shape.state = State::AfterAce(which, next_number(number));
+                }
+                b';' => {
+                    self.end_field(buf, Slot::Ace(field));
+                    self.shape.state = State::Ace(which, number, next_field(field));
+                }
+                _ => self.field.push_within(byte),
             }
         }
     }
 
     // A byte outside parentheses after a letter, which begins a head if the byte is a colon, and is text otherwise.
+    #[inline(always)]
     fn put_after(&mut self, buf: &mut SdBuf, letter: u8, byte: u8, next: LineShape)
         requires here { is_inside self.old.shape.state ≡ false }
         requires ready { CanStep self.old buf.old }
@@ -149,6 +154,7 @@ impl SddlReader {
     }
 
     // A byte outside parentheses, after no letter. If it is one, it waits.
+    #[inline(always)]
     fn put_alone(&mut self, buf: &mut SdBuf, byte: u8, next: LineShape)
         requires here { is_inside self.old.shape.state ≡ false }
         requires ready { CanStep self.old buf.old }
@@ -157,16 +163,17 @@ impl SddlReader {
         ensures reader { IsReader self.new buf.new }
     {
         if next.letter.is_some() {
-            self.shape = next;
+            self.shape.letter = Some(byte);
         } else if byte == b'(' {
             self.begin_ace(buf, next);
         } else {
             self.put_text(byte);
-            self.shape = next;
+            self.shape.letter = None;
         }
     }
 
     // The parenthesis that begins an ACE.
+    #[inline(always)]
     fn begin_ace(&mut self, buf: &mut SdBuf, next: LineShape)
         requires here { is_inside self.old.shape.state ≡ false }
         requires ready { CanStep self.old buf.old }
@@ -183,6 +190,7 @@ impl SddlReader {
     }
 
     // A byte of a text, or a blank, outside parentheses.
+    #[inline(always)]
     fn put_text(&mut self, b: u8)
         requires here { is_inside self.old.shape.state ≡ false }
         requires opens { (b == char "(") ≡ false }

@@ -7,9 +7,10 @@ use Rattle.sd_sddl_reader.proofs.reader.SddlReader.go_on.Goals as goal
 
 pub put_inside-requires : goal.put_inside-requires
 put_inside-requires c = record {
-  here = (c.in-Ace.«field-0», c.in-Ace.«field-1», c.in-Ace.is);
+  here = rw (c.in-Ace.is) refl;
+  letter = no-letter c.args.self.now.shape c.requires.ready.shape (rw (c.in-Ace.is) refl);
   ready = record { calm = c.requires.ready.calm; held = (c.requires.ready.read, c.requires.ready.held) };
-  next = c.requires.next;
+  next = (c.args.next, c.requires.next);
 }
 
 pub returns-in-Ace : goal.returns-in-Ace

@@ -1,9 +1,12 @@
-use Rattle.std.proofs.Common.{◌≡◌, false, refl, sym, ◌∙◌, ap, arith}
+use Rattle.std.proofs.Common.{◌≡◌, false, refl, sym, ◌∙◌, subst, arith}
 use Rattle.std.specs.Prelude.{◌==◌, Some, None}
 use Rattle.std.proofs.lemmas.Bool.Decides.{nat_tests}
 use Rattle.sd_sddl_builder.proofs.laws.Heads.{no_head}
 use Rattle.sd_sddl_builder.specs.declared.shape.LineShape.{LineShape}
 use Rattle.sd_sddl_reader.specs.declared.reader.SddlReader.{SddlReader}
+use Rattle.sd_sddl_builder.specs.FoldedReading.{FieldsRead}
+use Rattle.sd_sddl_builder.specs.Shape.{IsLineShape}
+use Rattle.sd_sddl_reader.specs.Inner.Reads.{LineHasRead}
 use Rattle.sd_sddl_reader.proofs.FitLaws.{keeps-same}
 use Rattle.sd_sddl_reader.proofs.Steps.{alone, moves, next-shape, shape-of, text-byte, waits}
 use Rattle.sd_sddl_reader.proofs.reader.SddlReader.put_alone.Goals as goal
@@ -15,16 +18,12 @@ returns-then-is_some c =
     let at = waits s.shape.state c.args.byte c.args.next leads.1 (sym c.is_some.ensures ∙ c.if-is_some.true) in
     let k = c.requires.ready.held in
     record {
-      answers = λ t k. (
-        t,
-        record { fields = k.fields; fits = λ none. rw at (k.fits none) },
-        λ rest. rw at refl,
-      );
+      answers = λ t k. (t, record { fields = k.fields; fits = k.fits }, λ rest. refl);
       reader = record {
-        calm = record { held = c.requires.ready.calm.held; gap = rw at c.requires.ready.calm.gap };
-        shape = next-shape s.shape.state None c.args.byte c.args.next c.requires.next;
+        calm = record { held = c.requires.ready.calm.held; gap = c.requires.ready.calm.gap };
+        shape = subst IsLineShape at (next-shape s.shape.state None c.args.byte c.args.next c.requires.next);
         read = k.0;
-        held = record { fields = k.1.fields; fits = λ none. rw at (k.1.fits none) };
+        held = record { fields = k.1.fields; fits = k.1.fits };
       };
     }
 
@@ -66,28 +65,21 @@ put_text-requires c =
 pub returns-else-byte-eq40 : goal.returns-else-byte-eq40
 returns-else-byte-eq40 c =
     let s = c.args.self.now in
-    let p = c.put_text.new.self in
-    let other : (c.args.byte == 40) ≡ false = let n = c.if-byte-eq40.false in grind (arith, nat_tests) in
     let leads = alone s.shape.state c.requires.here c.args.byte c.args.next c.requires.next in
     let at = moves s.shape.state c.args.byte c.args.next leads.1 (sym c.is_some.ensures ∙ c.if-is_some.false) in
     let put = c.put_text.ensures in
-    let letter : c.args.next.letter ≡ None = ap (λ (m : LineShape). m.letter) at.2 in
-    let here : c.args.next.state ≡ p.shape.state =
-    (text-byte s.shape.state c.requires.here c.args.byte c.args.next.state other at.1).0
-    ∙ sym (ap (λ (r : SddlReader). r.shape.state) put.same) in
+    let kept = λ (t : FieldsRead) (k : LineHasRead s c.args.buf.now t).
+    keeps-same s c.put_text.new.self _ c.args.buf.now t put.same k in
     let k = c.requires.ready.held in
-    let kept = keeps-same s p _ c.args.buf.now k.0 put.same k.1 in
+    let held = kept k.0 k.1 in
     record {
       answers = λ t k.
-          let kept = keeps-same s p _ c.args.buf.now t put.same k in (
-            t,
-            record { fields = kept.fields; fits = λ none. rw here (kept.fits none) },
-            λ rest. rw (letter, here) (put.answers t rest (no_head _ _ at.0)),
-          );
+          let held = kept t k in
+          (t, record { fields = held.fields; fits = held.fits }, λ rest. put.answers t rest (no_head _ _ at.0));
       reader = record {
-        calm = record { held = put.calm.held; gap = rw here put.calm.gap };
-        shape = shape-of c.args.next letter;
+        calm = record { held = put.calm.held; gap = put.calm.gap };
+        shape = shape-of _ refl;
         read = k.0;
-        held = record { fields = kept.fields; fits = λ none. rw here (kept.fits none) };
+        held = record { fields = held.fields; fits = held.fits };
       };
     }
