@@ -571,10 +571,10 @@ BLOCKS = [
     ("include/sdtool.h", ("    SDTOOL_OK = 0,\n", "};\n"),
      lambda tables: [",\n".join(errors(header_rows)(tables))]),
     ("python/sdtool/_errors.py", ("MEANINGS: Dict[int, str] = {\n", "}\n"), errors(python_rows, 1, 59)),
-    ("crates/sd_answer/src/fault_names.rt", ("    match number {\n", '        _ => "",\n'), errors(arms("name"))),
-    ("crates/sd_answer/specs/FaultNames.antt", ("\nfault_name number =\n", "    else []\n"), errors(cases("name"))),
-    ("crates/sd_call_places/src/meanings.rt", ("    match number {\n", '        _ => "",\n'), errors(arms("meaning"))),
-    ("crates/sd_call_places/specs/Meanings.antt", ("\nmeaning number =\n", "    else []\n"),
+    ("crates/sd_faults/src/fault_names.rt", ("    match number {\n", '        _ => "",\n'), errors(arms("name"))),
+    ("crates/sd_faults/specs/FaultNames.antt", ("\nfault_name number =\n", "    else []\n"), errors(cases("name"))),
+    ("crates/sd_faults/src/meanings.rt", ("    match number {\n", '        _ => "",\n'), errors(arms("meaning"))),
+    ("crates/sd_faults/specs/Meanings.antt", ("\nmeaning number =\n", "    else []\n"),
      errors(cases("meaning"))),
 ]
 

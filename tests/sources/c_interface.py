@@ -52,18 +52,18 @@ class Named(NamedTuple):
 # 0 stands for SDTOOL_OK, SDTOOL_NO_PART, SDTOOL_NO_ARGUMENT and SDTOOL_NO_FIELD, which no arm of a match names so.
 WITHOUT_NAMES = {"OK", "NO_PART", "NO_ARGUMENT", "NO_FIELD"}
 NAMED = [
-    Named("sdtool_fault", "FAULT_", "crates/sd_answer/src/fault_names.rt", "fault_name"),
-    Named("sdtool_fault", "FAULT_", "crates/sd_answer/src/fault.rt", "number", is_whole=False),
+    Named("sdtool_fault", "FAULT_", "crates/sd_faults/src/fault_names.rt", "fault_name"),
+    Named("sdtool_fault", "FAULT_", "crates/sd_faults/src/line_fault.rt", "number", is_whole=False),
     Named("sdtool_fault", "FAULT_", "crates/sd_call/src/outcome.rt", "number", is_whole=False),
     Named("sdtool_argument", "ARGUMENT_", "crates/sd_call/src/argument.rt", "argument_number"),
-    Named("sdtool_part", "", "crates/sd_call/src/outcome.rt", "part_number"),
-    Named("sdtool_part", "", "crates/sd_call_places/src/described.rt", "part_numbered"),
+    Named("sdtool_part", "", "crates/sd_faults/src/line_fault.rt", "part_number"),
+    Named("sdtool_part", "", "crates/sd_call_convert/src/described.rt", "part_numbered"),
     Named("sdtool_mapping", "MAPPING_", "crates/sd_call/src/input.rt", "mapping_in"),
-    Named("sdtool_kind", "KIND_", "crates/sd_call_derive/src/derivations.rt", "target_in"),
-    Named("sdtool_entry", "", "crates/sd_call_check/src/token.rt", "kind_in"),
-    Named("sdtool_acl_state", "ACL_", "crates/sd_call_parts/src/contents.rt", "acl_state"),
-    Named("sdtool_field", "FIELD_", "crates/sd_call_places/src/told.rt", "field_number"),
-    Named("sdtool_reason_kind", "REASON_", "crates/sd_call_check/src/reason.rt", "kind_of"),
+    Named("sdtool_kind", "KIND_", "crates/sd_call_access/src/derivations.rt", "target_in"),
+    Named("sdtool_entry", "", "crates/sd_call_access/src/token.rt", "kind_in"),
+    Named("sdtool_acl_state", "ACL_", "crates/sd_call/src/contents.rt", "acl_state"),
+    Named("sdtool_field", "FIELD_", "crates/sd_call_convert/src/told.rt", "field_number"),
+    Named("sdtool_reason_kind", "REASON_", "crates/sd_call_access/src/reason.rt", "kind_of"),
 ]
 # The constants of the sources that have the same number as a name of the header.
 CONSTANTS = [
@@ -75,11 +75,11 @@ CONSTANTS = [
     ("SDTOOL_TOO_SMALL", "crates/sd_call/src/outcome.rt", "TOO_SMALL"),
     ("SDTOOL_NO_MEMORY", "crates/sd_call/src/outcome.rt", "NO_MEMORY"),
     ("SDTOOL_ACL_LIST", "crates/sd_call_build/src/new.rt", "LIST"),
-    ("SDTOOL_NO_ACE", "crates/sd_call_places/src/told.rt", "NO_ACE"),
-    ("SDTOOL_MOST_DESCRIPTION", "crates/sd_call_places/src/described.rt", "MOST_DESCRIPTION"),
-    ("SDTOOL_RIGHTS", "crates/sd_call_check/src/reason.rt", "RIGHTS"),
-    ("SDTOOL_NO_PLACE", "crates/sd_call_check/src/reason.rt", "NO_PLACE"),
-    ("SDTOOL_MOST_DERIVED_ACES", "crates/sd_call_derive/src/origins.rt", "MOST_DERIVED_ACES"),
+    ("SDTOOL_NO_ACE", "crates/sd_call_convert/src/told.rt", "NO_ACE"),
+    ("SDTOOL_MOST_DESCRIPTION", "crates/sd_call_convert/src/described.rt", "MOST_DESCRIPTION"),
+    ("SDTOOL_RIGHTS", "crates/sd_call_access/src/reason.rt", "RIGHTS"),
+    ("SDTOOL_NO_PLACE", "crates/sd_call_access/src/reason.rt", "NO_PLACE"),
+    ("SDTOOL_MOST_DERIVED_ACES", "crates/sd_call_access/src/origins.rt", "MOST_DERIVED_ACES"),
 ]
 
 

@@ -45,7 +45,6 @@
 //! This crate re-exports the crates below it: `sd_check` and `sd_inherit`.
 #![tactic(auto)]
 
-pub use sd_check::{Ask, AskFault, Privileges, Reason, Verdict, check, reasons};
-pub use sd_inherit::{
-    AceCounts, AceOrigin, DeriveFault, OriginFault, Plan, Target, derive, origins,
-};
+pub use sd_check::{Ask, Privileges, Reason, Verdict, check, reasons};
+pub use sd_faults::{AskFault, DeriveFault};
+pub use sd_inherit::{AceCounts, AceOrigin, OriginFault, Plan, Target, derive, origins};

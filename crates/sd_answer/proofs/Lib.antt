@@ -1,7 +1,6 @@
 pub mod Base64Blocks
 pub mod Base64Lanes
 pub mod Base64Lemmas
-pub mod FaultLemmas
 pub mod HexLanes
 pub mod HexTextLemmas
 pub mod HoldsLemmas

@@ -9,19 +9,19 @@ use Rattle.sd_sid.proofs.laws.Numbers.{AreBytes}
 use Rattle.sd_sid.specs.Sid.{IsSid, SecurityId}
 use Rattle.sd_buffer.proofs.laws.HexPairs.{decoded-ok}
 use Rattle.sd_buffer.specs.Text.{base64_spells, hex_spells}
-use Rattle.sd_buffer.specs.declared.buffer.TextFault.{TextFault}
+use Rattle.sd_faults.specs.declared.fault.TextFault.{TextFault}
 use Rattle.sd_view.proofs.laws.ReadingLaws.{read-limits}
 use Rattle.sd_view.specs.Descriptor.{Descriptor, IsDescriptor}
 use Rattle.sd_view.specs.Reading.{reading}
-use Rattle.sd_view.specs.declared.fault.SdFault.{SdFault}
+use Rattle.sd_faults.specs.declared.fault.SdFault.{SdFault}
 use Rattle.sd_sddl_builder.proofs.laws.MeaningLimits.{means-limits}
 use Rattle.sd_sddl_builder.specs.Meaning.{means}
-use Rattle.sd_sddl_builder.specs.declared.fault.SddlFault.{SddlFault}
+use Rattle.sd_faults.specs.declared.fault.SddlFault.{SddlFault}
 use Rattle.sd_buffer.proofs.laws.Base64Bytes.{spelled-base64}
 use Rattle.sd_answer.specs.Answer.{Meaning, bytes_mean, line_limit, line_means}
 use Rattle.sd_answer.specs.Answer.{meaning, or_byte_fault, or_sddl_fault, text_means}
-use Rattle.sd_answer.specs.declared.fault.LineFault.{LineFault}
-use Rattle.sd_answer.specs.declared.fault.LineFault.TheVariants.{TooLong}
+use Rattle.sd_faults.specs.declared.line_fault.LineFault.{LineFault}
+use Rattle.sd_faults.specs.declared.line_fault.LineFault.TheVariants.{TooLong}
 use Rattle.sd_answer.specs.declared.job.Form.{Form}
 use Rattle.sd_answer.specs.declared.job.Form.TheVariants as form
 use Rattle.sd_answer.specs.declared.job.Job.{Job}

@@ -14,8 +14,8 @@ use Rattle.sd_answer.specs.Answer.{Meaning, answer, bound, is_error, line_limit,
 use Rattle.sd_answer.specs.Answer.{outcome_of_meaning, text_means}
 use Rattle.sd_answer.specs.Inner.Printing.{PrintsAnswer}
 use Rattle.sd_answer.specs.LineInHand.{PutsAnswer}
-use Rattle.sd_answer.specs.declared.fault.LineFault.{LineFault}
-use Rattle.sd_answer.specs.declared.fault.LineFault.TheVariants.{TooLong}
+use Rattle.sd_faults.specs.declared.line_fault.LineFault.{LineFault}
+use Rattle.sd_faults.specs.declared.line_fault.LineFault.TheVariants.{TooLong}
 use Rattle.sd_answer.specs.declared.job.Form.{Form}
 use Rattle.sd_answer.specs.declared.job.Job.{Job}
 use Rattle.sd_answer.specs.declared.job.Task.{Task}

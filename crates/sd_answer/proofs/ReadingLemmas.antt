@@ -4,16 +4,16 @@ use Rattle.std.specs.Prelude.{MatchResult, IsErrAnd}
 use Rattle.sd_sid.specs.Sid.{SecurityId}
 use Rattle.sd_view.proofs.laws.ReadingLaws.{reading-shown}
 use Rattle.sd_view.specs.Descriptor.{Descriptor, Shows}
-use Rattle.sd_view.specs.declared.fault.SdFault.{SdFault}
+use Rattle.sd_faults.specs.declared.fault.SdFault.{SdFault}
 use Rattle.sd_sddl_builder.specs.Meaning.{means}
 use Rattle.sd_sddl_reader.specs.SddlReading.{ReadsSddl}
-use Rattle.sd_sddl_builder.specs.declared.fault.SddlFault.{SddlFault}
+use Rattle.sd_faults.specs.declared.fault.SddlFault.{SddlFault}
 use Rattle.sd_sddl_reader.specs.declared.reader.SddlReader.{SddlReader}
 use Rattle.sd_answer.specs.Answer.{line_limit, or_byte_fault, or_sddl_fault, text_means}
 use Rattle.sd_answer.specs.Inner.Reading.{HasRead, Leaves}
 use Rattle.sd_answer.specs.LineInHand.{HoldsText}
-use Rattle.sd_answer.specs.declared.fault.LineFault.{LineFault}
-use Rattle.sd_answer.specs.declared.fault.LineFault.TheVariants.{Sd, Sddl}
+use Rattle.sd_faults.specs.declared.line_fault.LineFault.{LineFault}
+use Rattle.sd_faults.specs.declared.line_fault.LineFault.TheVariants.{Sd, Sddl}
 use Rattle.sd_answer.specs.declared.job.Job.{Job}
 use Rattle.sd_answer.specs.declared.line.Line.{Line}
 use Rattle.sd_answer.specs.declared.line.LineReader.{LineReader}

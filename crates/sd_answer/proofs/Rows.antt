@@ -9,14 +9,14 @@ use Rattle.sd_text.specs.Limits.{most_base64_text, most_hex_text, most_sddl_text
 use Rattle.sd_sid.specs.Sid.{SecurityId, sid_at}
 use Rattle.sd_sid.specs.SidText.{alias_of, has_form, letters_read, numbers_read, sid_reads}
 use Rattle.sd_sid.specs.declared.sid_text.SidFault.TheVariants as sid
-use Rattle.sd_buffer.specs.declared.buffer.TextFault.TheVariants as text
+use Rattle.sd_faults.specs.declared.fault.TextFault.TheVariants as text
 use Rattle.sd_parts.specs.declared.part.Which.TheVariants as which
 use Rattle.sd_inherit.specs.Derived.{derive_fault, derived}
-use Rattle.sd_inherit.specs.declared.derivation.DeriveFault.TheVariants.{DerivedTooLarge}
+use Rattle.sd_faults.specs.declared.fault.DeriveFault.TheVariants.{DerivedTooLarge}
 use Rattle.sd_inherit.specs.declared.plan.Plan.{Plan}
 use Rattle.sd_inherit.specs.declared.plan.Target.TheVariants.{File}
 use Rattle.sd_sddl_builder.specs.Meaning.{body_reads, means}
-use Rattle.sd_sddl_builder.specs.declared.fault.SddlFault.TheVariants as sddl
+use Rattle.sd_faults.specs.declared.fault.SddlFault.TheVariants as sddl
 use Rattle.sd_parts.specs.declared.limits.TheConstants.{CAPACITY}
 use Rattle.sd_parts.specs.Header.{header_bytes}
 use Rattle.sd_parts.specs.declared.part.Part.TheVariants as part
@@ -24,7 +24,7 @@ use Rattle.sd_buffer.specs.Text.{base64_spells, hex_spells}
 use Rattle.sd_acl_view.specs.Bytes.{u16_at, u32_at}
 use Rattle.sd_view.specs.Reading.{acl_part_fault, acl_shown, fault, header_fault, overlap_fault, overlaps_fault}
 use Rattle.sd_view.specs.Reading.{parts_fault, reading, sid_fault, sid_shown}
-use Rattle.sd_view.specs.declared.fault.SdFault.TheVariants as sd
+use Rattle.sd_faults.specs.declared.fault.SdFault.TheVariants as sd
 use Rattle.sd_view.specs.declared.acl_part.AclPart.TheVariants as acl
 use Rattle.sd_view.specs.Descriptor.{Descriptor}
 use Rattle.sd_explain.specs.Explain.{control_line, explain, rm_line, sid_line, sid_words}
@@ -39,13 +39,13 @@ use Rattle.sd_check.specs.Granted.{granted}
 use Rattle.sd_check.specs.Verdict.{missing, rights_below, verdict, won}
 use Rattle.sd_answer.specs.Answer.{act_outcome, answer, bound, form_text, is_error, line_limit, line_means, output_of}
 use Rattle.sd_answer.specs.Answer.{printed_size, text_means, verdict_text}
-use Rattle.sd_answer.specs.FaultNames.{fault_name}
-use Rattle.sd_answer.specs.Faults.{fault_text}
+use Rattle.sd_faults.specs.FaultNames.{fault_name}
+use Rattle.sd_faults.specs.Faults.{fault_text}
 use Rattle.sd_answer.specs.Inner.Reading.{HasRead}
 use Rattle.sd_answer.specs.LineEnd.{without_cr}
 use Rattle.sd_answer.specs.LineInHand.{Holds, HoldsText, PutsAnswer, pending}
 use Rattle.sd_answer.specs.declared.line.Line.{Line}
-use Rattle.sd_answer.specs.declared.fault.LineFault.TheVariants.{Derive, Sd, Sddl, Text, TooLong}
+use Rattle.sd_faults.specs.declared.line_fault.LineFault.TheVariants.{Derive, Sd, Sddl, Text, TooLong}
 use Rattle.sd_answer.specs.declared.job.Act.{Act}
 use Rattle.sd_answer.specs.declared.job.Act.TheVariants.{Check, Convert, Derive as DeriveAct, Explain}
 use Rattle.sd_answer.specs.declared.job.Form.{Form}
@@ -61,10 +61,6 @@ longest = refl
 pub longest_lines : (most_hex_text ≡ 2 * CAPACITY) × (most_base64_text ≡ 4 * (CAPACITY / 3))
     × (most_sddl_text ≡ 8 * CAPACITY + 64)
 longest_lines = (refl, refl, refl)
-
-pub overlap_text : fault_text (Sd (sd.Overlap part.Owner part.Group)) ≡ codes "error 14 overlap owner group"
-unfolding fault_text digits
-overlap_text = refl
 
 abbrev nobody : Holder
 nobody = record { entries = []; level = None }
@@ -116,32 +112,6 @@ pub answer_in_base64 : answer (alone hex_to_base64) nobody (codes "01FF008000000
 unfolding answer line_means form_text hex_spells base64_on_literals hex_on_literals reading fault header_fault
     parts_fault sid_fault sid_shown acl_part_fault acl_shown overlaps_fault overlap_fault u16_at u32_at header_bytes
 answer_in_base64 = refl
-
--- every fault, with its number, its name and its parts
-
-pub texts_without_parts : map fault_text
-    (TooLong ∷ Text text.HexDigit ∷ Text text.HexOdd ∷ Text text.Base64 ∷ Sd sd.Short ∷ Sd sd.Revision
-    ∷ Sd sd.NotSelfRelative ∷ Sddl sddl.Shape ∷ Sddl sddl.PartTwice ∷ Sddl (sddl.Sid sid.Alias)
-    ∷ Sddl (sddl.Sid sid.NeedsDomain) ∷ Sddl (sddl.Sid sid.Number) ∷ Sddl (sddl.Sid sid.SidForm) ∷ Sddl sddl.Flags
-    ∷ Sddl sddl.Rights ∷ Sddl sddl.Guid ∷ Sddl sddl.Kind ∷ [])
-    ≡ codes "error 1 too-long" ∷ codes "error 2 hex-digit" ∷ codes "error 3 hex-odd" ∷ codes "error 4 base64"
-    ∷ codes "error 5 short" ∷ codes "error 6 revision" ∷ codes "error 7 not-self-relative" ∷ codes "error 20 shape"
-    ∷ codes "error 21 part-twice" ∷ codes "error 22 alias" ∷ codes "error 23 needs-domain" ∷ codes "error 24 number"
-    ∷ codes "error 25 sid-form" ∷ codes "error 26 flags" ∷ codes "error 27 rights" ∷ codes "error 28 guid"
-    ∷ codes "error 29 kind" ∷ []
-unfolding fault_text digits
-texts_without_parts = refl
-
-pub texts_with_parts : map fault_text
-    (Sd (sd.Offset part.Owner) ∷ Sd (sd.Sid part.Group) ∷ Sd (sd.Acl part.Sacl) ∷ Sd (sd.AceSize part.Dacl)
-    ∷ Sd (sd.AceType part.Sacl) ∷ Sd (sd.AceFlags part.Dacl) ∷ Sd (sd.Overlap part.Sacl part.Dacl)
-    ∷ Sddl (sddl.AclTooLarge which.Dacl) ∷ Derive (DerivedTooLarge which.Sacl) ∷ [])
-    ≡ codes "error 8 offset owner" ∷ codes "error 9 sid group" ∷ codes "error 10 acl sacl"
-    ∷ codes "error 11 ace-size dacl" ∷ codes "error 12 ace-type sacl" ∷ codes "error 13 ace-flags dacl"
-    ∷ codes "error 14 overlap sacl dacl" ∷ codes "error 30 acl-too-large dacl"
-    ∷ codes "error 40 derived-too-large sacl" ∷ []
-unfolding fault_text digits
-texts_with_parts = refl
 
 -- a verdict has eight digits
 verdicts : map verdict_text (Granted 0x1200a9 ∷ Denied 0 ∷ [])
@@ -222,19 +192,6 @@ explain_answer = refl
 printed_sizes : printed_size None ∷ printed_size (Some (record
     { control = 0x8000; rm = 0; owner = None; group = None; sacl = acl.Absent; dacl = acl.Absent })) ∷ [] ≡ 0 ∷ 20 ∷ []
 printed_sizes = refl
-
--- the names of faults that no line has (docs/FORMAT.md, "Errors"), and no name between
-
-further_names : map fault_name (50 ∷ 51 ∷ 60 ∷ 61 ∷ 62 ∷ 70 ∷ 71 ∷ 72 ∷ [])
-    ≡ codes "empty-request" ∷ codes "reserved-bits" ∷ codes "read" ∷ codes "write" ∷ codes "too-many-reads"
-    ∷ codes "argument" ∷ codes "too-small" ∷ codes "no-memory" ∷ []
-further_names = refl
-
-no_names : map fault_name
-    (0 ∷ 15 ∷ 16 ∷ 17 ∷ 18 ∷ 19 ∷ 31 ∷ 32 ∷ 33 ∷ 34 ∷ 35 ∷ 36 ∷ 37 ∷ 38 ∷ 39 ∷ 41 ∷ 42 ∷ 43 ∷ 44 ∷ 45 ∷ 46 ∷ 47
-    ∷ 48 ∷ 49 ∷ 52 ∷ 53 ∷ 54 ∷ 55 ∷ 56 ∷ 57 ∷ 58 ∷ 59 ∷ 63 ∷ 64 ∷ 65 ∷ 66 ∷ 67 ∷ 68 ∷ 69 ∷ 73 ∷ 74 ∷ 256 ∷ 257 ∷ [])
-    ≡ replicate 43 []
-no_names = refl
 
 -- the edge of each form's limit: a line of so many bytes is read, and one of a byte more is too long, whatever it has
 

@@ -10,11 +10,11 @@ use Rattle.sd_text.specs.Numbers.{hex_digits}
 use Rattle.sd_sid.specs.Sid.{SecurityId}
 use Rattle.sd_sid.specs.declared.naming.Naming.{Naming}
 use Rattle.sd_buffer.specs.Text.{base64_spells, hex_spells}
-use Rattle.sd_buffer.specs.declared.buffer.TextFault.{TextFault}
+use Rattle.sd_faults.specs.declared.fault.TextFault.{TextFault}
 use Rattle.sd_view.specs.Descriptor.{Descriptor}
 use Rattle.sd_view.specs.Layout.{layout, size}
 use Rattle.sd_view.specs.Reading.{reading}
-use Rattle.sd_view.specs.declared.fault.SdFault.{SdFault}
+use Rattle.sd_faults.specs.declared.fault.SdFault.{SdFault}
 use Rattle.sd_token.specs.Token.{Holder}
 use Rattle.sd_check.specs.Ask.{Asked}
 use Rattle.sd_check.specs.Need.{check_bound}
@@ -22,15 +22,15 @@ use Rattle.sd_check.specs.Verdict.{verdict}
 use Rattle.sd_check.specs.declared.verdict.Verdict.{Verdict}
 use Rattle.sd_check.specs.declared.verdict.Verdict.TheVariants.{Denied, Granted}
 use Rattle.sd_inherit.specs.Derived.{derive_fault, derived}
-use Rattle.sd_inherit.specs.declared.derivation.DeriveFault.{DeriveFault}
+use Rattle.sd_faults.specs.declared.fault.DeriveFault.{DeriveFault}
 use Rattle.sd_explain.specs.Explain.{explain}
 use Rattle.sd_sddl_builder.specs.Meaning.{means}
-use Rattle.sd_sddl_builder.specs.declared.fault.SddlFault.{SddlFault}
+use Rattle.sd_faults.specs.declared.fault.SddlFault.{SddlFault}
 use Rattle.sd_sddl_printer.specs.Printed.{sddl}
-use Rattle.sd_answer.specs.Faults.{fault_text}
+use Rattle.sd_faults.specs.Faults.{fault_text}
 use Rattle.sd_answer.specs.LineEnd.{line_feed}
-use Rattle.sd_answer.specs.declared.fault.LineFault.{LineFault}
-use Rattle.sd_answer.specs.declared.fault.LineFault.TheVariants.{TooLong, Text, Sd, Sddl, Derive}
+use Rattle.sd_faults.specs.declared.line_fault.LineFault.{LineFault}
+use Rattle.sd_faults.specs.declared.line_fault.LineFault.TheVariants.{TooLong, Text, Sd, Sddl, Derive}
 use Rattle.sd_answer.specs.declared.job.Act.{Act}
 use Rattle.sd_answer.specs.declared.job.Act.TheVariants.{Check, Convert, Explain}
 use Rattle.sd_answer.specs.declared.job.Act.TheVariants as act

@@ -20,7 +20,6 @@ ghost use Rattle.sd_answer.specs.LineEnd.{line_feed};
 ghost use Rattle.sd_answer.specs.LineInHand.{HoldsText, IsReady, PutsAnswer};
 
 use crate::base64_text::print_as_base64;
-use crate::fault::{LineFault, print_fault};
 use crate::hex_text::{SPELLED, print_as_hex, put_as_hex};
 use crate::job::{Act, Job, OutputForm, Task};
 use crate::line::Line;
@@ -28,6 +27,7 @@ use sd_buffer::SdBuf;
 use sd_builder::write_layout;
 use sd_check::{Verdict, check};
 use sd_explain::print_explain;
+use sd_faults::{LineFault, print_fault};
 use sd_inherit::{Plan, derive};
 use sd_sddl_printer::print_sddl;
 use sd_sink::{Gather, Print, Sink, SinkFault};

@@ -3,14 +3,10 @@
 
 mod answer;
 mod base64_text;
-mod fault;
-mod fault_names;
 mod hex_text;
 mod job;
 mod line;
 
 pub use answer::{Stores, put_answer};
-pub use fault::{LineFault, put_fault};
-pub use fault_names::fault_name;
 pub use job::{Act, Form, Job, OutputForm, Task};
 pub use line::Line;

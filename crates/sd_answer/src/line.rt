@@ -4,9 +4,9 @@ ghost use Rattle.std.specs.Prelude.{◌≡◌, ◌≤◌, ◌<◌, ◌≢◌, �
 ghost use Rattle.sd_answer.specs.Answer.{line_limit, text_means};
 ghost use Rattle.sd_answer.specs.Inner.Reading.{CanRead, HasRead, form_of};
 
-use crate::fault::LineFault;
 use crate::job::{Form, Job};
 use sd_buffer::{HexReader, SdBuf, TextBuf};
+use sd_faults::LineFault;
 use sd_sddl_reader::SddlReader;
 use sd_text::{MOST_BASE64_TEXT, MOST_HEX_TEXT, MOST_SDDL_TEXT};
 use sd_view::{SdView, read, view_written};

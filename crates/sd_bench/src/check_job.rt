@@ -4,10 +4,10 @@ use crate::digest::Digest;
 use crate::numbers::Numbers;
 use crate::pattern::BytePattern;
 use crate::section::{Job, invalid};
-use sd_call_check::{
-    AskInput, AskerInput, Request, VerdictOutcome, check_with_token, read_token, token_held, told,
+use sd_call_access::{
+    AskInput, AskerInput, Bytes, Request, VerdictOutcome, check_many, check_with_token, read_token,
+    token_held, told,
 };
-use sd_call_many::{Bytes, check_many};
 use sd_check::Verdict;
 use std::alloc::{AllocError, Global};
 use std::io;

@@ -41,8 +41,9 @@
 #![tactic(auto)]
 
 pub use sd_acl_view::{AceView, Aces, AclView};
-pub use sd_buffer::{ByteBuf, Full, HexReader, SdBuf, TextBuf, TextFault};
+pub use sd_buffer::{ByteBuf, Full, HexReader, SdBuf, TextBuf};
 pub use sd_builder::{AclTooLarge, Builder, write_layout};
+pub use sd_faults::{SdFault, TextFault};
 pub use sd_layout::{print_layout, put_layout};
 pub use sd_parts::{AclFlags, CONTROL_BITS, ControlBit, Which};
-pub use sd_view::{AclPart, Part, SdFault, SdView, read, view_written};
+pub use sd_view::{AclPart, Part, SdView, read, view_written};

@@ -17,7 +17,7 @@ use Rattle.base64.specs.GeneralPurpose.{IsBytes, encode_of, engine_symbols}
 use Rattle.base64.specs.Rfc4648.{encode_symbols, padding_len, unpadded_len}
 use Rattle.base64.specs.Tables.{all_below}
 use Rattle.sd_buffer.specs.Text.{base64_spells}
-use Rattle.sd_buffer.specs.declared.buffer.TextFault.{TextFault}
+use Rattle.sd_faults.specs.declared.fault.TextFault.{TextFault}
 use Rattle.sd_buffer.specs.Inner.Base64Blocks.{AreSixBits, joined_groups, symbol_value}
 use Rattle.sd_buffer.proofs.laws.Slices.{front-of-part}
 use Rattle.sd_buffer.proofs.laws.Base64Bytes.{IsBytes-drop, IsBytes-take, spelled-base64}

@@ -5,7 +5,7 @@ use Rattle.std.proofs.lemmas.Bool.Decides.{nat_tests}
 use Rattle.hex.specs.Hex.{decode_of, decode_sized}
 use Rattle.hex.specs.declared.error.FromHexError.{FromHexError}
 use Rattle.hex.proofs.HexLemmas.{decode_sized-twice}
-use Rattle.sd_buffer.specs.declared.buffer.TextFault.TheVariants.{HexDigit, HexOdd}
+use Rattle.sd_faults.specs.declared.fault.TextFault.TheVariants.{HexDigit, HexOdd}
 use Rattle.sd_buffer.specs.Text.{hex_spells, or_digit_fault}
 
 -- a text of an odd length spells nothing

@@ -9,8 +9,8 @@ use Rattle.std.proofs.lemmas.List.{length-take-le, map-append, take-append-drop,
 use Rattle.std.proofs.lemmas.List.{take_more_set}
 use Rattle.hex.specs.Hex.{hex_digit_value}
 use Rattle.sd_buffer.specs.Text.{hex_spells}
-use Rattle.sd_buffer.specs.declared.buffer.TextFault.{TextFault}
-use Rattle.sd_buffer.specs.declared.buffer.TextFault.TheVariants.{HexDigit}
+use Rattle.sd_faults.specs.declared.fault.TextFault.{TextFault}
+use Rattle.sd_faults.specs.declared.fault.TextFault.TheVariants.{HexDigit}
 use Rattle.sd_buffer.specs.Inner.HexBlocks.{AreValues, HasOther, joined_pairs}
 use Rattle.sd_buffer.proofs.laws.HexPairs.{both_spelled, spelled, spells-append, spells-length, spells-pairs, with_pair}
 

@@ -5,8 +5,8 @@ use Rattle.std.specs.List.{slice_get}
 use Rattle.std.specs.Prelude.{◌<◌, MatchResult}
 use Rattle.std.specs.Result.{is_err}
 use Rattle.std.proofs.lemmas.List.{append-nil}
-use Rattle.sd_buffer.specs.declared.buffer.TextFault.{TextFault}
-use Rattle.sd_buffer.specs.declared.buffer.TextFault.TheVariants.{HexOdd}
+use Rattle.sd_faults.specs.declared.fault.TextFault.{TextFault}
+use Rattle.sd_faults.specs.declared.fault.TextFault.TheVariants.{HexOdd}
 use Rattle.sd_buffer.specs.declared.hex_reader.HexReader.{HexReader}
 use Rattle.sd_text.specs.Limits.{most_hex_text}
 use Rattle.sd_buffer.specs.Text.{hex_spells}

@@ -6,8 +6,8 @@ use Rattle.base64.specs.GeneralPurpose.{IsBytes, decode_of as base64_decode_of, 
 use Rattle.base64.specs.declared.decode.DecodeError.{DecodeError}
 use Rattle.hex.specs.Hex.{decode_of}
 use Rattle.hex.specs.declared.error.FromHexError.{FromHexError}
-use Rattle.sd_buffer.specs.declared.buffer.TextFault.{TextFault}
-use Rattle.sd_buffer.specs.declared.buffer.TextFault.TheVariants.{Base64, HexDigit, HexOdd}
+use Rattle.sd_faults.specs.declared.fault.TextFault.{TextFault}
+use Rattle.sd_faults.specs.declared.fault.TextFault.TheVariants.{Base64, HexDigit, HexOdd}
 
 abbrev pub or_digit_fault : Result (List ℕ) FromHexError → Result (List ℕ) TextFault
 or_digit_fault decoded = fault_as (λ e. HexDigit) decoded

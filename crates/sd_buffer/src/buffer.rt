@@ -11,7 +11,7 @@ use crate::hex_reader::HexReader;
 use crate::{base64_digits, hex_digits};
 use base64::decoded_len_estimate;
 use base64::engine::general_purpose::STANDARD;
-use sd_memory::NoMemory;
+use sd_faults::{NoMemory, TextFault};
 use sd_parts::CAPACITY;
 use sd_text::MOST_BASE64_TEXT;
 use std::alloc::Global;
@@ -20,17 +20,6 @@ use std::marker::Model;
 /// The buffer has no room.
 #[derive(Clone, Copy, Debug, PartialEq, Eq)]
 pub struct Full;
-
-/// Why a text spells no bytes.
-#[derive(Clone, Copy, Debug, PartialEq, Eq)]
-pub enum TextFault {
-    /// 2: a character is no hex digit.
-    HexDigit,
-    /// 3: the number of characters is odd.
-    HexOdd,
-    /// 4: it is no base64.
-    Base64,
-}
 
 /// At most `MOST` bytes, in memory that is allocated once.
 #[derive(Drop)]

@@ -3,7 +3,7 @@
 ghost use Rattle.std.specs.Prelude.{◌≡◌, ◌≤◌, ◌<◌, ◌*◌, ◌/◌, ◌%◌, true, false, length, take, MatchOption, Ok, Err};
 ghost use Rattle.std.specs.Prelude.{Some, None, if◌then◌else◌, nat_lt};
 ghost use Rattle.hex.specs.Hex.{hex_digit_value};
-ghost use Rattle.sd_buffer.specs.declared.buffer.TextFault.TheVariants.{HexDigit};
+ghost use Rattle.sd_faults.specs.declared.fault.TextFault.TheVariants.{HexDigit};
 ghost use Rattle.sd_buffer.specs.Text.{hex_spells};
 ghost use Rattle.sd_buffer.specs.Inner.HexBlocks.{AreValues, HasOther, block_behind, joined_pairs};
 

@@ -5,7 +5,8 @@ ghost use Rattle.std.specs.Prelude.{MatchResult};
 ghost use Rattle.sd_text.specs.Limits.{most_hex_text};
 ghost use Rattle.sd_buffer.specs.Text.{hex_spells};
 
-use crate::buffer::{SdBuf, TextFault};
+use crate::buffer::SdBuf;
+use sd_faults::TextFault;
 
 /// A reader of one line of hex, in pieces that are cut anywhere, beside the buffer into which its bytes go. Each call
 /// takes the buffer as the reader's last call left it.

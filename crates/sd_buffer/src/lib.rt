@@ -6,5 +6,5 @@ mod buffer;
 mod hex_digits;
 mod hex_reader;
 
-pub use buffer::{ByteBuf, Full, SdBuf, TextBuf, TextFault};
+pub use buffer::{ByteBuf, Full, SdBuf, TextBuf};
 pub use hex_reader::HexReader;

@@ -9,10 +9,10 @@ use Rattle.hex.specs.Hex.{decode_pairs}
 use Rattle.sd_kinds.specs.Kinds.{kind_code, kind_entry, kind_of}
 use Rattle.sd_sid.specs.Sid.{SecurityId, sid_at, sid_bytes}
 use Rattle.sd_sid.proofs.laws.Everyone.{everyone}
-use Rattle.sd_buffer.specs.declared.buffer.TextFault.{TextFault}
-use Rattle.sd_buffer.specs.declared.buffer.TextFault.TheVariants.{Base64, HexDigit, HexOdd}
+use Rattle.sd_faults.specs.declared.fault.TextFault.{TextFault}
+use Rattle.sd_faults.specs.declared.fault.TextFault.TheVariants.{Base64, HexDigit, HexOdd}
 use Rattle.sd_parts.specs.declared.part.Part.TheVariants.{Owner, Group, Sacl, Dacl}
-use Rattle.sd_view.specs.declared.fault.SdFault.TheVariants as faults
+use Rattle.sd_faults.specs.declared.fault.SdFault.TheVariants as faults
 use Rattle.sd_acl_view.specs.Bytes.{u16_at, u32_at}
 use Rattle.sd_parts.specs.Control.{acl_flags, flag_bits}
 use Rattle.sd_parts.specs.declared.part.Which.{Which}

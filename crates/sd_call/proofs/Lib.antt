@@ -1,1 +1,3 @@
 mod Rows
+pub mod WalkLemmas
+mod WalkRows

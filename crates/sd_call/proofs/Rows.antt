@@ -3,12 +3,12 @@ use Rattle.std.proofs.Common.{◌≡◌, inl, inr, ℕ, List, [], ◌∷◌, len
 use Rattle.std.proofs.Common.{replicate, arith}
 use Rattle.std.specs.List.{flat_map}
 use Rattle.sd_text.specs.Chains.{fault_as}
-use Rattle.sd_answer.specs.declared.fault.LineFault.TheVariants as line
-use Rattle.sd_check.specs.declared.ask.AskFault.TheVariants as ask
+use Rattle.sd_faults.specs.declared.line_fault.LineFault.TheVariants as line
+use Rattle.sd_faults.specs.declared.fault.AskFault.TheVariants as ask
 use Rattle.sd_parts.specs.declared.part.Part.TheVariants as part
 use Rattle.sd_sid.specs.Sid.{sid_at}
 use Rattle.sd_view.specs.Reading.{reading}
-use Rattle.sd_view.specs.declared.fault.SdFault.TheVariants as sd
+use Rattle.sd_faults.specs.declared.fault.SdFault.TheVariants as sd
 use Rattle.sd_call.specs.Arguments.{descriptor_in, domain_in, mapping_in, optional_sid_in, sid_in}
 use Rattle.sd_call.specs.FaultNames.{name_of}
 use Rattle.sd_call.specs.Outcomes.{Answers, AnswersWithin, Fills, Gives, Refused, argument_number, done, failed}
@@ -21,11 +21,6 @@ use Rattle.sd_call.specs.declared.outcome.CallFault.TheVariants as call
 own_numbers : (number (call.Line line.TooLong) ≡ 1) × (number (call.Ask ask.EmptyRequest) ≡ 50)
     × (number (call.Ask ask.ReservedBits) ≡ 51) × (number (call.Argument which.Domain 9) ≡ 70)
 own_numbers = (refl, refl, refl, refl)
-
--- enum sdtool_part
-part_numbers : (part_number None ≡ 0) × (part_number (Some part.Owner) ≡ 1) × (part_number (Some part.Group) ≡ 2)
-    × (part_number (Some part.Sacl) ≡ 3) × (part_number (Some part.Dacl) ≡ 4)
-part_numbers = (refl, refl, refl, refl, refl)
 
 -- enum sdtool_argument
 arguments_of_checks : (argument_number which.Domain ≡ 1) × (argument_number which.Sids ≡ 2)

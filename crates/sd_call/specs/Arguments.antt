@@ -6,7 +6,7 @@ use Rattle.sd_rights.specs.Mapping.{GenericMapping, directory_mapping, file_mapp
 use Rattle.sd_sid.specs.Sid.{SecurityId, sid_at}
 use Rattle.sd_view.specs.Descriptor.{Descriptor}
 use Rattle.sd_view.specs.Reading.{reading}
-use Rattle.sd_answer.specs.declared.fault.LineFault.TheVariants as line
+use Rattle.sd_faults.specs.declared.line_fault.LineFault.TheVariants as line
 use Rattle.sd_call.specs.declared.argument.Argument.{Argument}
 use Rattle.sd_call.specs.declared.argument.Argument.TheVariants as which
 use Rattle.sd_call.specs.declared.outcome.CallFault.{CallFault}

@@ -1,6 +1,6 @@
 -- The name of a fault as an answer of the library.
 use Rattle.std.specs.Prelude.{ℕ, List, if◌then◌else◌, nat_eq, length, Result, Ok, Err}
-use Rattle.sd_answer.specs.FaultNames.{fault_name}
+use Rattle.sd_faults.specs.FaultNames.{fault_name}
 use Rattle.sd_call.specs.declared.argument.Argument.TheVariants as which
 use Rattle.sd_call.specs.declared.outcome.CallFault.{CallFault}
 use Rattle.sd_call.specs.declared.outcome.CallFault.TheVariants as call

@@ -1,3 +1,6 @@
 pub mod Arguments
+pub mod Contents
 pub mod FaultNames
 pub mod Outcomes
+pub mod Places
+pub mod Walk

@@ -1,9 +1,9 @@
 -- What a call hands back: the number of its fault, the parts that the fault names, and how many bytes there are.
 use Rattle.std.specs.Prelude.{◌≡◌, ◌≤◌, ◌<◌, ◌⊎◌, ℕ, List, length, take, Option, Some, None, Result, Ok, Err}
-use Rattle.sd_answer.specs.Faults as line
-use Rattle.sd_check.specs.declared.ask.AskFault.TheVariants as ask
+use Rattle.sd_faults.specs.Faults as line
+use Rattle.sd_faults.specs.Faults.{part_number}
+use Rattle.sd_faults.specs.declared.fault.AskFault.TheVariants as ask
 use Rattle.sd_parts.specs.declared.part.Part.{Part}
-use Rattle.sd_parts.specs.declared.part.Part.TheVariants as part
 use Rattle.sd_call.specs.declared.argument.Argument.{Argument}
 use Rattle.sd_call.specs.declared.argument.Argument.TheVariants as which
 use Rattle.sd_call.specs.declared.outcome.Outcome.{Outcome}
@@ -23,14 +23,6 @@ abbrev pub named_parts : CallFault → Option Part × Option Part
 named_parts (Line fault) = line.named_parts fault
 named_parts (Ask fault) = (None, None)
 named_parts (call.Argument argument entry) = (None, None)
-
--- a part as a number; 0 where none is named
-abbrev pub part_number : Option Part → ℕ
-part_number None = 0
-part_number (Some part.Owner) = 1
-part_number (Some part.Group) = 2
-part_number (Some part.Sacl) = 3
-part_number (Some part.Dacl) = 4
 
 abbrev pub argument_number : Argument → ℕ
 argument_number which.Domain = 1

@@ -6,7 +6,7 @@ ghost use Rattle.sd_call.specs.FaultNames.{name_of};
 use crate::argument::Argument;
 use crate::outcome::{CallFault, Outcome, failed};
 use crate::output::give;
-use sd_answer::fault_name;
+use sd_faults::fault_name;
 
 /// Gives the name of a fault, by its number.
 #[tactic(auto, unfolding(crate::specs::FaultNames::name_of))]

@@ -5,7 +5,7 @@ ghost use Rattle.sd_call.specs.Arguments.{descriptor_in, domain_in, mapping_in, 
 
 use crate::argument::Argument;
 use crate::outcome::CallFault;
-use sd_answer::LineFault;
+use sd_faults::LineFault;
 use sd_parts::CAPACITY;
 use sd_rights::Mapping;
 use sd_sid::Sid;

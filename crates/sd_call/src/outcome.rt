@@ -2,12 +2,10 @@
 
 ghost use Rattle.std.specs.Prelude.{◌≡◌};
 ghost use Rattle.sd_call.specs.Outcomes.{argument_of, done, entry_of, failed, named_parts, no_memory, number};
-ghost use Rattle.sd_call.specs.Outcomes.{part_number, too_small};
+ghost use Rattle.sd_call.specs.Outcomes.{too_small};
 
 use crate::argument::{Argument, argument_number};
-use sd_answer::LineFault;
-use sd_check::AskFault;
-use sd_memory::NoMemory;
+use sd_faults::{AskFault, LineFault, NoMemory, part_number};
 use sd_view::Part;
 use std::marker::Model;
 
@@ -169,17 +167,5 @@ fn entry_of(fault: CallFault) -> usize
     match fault {
         CallFault::Line(_) | CallFault::Ask(_) => 0,
         CallFault::Argument(_, entry) => entry,
-    }
-}
-
-fn part_number(part: Option<Part>) -> u32
-    ensures { result ≡ part_number part }
-{
-    match part {
-        None => 0,
-        Some(Part::Owner) => 1,
-        Some(Part::Group) => 2,
-        Some(Part::Sacl) => 3,
-        Some(Part::Dacl) => 4,
     }
 }

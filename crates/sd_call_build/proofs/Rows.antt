@@ -10,8 +10,8 @@ use Rattle.sd_parts.specs.declared.part.Which.TheVariants.{Dacl, Sacl}
 use Rattle.sd_view.specs.Descriptor.{Descriptor}
 use Rattle.sd_view.specs.Layout.{acl_part_size}
 use Rattle.sd_view.specs.declared.acl_part.AclPart.TheVariants as acl
-use Rattle.sd_sddl_builder.specs.declared.fault.SddlFault.TheVariants as sddl
-use Rattle.sd_answer.specs.declared.fault.LineFault.TheVariants as line
+use Rattle.sd_faults.specs.declared.fault.SddlFault.TheVariants as sddl
+use Rattle.sd_faults.specs.declared.line_fault.LineFault.TheVariants as line
 use Rattle.sd_call.specs.declared.argument.Argument.TheVariants as argument
 use Rattle.sd_call.specs.declared.outcome.CallFault.TheVariants as call
 use Rattle.sd_call_build.specs.Build.{built, large_fault, new_fault}

@@ -4,8 +4,8 @@ use Rattle.std.specs.Option.{option_map, option_or}
 use Rattle.sd_text.specs.Chains.{unless}
 use Rattle.sd_view.specs.Descriptor.{Descriptor}
 use Rattle.sd_view.specs.Layout.{layout}
-use Rattle.sd_sddl_builder.specs.declared.fault.SddlFault.TheVariants as sddl
-use Rattle.sd_answer.specs.declared.fault.LineFault.TheVariants as line
+use Rattle.sd_faults.specs.declared.fault.SddlFault.TheVariants as sddl
+use Rattle.sd_faults.specs.declared.line_fault.LineFault.TheVariants as line
 use Rattle.sd_call.specs.declared.argument.Argument.{Argument}
 use Rattle.sd_call.specs.declared.argument.Argument.TheVariants as which
 use Rattle.sd_call.specs.declared.outcome.CallFault.{CallFault}

@@ -11,10 +11,9 @@ use crate::layout::put_new;
 use crate::new::{LIST, NewAcl, NewDescriptor};
 use crate::reading::{first_wrong, is_wrong_sid};
 use crate::sizes::part_sizes;
-use sd_answer::LineFault;
 use sd_call::{Argument, CallFault, Front, Outcome, done, failed, too_small};
+use sd_faults::{LineFault, SddlFault};
 use sd_parts::{HEADER_SIZE, Parts};
-use sd_sddl_builder::SddlFault;
 
 /// Gives the layout of a new descriptor.
 #[tactic(auto, unfolding(crate::specs::Build::built))]

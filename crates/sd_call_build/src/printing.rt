@@ -11,7 +11,7 @@ ghost use Rattle.sd_call_build.specs.New.{is_ace, shown_ace};
 use crate::new::NewAce;
 use crate::reading::shown_ace;
 use sd_ace::{Ace, AceFront, guid_bytes};
-use sd_call_sids::write_sid;
+use sd_call::write_sid;
 use sd_parts::MOST_SID_SIZE;
 use sd_sid::Sid;
 use sd_sink::Print;

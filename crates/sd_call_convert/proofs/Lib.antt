@@ -1,1 +1,4 @@
-mod Rows
+mod ConvertRows
+pub mod DescribedLemmas
+pub mod NameLemmas
+mod SidRows

@@ -9,7 +9,7 @@ use Rattle.sd_view.specs.Layout.{layout}
 use Rattle.sd_sddl_builder.specs.Meaning.{means}
 use Rattle.sd_sddl_printer.specs.Printed.{sddl}
 use Rattle.sd_explain.specs.Explain.{explain}
-use Rattle.sd_answer.specs.declared.fault.LineFault.TheVariants as line
+use Rattle.sd_faults.specs.declared.line_fault.LineFault.TheVariants as line
 use Rattle.sd_call.specs.Arguments.{descriptor_in, domain_in}
 use Rattle.sd_call.specs.declared.outcome.CallFault.{CallFault}
 use Rattle.sd_call.specs.declared.outcome.CallFault.TheVariants.{Line}

@@ -1,1 +1,4 @@
 pub mod Conversions
+pub mod Described
+pub mod PlaceTold
+pub mod Sids

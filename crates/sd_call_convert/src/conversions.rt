@@ -8,13 +8,12 @@ ghost use Rattle.sd_call_convert.specs.Conversions.{domain_for, explained, from_
 ghost use Rattle.sd_call_convert.specs.Conversions.{to_sddl};
 
 use crate::printing::{Text, give_text, named_in};
-use sd_answer::LineFault;
 use sd_buffer::SdBuf;
 use sd_call::{
     CallFault, Front, Outcome, descriptor_in, domain_in, done, failed, give, no_memory, too_small,
 };
+use sd_faults::{LineFault, NoMemory};
 use sd_layout::put_layout;
-use sd_memory::NoMemory;
 use sd_sddl_reader::read_sddl;
 use sd_sid::Sid;
 use sd_text::MOST_SDDL_TEXT;

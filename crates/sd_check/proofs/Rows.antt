@@ -17,7 +17,7 @@ use Rattle.sd_check.specs.Granted.{granted}
 use Rattle.sd_check.specs.Need.{all_below, check_bound, least, need, owner_matters}
 use Rattle.sd_check.specs.Reasons.{grants, reason_of, reasons, reasons_need}
 use Rattle.sd_check.specs.Verdict.{missing, rights_below, verdict, won}
-use Rattle.sd_check.specs.declared.ask.AskFault.TheVariants.{EmptyRequest, ReservedBits}
+use Rattle.sd_faults.specs.declared.fault.AskFault.TheVariants.{EmptyRequest, ReservedBits}
 use Rattle.sd_check.specs.declared.reason.Reason.{Reason}
 use Rattle.sd_check.specs.declared.reason.Reason.TheVariants as reason
 use Rattle.sd_check.specs.declared.verdict.Verdict.{Verdict}

@@ -3,8 +3,8 @@ use Rattle.std.specs.Prelude.{◌<◌, ℕ, ◌%◌, ◌^◌, ◌==◌, Bool, no
 use Rattle.sd_rights.specs.Mapping.{GenericMapping, carries, mapped}
 use Rattle.sd_sid.specs.Sid.{SecurityId}
 use Rattle.sd_rights.specs.AccessRights.{first_reserved, maximum_allowed, second_reserved}
-use Rattle.sd_check.specs.declared.ask.AskFault.{AskFault}
-use Rattle.sd_check.specs.declared.ask.AskFault.TheVariants.{EmptyRequest, ReservedBits}
+use Rattle.sd_faults.specs.declared.fault.AskFault.{AskFault}
+use Rattle.sd_faults.specs.declared.fault.AskFault.TheVariants.{EmptyRequest, ReservedBits}
 
 pub record Asked : Type 0 where
   -- the desired mask, mapped, without the bit that means maximum

@@ -3,6 +3,7 @@
 ghost use Rattle.std.specs.Prelude.{◌≡◌, ◌||◌, None, Some, IfOk, MatchResult};
 ghost use Rattle.sd_check.specs.Ask.{AreRights, ask_fault, asks_maximum, wanted_of};
 
+use sd_faults::AskFault;
 use sd_rights::{FIRST_RESERVED, MAXIMUM_ALLOWED, Mapping, SECOND_RESERVED, has_right};
 use sd_sid::Sid;
 use std::marker::Model;
@@ -27,15 +28,6 @@ pub struct Ask {
     object: Option<Uuid>,
     principal_self: Option<Sid>,
     privileges: Privileges,
-}
-
-/// Why nothing can be asked.
-#[derive(Clone, Copy, Debug, PartialEq, Eq)]
-pub enum AskFault {
-    /// No right is desired, nor the maximum: fault 50.
-    EmptyRequest,
-    /// Bit 26 or 27 is set in the desired mask: fault 51.
-    ReservedBits,
 }
 
 impl Model for Ask {

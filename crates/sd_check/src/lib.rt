@@ -10,6 +10,6 @@ mod scan;
 mod trustee;
 mod verdict;
 
-pub use ask::{Ask, AskFault, Privileges};
+pub use ask::{Ask, Privileges};
 pub use reason::{Reason, reasons};
 pub use verdict::{Verdict, check};

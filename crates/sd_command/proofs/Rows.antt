@@ -16,7 +16,7 @@ use Rattle.sd_rights.specs.Rights.{rights_reads}
 use Rattle.sd_view.specs.declared.acl_part.AclPart.TheVariants as acl
 use Rattle.sd_sddl_builder.specs.Meaning.{body_reads, means}
 use Rattle.sd_check.specs.Ask.{Asked}
-use Rattle.sd_check.specs.declared.ask.AskFault.TheVariants.{EmptyRequest, ReservedBits}
+use Rattle.sd_faults.specs.declared.fault.AskFault.TheVariants.{EmptyRequest, ReservedBits}
 use Rattle.sd_token.specs.Token.{Holder}
 use Rattle.sd_token.specs.declared.token.EntryKind.TheVariants.{DenyOnly, Enabled}
 use Rattle.sd_inherit.specs.declared.plan.Plan.{Plan}

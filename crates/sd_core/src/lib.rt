@@ -25,18 +25,18 @@
 //! 5 [32, 544]: 0x1f01ff true
 //! ```
 //!
-//! This crate re-exports the crates below it: `sd_memory`, `sd_sink`, `sd_text`, `sd_kinds`, `sd_rights`, `sd_sid`,
+//! This crate re-exports the crates below it: `sd_sink`, `sd_text`, `sd_kinds`, `sd_rights`, `sd_sid`,
 //! `sd_ace` and `sd_token`.
 #![tactic(auto)]
 
 pub use sd_ace::{
     Ace, GUID_TEXT_SIZE, UNUSED_FLAG, guid_bytes, guid_from_text, guid_read, print_guid, put_guid,
 };
+pub use sd_faults::NoMemory;
 pub use sd_kinds::{
     AceKind, CONTAINER_INHERIT, FAILED_ACCESS, INHERIT_ONLY, INHERITED, NO_PROPAGATE,
     OBJECT_INHERIT, SUCCESSFUL_ACCESS, flags_from_text, has_flag, print_flags, put_flags,
 };
-pub use sd_memory::NoMemory;
 pub use sd_rights::{
     ACCESS_SYSTEM_SECURITY, DELETE, GENERIC_ALL, GENERIC_EXECUTE, GENERIC_READ, GENERIC_WRITE,
     MAXIMUM_ALLOWED, Mapping, READ_CONTROL, SYNCHRONIZE, WRITE_DAC, WRITE_OWNER, has_right,

@@ -21,8 +21,8 @@ use Rattle.sd_acl_view.specs.declared.fault.AclFault.TheVariants as lists
 use Rattle.sd_view.specs.Descriptor.{Extent, control_at, extents_of}
 use Rattle.sd_view.specs.Reading.{acl_part_fault, fault, fault_in, header_fault, overlap_fault, overlaps_fault}
 use Rattle.sd_view.specs.Reading.{parts_fault, sid_fault, shown}
-use Rattle.sd_view.specs.declared.fault.SdFault.{SdFault}
-use Rattle.sd_view.specs.declared.fault.SdFault.TheVariants as faults
+use Rattle.sd_faults.specs.declared.fault.SdFault.{SdFault}
+use Rattle.sd_faults.specs.declared.fault.SdFault.TheVariants as faults
 use Rattle.sd_fault_places.specs.Places.{IsFirstFaulty, IsInFirst, aces_in, behind_aces, faulty_ace, from_part, part_at}
 use Rattle.sd_fault_places.specs.Places.{at_extent, place_of, sound_aces}
 use Rattle.sd_acl_view.proofs.laws.FirstFault.{went_on}

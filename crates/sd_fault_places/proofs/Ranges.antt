@@ -28,8 +28,8 @@ use Rattle.sd_acl_view.proofs.laws.FirstFault.{first_none, otherwise, went_on}
 use Rattle.sd_view.specs.Descriptor.{acl_extent, control_at, dacl_at, extents_of, group_at, owner_at, sacl_at}
 use Rattle.sd_view.specs.Descriptor.{sid_extent}
 use Rattle.sd_view.specs.Reading.{acl_part_fault, acl_shown, fault, fault_in, parts_fault, shown, sid_fault, sid_shown}
-use Rattle.sd_view.specs.declared.fault.SdFault.{SdFault}
-use Rattle.sd_view.specs.declared.fault.SdFault.TheVariants as faults
+use Rattle.sd_faults.specs.declared.fault.SdFault.{SdFault}
+use Rattle.sd_faults.specs.declared.fault.SdFault.TheVariants as faults
 use Rattle.sd_fault_places.specs.Places.{IsWithin, aces_in, acl_in, at_extent, behind_aces, counted_sid, faulty_ace}
 use Rattle.sd_fault_places.specs.Places.{from_part, left_at_fault, part_at, place_of}
 use Rattle.sd_fault_places.specs.declared.place.Field.{Field}

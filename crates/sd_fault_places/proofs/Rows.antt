@@ -11,8 +11,8 @@ use Rattle.sd_acl_view.specs.AclReading.{kind_in, object_in, sid_offset_in}
 use Rattle.sd_acl_view.specs.Bytes.{u16_at, u32_at}
 use Rattle.sd_view.specs.Reading.{acl_part_fault, acl_shown, fault, header_fault, overlap_fault, overlaps_fault}
 use Rattle.sd_view.specs.Reading.{parts_fault, sid_fault, sid_shown}
-use Rattle.sd_view.specs.declared.fault.SdFault.{SdFault}
-use Rattle.sd_view.specs.declared.fault.SdFault.TheVariants as faults
+use Rattle.sd_faults.specs.declared.fault.SdFault.{SdFault}
+use Rattle.sd_faults.specs.declared.fault.SdFault.TheVariants as faults
 use Rattle.sd_fault_places.specs.Places.{place_of_fault}
 use Rattle.sd_fault_places.specs.declared.place.FaultPlace.{FaultPlace}
 use Rattle.sd_fault_places.specs.declared.place.Field.{Field}

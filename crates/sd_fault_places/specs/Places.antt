@@ -10,8 +10,8 @@ use Rattle.sd_acl_view.specs.Bytes.{u16_at, u32_at}
 use Rattle.sd_acl_view.specs.declared.fault.AclFault.{AclFault}
 use Rattle.sd_view.specs.Descriptor.{Extent, extents_of}
 use Rattle.sd_view.specs.Reading.{fault, fault_in, shown}
-use Rattle.sd_view.specs.declared.fault.SdFault.{SdFault}
-use Rattle.sd_view.specs.declared.fault.SdFault.TheVariants as faults
+use Rattle.sd_faults.specs.declared.fault.SdFault.{SdFault}
+use Rattle.sd_faults.specs.declared.fault.SdFault.TheVariants as faults
 use Rattle.sd_fault_places.specs.declared.place.FaultPlace.{FaultPlace}
 use Rattle.sd_fault_places.specs.declared.place.Field.{Field}
 use Rattle.sd_fault_places.specs.declared.place.Field.TheVariants as field

@@ -11,9 +11,10 @@ ghost use Rattle.sd_fault_places.specs.Places.{IsInFirst, IsWithin, offset_at, p
 use crate::aces::{extent_at_front, first_faulty, sid_offset};
 use crate::numbers::{behind, byte_at, u16_at, u32_at};
 use crate::place::{ByteRange, FaultPlace, Field};
+use sd_faults::SdFault;
 use sd_parts::{ACL_HEADER_SIZE, DACL_PRESENT, Part, SACL_PRESENT, SID_HEADER_SIZE, has_bit};
 use sd_sid::Sid;
-use sd_view::{Extent, SdFault, read};
+use sd_view::{Extent, read};
 
 /// The bytes of an ACE's type, flags and size.
 const ACE_HEADER_SIZE: usize = 4;

@@ -40,6 +40,7 @@
 //! `sd_command`, the program.
 #![tactic(auto)]
 
-pub use sd_answer::{Act, Form, Job, LineFault, OutputForm, put_fault};
+pub use sd_answer::{Act, Form, Job, OutputForm};
 pub use sd_command::command;
+pub use sd_faults::{LineFault, put_fault};
 pub use sd_run::{DeviceFault, Drain, Engine, FromRead, Report, RunFault, Source, ToWrite, run};

@@ -17,7 +17,7 @@ use Rattle.sd_inherit.specs.Origins.{aces_in, gives}
 use Rattle.sd_inherit.specs.Copies.{copies}
 use Rattle.sd_inherit.specs.Derived.{dacl_beside, derive_fault, derived, inherited, is_list, is_too_large, new_aces}
 use Rattle.sd_inherit.specs.Derived.{new_dacl, new_flag_bits, new_sacl, sacl_beside, sacl_of}
-use Rattle.sd_inherit.specs.declared.derivation.DeriveFault.TheVariants.{DerivedTooLarge}
+use Rattle.sd_faults.specs.declared.fault.DeriveFault.TheVariants.{DerivedTooLarge}
 use Rattle.sd_inherit.specs.declared.inherited.AclSources.{AclSources}
 use Rattle.sd_inherit.specs.declared.origin.Giver.{Giver}
 use Rattle.sd_inherit.specs.declared.origin.Giver.TheVariants as giver

@@ -17,7 +17,7 @@ use Rattle.sd_inherit.specs.Origins.{new_origins, origins_answer}
 use Rattle.sd_inherit.specs.PlanLimits.{IsPlan}
 use Rattle.sd_inherit.specs.Taken.{taken}
 use Rattle.sd_parts.specs.declared.part.Which.TheVariants.{Dacl, Sacl}
-use Rattle.sd_inherit.specs.declared.derivation.DeriveFault.TheVariants.{DerivedTooLarge}
+use Rattle.sd_faults.specs.declared.fault.DeriveFault.TheVariants.{DerivedTooLarge}
 use Rattle.sd_inherit.specs.declared.origin.AceOrigin.{AceOrigin}
 use Rattle.sd_inherit.specs.declared.origin.OriginFault.TheVariants.{Derive, TooSmall}
 use Rattle.sd_inherit.specs.declared.plan.Plan.{Plan}

@@ -16,8 +16,8 @@ use Rattle.sd_parts.specs.declared.part.Which.{Which}
 use Rattle.sd_parts.specs.declared.part.Which.TheVariants.{Sacl, Dacl}
 use Rattle.sd_inherit.specs.Copies.{copies}
 use Rattle.sd_inherit.specs.Taken.{taken}
-use Rattle.sd_inherit.specs.declared.derivation.DeriveFault.{DeriveFault}
-use Rattle.sd_inherit.specs.declared.derivation.DeriveFault.TheVariants.{DerivedTooLarge}
+use Rattle.sd_faults.specs.declared.fault.DeriveFault.{DeriveFault}
+use Rattle.sd_faults.specs.declared.fault.DeriveFault.TheVariants.{DerivedTooLarge}
 use Rattle.sd_inherit.specs.declared.plan.Plan.{Plan}
 
 -- 1. What there is to take, and to inherit.

@@ -10,7 +10,7 @@ use Rattle.sd_parts.specs.declared.part.Which.{Which}
 use Rattle.sd_inherit.specs.Copies.{copies}
 use Rattle.sd_inherit.specs.Derived.{creators_acl, derive_fault, derived, parents_acl}
 use Rattle.sd_inherit.specs.Taken.{is_inherit_only, taken}
-use Rattle.sd_inherit.specs.declared.derivation.DeriveFault.{DeriveFault}
+use Rattle.sd_faults.specs.declared.fault.DeriveFault.{DeriveFault}
 use Rattle.sd_inherit.specs.declared.origin.AceOrigin.{AceOrigin}
 use Rattle.sd_inherit.specs.declared.origin.Giver.{Giver}
 use Rattle.sd_inherit.specs.declared.origin.Giver.TheVariants as giver

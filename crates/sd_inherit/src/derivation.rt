@@ -16,15 +16,9 @@ use crate::inherited::AclSources;
 use crate::plan::Plan;
 use sd_buffer::SdBuf;
 use sd_builder::Builder;
+use sd_faults::DeriveFault;
 use sd_parts::{AclFlags, Which};
 use sd_view::{AclPart, SdView};
-
-/// Why nothing is derived.
-#[derive(Clone, Copy, Debug, PartialEq, Eq)]
-pub enum DeriveFault {
-    /// 40: this ACL would pass 65,535 bytes.
-    DerivedTooLarge(Which),
-}
 
 /// Replaces the contents of the buffer by the descriptor of a new object (MS-DTYP 2.5.3.4) in a container with the
 /// parent's descriptor. It has the owner and group of the plan, what is taken from the ACLs of the creator's

@@ -13,7 +13,7 @@ mod plan;
 mod taken;
 mod tally;
 
-pub use derivation::{DeriveFault, derive};
+pub use derivation::derive;
 pub use origin::{AceCounts, AceOrigin, OriginFault};
 pub use origin_cells::origins;
 pub use plan::{Plan, Target};

@@ -1,6 +1,6 @@
 //! Where the ACEs of a new ACL come from.
 
-use crate::derivation::DeriveFault;
+use sd_faults::DeriveFault;
 
 /// Whose ACEs a new ACL is made of.
 #[derive(Clone, Copy, Debug, PartialEq, Eq)]

@@ -9,11 +9,12 @@ ghost use Rattle.sd_inherit.specs.OriginLaws.{Copied, Counted, Rising};
 ghost use Rattle.sd_inherit.specs.Origins.{ace_counts, is_creator, new_origins, origin_of, origins_answer};
 
 use crate::copies::Copies;
-use crate::derivation::{DeriveFault, sources};
+use crate::derivation::sources;
 use crate::inherited::{AceSource, AclSources, given_by};
 use crate::origin::{AceCounts, AceOrigin, Giver, OriginFault};
 use crate::plan::Plan;
 use sd_builder::ChangedAce;
+use sd_faults::DeriveFault;
 use sd_kinds::{INHERIT_ONLY, has_flag};
 use sd_parts::Which;
 use sd_view::SdView;

@@ -2,10 +2,10 @@
 use Rattle.std.proofs.Common.{◌≡◌, ℕ, List, [], Some, None, Result, Ok, Err, refl, ap}
 use Rattle.std.specs.Prelude.{MatchResult}
 use Rattle.std.specs.Result.{result_ok}
-use Rattle.sd_sddl_builder.specs.declared.fault.SddlFault.{SddlFault}
+use Rattle.sd_faults.specs.declared.fault.SddlFault.{SddlFault}
 use Rattle.sd_view.specs.Descriptor.{Descriptor, Shows}
 use Rattle.sd_view.specs.Reading.{fault, header_fault, reading}
-use Rattle.sd_view.specs.declared.fault.SdFault.{SdFault}
+use Rattle.sd_faults.specs.declared.fault.SdFault.{SdFault}
 use Rattle.sd_view.proofs.laws.ReadingLaws.{reading-shown}
 
 -- an empty buffer holds none

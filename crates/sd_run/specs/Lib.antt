@@ -1,4 +1,5 @@
 pub mod Answers
+pub mod Held
 pub mod Inner
 pub mod Lines
 pub mod Outcome

@@ -37,5 +37,6 @@
 #![tactic(auto)]
 
 pub use sd_explain::{print_explain, put_explain};
+pub use sd_faults::SddlFault;
 pub use sd_sddl_printer::{print_sddl, put_sddl};
-pub use sd_sddl_reader::{SddlFault, SddlReader, read_sddl};
+pub use sd_sddl_reader::{SddlReader, read_sddl};

@@ -17,13 +17,13 @@ use Rattle.sd_view.specs.declared.acl_part.AclPart.{AclPart}
 use Rattle.sd_view.specs.declared.acl_part.AclPart.TheVariants as acl
 use Rattle.sd_parts.specs.declared.part.Which.{Which}
 use Rattle.sd_parts.specs.declared.part.Which.TheVariants as which
-use Rattle.sd_sddl_builder.specs.declared.fault.SddlFault.{SddlFault}
+use Rattle.sd_faults.specs.declared.fault.SddlFault.{SddlFault}
 use Rattle.sd_parts.specs.Control.{no_flags}
 use Rattle.sd_sddl_fields.specs.FieldTexts.{front_reads, kind_reads, object_reads}
 use Rattle.sd_sddl_builder.specs.Meaning.{Said, acl_said, ace_reads, body_reads, each, acl_part_reads, first_large}
 use Rattle.sd_sddl_builder.specs.Meaning.{means, section_reads, sections_mean}
 use Rattle.sd_sddl_builder.specs.Line.{Section}
-use Rattle.sd_sddl_builder.specs.declared.fault.SddlFault.TheVariants as fault
+use Rattle.sd_faults.specs.declared.fault.SddlFault.TheVariants as fault
 
 -- `unfolding read` lets `refl` compute a row
 read_but_guids : Unit {0}

@@ -27,8 +27,8 @@ use Rattle.sd_sddl_builder.specs.Line.{Piece, Section, aces, cut_at_semicolons, 
 use Rattle.sd_sddl_builder.specs.Line.{sections_of, trim}
 use Rattle.sd_text.specs.Chains.{and_then}
 use Rattle.sd_sddl_builder.specs.Meaning.{control_flags, is_unreadable, unless_large}
-use Rattle.sd_sddl_builder.specs.declared.fault.SddlFault.{SddlFault}
-use Rattle.sd_sddl_builder.specs.declared.fault.SddlFault.TheVariants as fault
+use Rattle.sd_faults.specs.declared.fault.SddlFault.{SddlFault}
+use Rattle.sd_faults.specs.declared.fault.SddlFault.TheVariants as fault
 use Rattle.sd_sddl_builder.specs.declared.slot.AceField.{AceField}
 use Rattle.sd_sddl_builder.specs.declared.slot.AceField.TheVariants as field
 use Rattle.sd_sddl_builder.specs.declared.slot.Head.{Head}

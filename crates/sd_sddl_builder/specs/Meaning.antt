@@ -26,8 +26,8 @@ use Rattle.sd_sddl_fields.specs.FieldTexts.{front_reads, kind_reads, object_read
 use Rattle.sd_sddl_builder.specs.Line.{Piece, Section, ace_cuts, aces, front, has_aces, has_twice, is_shaped}
 use Rattle.sd_sddl_builder.specs.Line.{sections_of, same_head, trim}
 use Rattle.sd_sddl_fields.specs.FieldTexts.{is_blank}
-use Rattle.sd_sddl_builder.specs.declared.fault.SddlFault.{SddlFault}
-use Rattle.sd_sddl_builder.specs.declared.fault.SddlFault.TheVariants as fault
+use Rattle.sd_faults.specs.declared.fault.SddlFault.{SddlFault}
+use Rattle.sd_faults.specs.declared.fault.SddlFault.TheVariants as fault
 use Rattle.sd_sddl_builder.specs.declared.slot.Head.{Head}
 use Rattle.sd_sddl_builder.specs.declared.slot.Head.TheVariants as head
 use Rattle.sd_parts.specs.declared.part.SidPart.{SidPart}

@@ -6,7 +6,7 @@ use Rattle.sd_sddl_builder.specs.FoldedReading.{FieldsRead, take_field}
 use Rattle.sd_sddl_fields.specs.FieldFronts.{IsWhole}
 use Rattle.sd_sddl_builder.specs.FieldReading.{HasReadFields}
 use Rattle.sd_text.specs.Chains.{and_then}
-use Rattle.sd_sddl_builder.specs.declared.fault.SddlFault.{SddlFault}
+use Rattle.sd_faults.specs.declared.fault.SddlFault.{SddlFault}
 use Rattle.sd_sddl_builder.specs.declared.slot.AceField.{AceField}
 use Rattle.sd_sddl_builder.specs.declared.slot.AceField.TheVariants as field
 use Rattle.sd_sddl_builder.specs.declared.slot.Slot.TheVariants as slot

@@ -11,7 +11,6 @@ ghost use Rattle.sd_sddl_fields.specs.FieldTexts.{front_reads};
 ghost use Rattle.sd_sddl_builder.specs.Inner.AceEnds.{EndsAce, EndsWithObjects};
 ghost use Rattle.sd_sddl_builder.specs.WholeAce.{TakesAce};
 
-use crate::fault::SddlFault;
 use crate::kept::KeptDomains;
 use crate::name::front_name;
 use crate::slot::{AceField, Slot};
@@ -19,6 +18,7 @@ use sd_ace::AceParts;
 use sd_alias::WellKnown;
 use sd_buffer::SdBuf;
 use sd_builder::Builder;
+use sd_faults::SddlFault;
 use sd_kinds::{AceKind, flags_from_text};
 use sd_parts::{AclFlags, SidPart, Which};
 use sd_rights::rights_from_text;

@@ -40,8 +40,8 @@ use Rattle.sd_sddl_builder.specs.Meaning.{is_unreadable, means, section_reads, s
 use Rattle.sd_sddl_builder.specs.Meaning.{sid_or_fault}
 use Rattle.sd_sddl_builder.specs.Meaning.{descriptor_of, sid_said, unless_large}
 use Rattle.sd_sddl_builder.specs.Meaning.{first_large as first_said}
-use Rattle.sd_sddl_builder.specs.declared.fault.SddlFault.{SddlFault}
-use Rattle.sd_sddl_builder.specs.declared.fault.SddlFault.TheVariants as fault
+use Rattle.sd_faults.specs.declared.fault.SddlFault.{SddlFault}
+use Rattle.sd_faults.specs.declared.fault.SddlFault.TheVariants as fault
 use Rattle.sd_sddl_builder.specs.declared.slot.AceField.{AceField}
 use Rattle.sd_sddl_builder.specs.declared.slot.AceField.TheVariants as field
 use Rattle.sd_sddl_builder.specs.declared.slot.Head.{Head}

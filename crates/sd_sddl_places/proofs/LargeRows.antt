@@ -17,8 +17,8 @@ use Rattle.sd_text.specs.Names.{run_of}
 use Rattle.sd_sddl_fields.specs.FieldTexts.{front_reads, kind_reads, object_reads}
 use Rattle.sd_sddl_builder.specs.Line.{Piece, Section, Sections, ace, byte, are_aces, is_paired, is_shaped, pieces_from, sections}
 use Rattle.sd_sddl_builder.specs.Line.{are_shaped, is_acl_body, is_blank_piece, sections_of}
-use Rattle.sd_sddl_builder.specs.declared.fault.SddlFault.{SddlFault}
-use Rattle.sd_sddl_builder.specs.declared.fault.SddlFault.TheVariants as fault
+use Rattle.sd_faults.specs.declared.fault.SddlFault.{SddlFault}
+use Rattle.sd_faults.specs.declared.fault.SddlFault.TheVariants as fault
 use Rattle.sd_sddl_builder.specs.declared.slot.Head.TheVariants as head
 use Rattle.sd_fault_places.specs.declared.place.FaultPlace.{FaultPlace}
 use Rattle.sd_sddl_places.specs.Fields.{PlacedAce, PlacedPart, aces_from, fields_in, fields_in_aces, parts_in}

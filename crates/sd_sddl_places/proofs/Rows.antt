@@ -14,8 +14,8 @@ use Rattle.sd_sid.specs.SidText.{has_form, letters_read, numbers_read, sid_reads
 use Rattle.sd_sid.specs.declared.sid_text.SidFault.TheVariants as sids
 use Rattle.sd_text.specs.Names.{run_of}
 use Rattle.sd_sddl_fields.specs.FieldTexts.{front_reads, kind_reads, object_reads}
-use Rattle.sd_sddl_builder.specs.declared.fault.SddlFault.{SddlFault}
-use Rattle.sd_sddl_builder.specs.declared.fault.SddlFault.TheVariants as fault
+use Rattle.sd_faults.specs.declared.fault.SddlFault.{SddlFault}
+use Rattle.sd_faults.specs.declared.fault.SddlFault.TheVariants as fault
 use Rattle.sd_fault_places.specs.declared.place.FaultPlace.{FaultPlace}
 use Rattle.sd_fault_places.specs.declared.place.Field.{Field}
 use Rattle.sd_fault_places.specs.declared.place.Field.TheVariants as named

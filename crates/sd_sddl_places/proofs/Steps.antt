@@ -17,12 +17,12 @@ use Rattle.sd_text.specs.Cuts.{all_cuts}
 use Rattle.sd_sddl_builder.specs.FoldedReading.{next_field}
 use Rattle.sd_sddl_builder.specs.Line.{Piece, ace_cuts, cut_at_semicolons, has_aces, is_paired, is_shaped}
 use Rattle.sd_sddl_builder.specs.Line.{part_of_head, pieces_from, sections_of}
-use Rattle.sd_sddl_builder.specs.declared.fault.SddlFault.{SddlFault}
+use Rattle.sd_faults.specs.declared.fault.SddlFault.{SddlFault}
 use Rattle.sd_sddl_builder.specs.declared.slot.AceField.{AceField}
 use Rattle.sd_sddl_builder.specs.declared.slot.Head.{Head}
 use Rattle.sd_sddl_builder.specs.declared.slot.Head.TheVariants as head
 use Rattle.sd_sddl_builder.specs.declared.slot.Slot.TheVariants as slot
-use Rattle.sd_sddl_builder.specs.declared.fault.SddlFault.TheVariants as fault
+use Rattle.sd_faults.specs.declared.fault.SddlFault.TheVariants as fault
 use Rattle.sd_fault_places.specs.declared.place.Field.TheVariants as named
 use Rattle.sd_sddl_places.specs.declared.shape.Stand.{Stand}
 use Rattle.sd_sddl_places.specs.declared.shape.Stand.TheVariants as stand

@@ -17,8 +17,8 @@ use Rattle.sd_sddl_fields.specs.declared.field_texts.AclFront.{AclFront}
 use Rattle.sd_sddl_builder.specs.FoldedReading.{next_field}
 use Rattle.sd_sddl_builder.specs.Line.{Piece, Section, ace, byte, cut_at_semicolons, front, has_aces, sections_of, trim}
 use Rattle.sd_sddl_builder.specs.Meaning.{field_reads, sid_field_reads}
-use Rattle.sd_sddl_builder.specs.declared.fault.SddlFault.{SddlFault}
-use Rattle.sd_sddl_builder.specs.declared.fault.SddlFault.TheVariants as fault
+use Rattle.sd_faults.specs.declared.fault.SddlFault.{SddlFault}
+use Rattle.sd_faults.specs.declared.fault.SddlFault.TheVariants as fault
 use Rattle.sd_sddl_builder.specs.declared.slot.AceField.{AceField}
 use Rattle.sd_sddl_builder.specs.declared.slot.AceField.TheVariants as field
 use Rattle.sd_sddl_builder.specs.declared.slot.Head.{Head}

@@ -15,8 +15,8 @@ use Rattle.sd_sid.specs.SidText.{sid_reads}
 use Rattle.sd_sid.specs.declared.sid_text.SidFault.{SidFault}
 use Rattle.sd_sddl_fields.specs.FieldTexts.{object_reads}
 use Rattle.sd_sddl_builder.specs.Line.{Piece, ace_cuts, is_shaped, part_of_head}
-use Rattle.sd_sddl_builder.specs.declared.fault.SddlFault.{SddlFault}
-use Rattle.sd_sddl_builder.specs.declared.fault.SddlFault.TheVariants as fault
+use Rattle.sd_faults.specs.declared.fault.SddlFault.{SddlFault}
+use Rattle.sd_faults.specs.declared.fault.SddlFault.TheVariants as fault
 use Rattle.sd_sddl_builder.specs.declared.slot.Head.{Head}
 use Rattle.sd_sddl_builder.specs.declared.slot.Head.TheVariants as head
 use Rattle.sd_fault_places.specs.declared.place.FaultPlace.{FaultPlace}

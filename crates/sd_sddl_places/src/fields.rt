@@ -11,10 +11,11 @@ ghost use Rattle.sd_sddl_builder.specs.Meaning.{is_unreadable, sid_or_fault};
 ghost use Rattle.sd_sddl_places.specs.Fields.{ace_field_fault, name_of, place, slot_fault};
 
 use sd_fault_places::{ByteRange, FaultPlace, Field};
+use sd_faults::SddlFault;
 use sd_kinds::{AceKind, flags_from_text};
 use sd_parts::Part;
 use sd_rights::rights_from_text;
-use sd_sddl_builder::{AceField, SddlFault, Slot, fault_of};
+use sd_sddl_builder::{AceField, Slot, fault_of};
 use sd_sddl_fields::{front_from_text, is_blank, object_from_text};
 use sd_sid::Sid;
 use sd_text::MOST_FIELD_SIZE;

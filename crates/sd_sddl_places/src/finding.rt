@@ -16,8 +16,8 @@ use crate::fields::{name_of, place};
 use crate::parts::{first_faulty, first_large, second_head};
 use crate::shape::{Front, Stand, is_ended, walk};
 use sd_fault_places::{FaultPlace, Field};
+use sd_faults::SddlFault;
 use sd_parts::Part;
-use sd_sddl_builder::SddlFault;
 use sd_sid::Sid;
 
 /// The first fault (20 to 30) of a text of SDDL under a domain, as `read_sddl` of `sd_sddl_reader` finds it, and where

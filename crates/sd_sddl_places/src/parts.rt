@@ -14,9 +14,10 @@ use crate::aces::{aces_fault, first_ace, passing};
 use crate::cutting::{before_byte, before_head, behind, front_head, trim, until};
 use crate::fields::{place, slot_fault};
 use sd_fault_places::{FaultPlace, Field};
+use sd_faults::SddlFault;
 use sd_kinds::AceKind;
 use sd_parts::{Part, Parts};
-use sd_sddl_builder::{Head, SddlFault, Slot};
+use sd_sddl_builder::{Head, Slot};
 use sd_sid::Sid;
 
 /// The first head whose letter an earlier head has, in a text from its first head on.

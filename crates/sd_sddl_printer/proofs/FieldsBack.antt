@@ -17,7 +17,7 @@ use Rattle.sd_ace.proofs.laws.GuidTexts.{guid_text-length, guid_text-reads}
 use Rattle.sd_rights.proofs.laws.RightsLaws.{rights_read_back, rights_text-length}
 use Rattle.sd_sid.proofs.laws.TextLaws.{sid_text-reads}
 use Rattle.sd_sid.specs.declared.naming.Naming.{Naming}
-use Rattle.sd_sddl_builder.specs.declared.fault.SddlFault.TheVariants as fault
+use Rattle.sd_faults.specs.declared.fault.SddlFault.TheVariants as fault
 use Rattle.sd_sddl_builder.specs.declared.slot.AceField.TheVariants as field
 use Rattle.sd_parts.specs.declared.part.SidPart.{SidPart}
 use Rattle.sd_sddl_builder.specs.declared.slot.Slot.{Slot}

@@ -15,7 +15,7 @@ use Rattle.sd_sddl_reader.proofs.Steps.{seen_with}
 use Rattle.sd_sddl_builder.proofs.laws.FieldParts.{if-ok, lacks-taken, open-front, open-taken}
 use Rattle.sd_sddl_builder.specs.FieldReading.{CanTake, HasReadFields, Lacks}
 use Rattle.sd_sddl_reader.specs.Inner.Reads.{Fits, LineHasRead, is_at_front, is_in_acl}
-use Rattle.sd_sddl_builder.specs.declared.fault.SddlFault.{SddlFault}
+use Rattle.sd_faults.specs.declared.fault.SddlFault.{SddlFault}
 use Rattle.sd_sddl_builder.specs.declared.slot.AceField.{AceField}
 use Rattle.sd_sddl_builder.specs.declared.slot.AceField.TheVariants as field
 use Rattle.sd_sddl_builder.specs.declared.slot.Head.{Head}

@@ -23,8 +23,8 @@ use Rattle.sd_sddl_reader.specs.Inner.Progress.{state_of, with_head}
 use Rattle.sd_sddl_builder.specs.FieldReading.{HasReadFields}
 use Rattle.sd_sddl_reader.specs.Inner.Reads.{Feeds, IsFresh, IsReader, LineHasRead, Steps, answer_at}
 use Rattle.sd_sddl_reader.specs.Inner.WholePart.{HeadAfter, HeadBehind, IsPlainText}
-use Rattle.sd_sddl_builder.specs.declared.fault.SddlFault.{SddlFault}
-use Rattle.sd_sddl_builder.specs.declared.fault.SddlFault.TheVariants as fault
+use Rattle.sd_faults.specs.declared.fault.SddlFault.{SddlFault}
+use Rattle.sd_faults.specs.declared.fault.SddlFault.TheVariants as fault
 use Rattle.sd_sddl_builder.specs.declared.slot.AceField.TheVariants as field
 use Rattle.sd_sddl_builder.specs.declared.slot.Head.{Head}
 use Rattle.sd_sddl_builder.specs.declared.slot.Slot.{Slot}

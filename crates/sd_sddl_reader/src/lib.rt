@@ -6,4 +6,3 @@ mod reader;
 mod whole;
 
 pub use reader::{SddlReader, read_sddl};
-pub use sd_sddl_builder::SddlFault;

@@ -18,8 +18,9 @@ ghost use Rattle.sd_sddl_reader.specs.Inner.Progress.{ended_with, is_inside, is_
 
 use crate::line::{State, blanks, head_of, in_field, next_field, plain_outside, state_of};
 use sd_buffer::SdBuf;
+use sd_faults::SddlFault;
 use sd_parts::Parts;
-use sd_sddl_builder::{AceField, FieldReader, Head, SddlFault, Slot, fault_of};
+use sd_sddl_builder::{AceField, FieldReader, Head, Slot, fault_of};
 use sd_sddl_fields::{FieldText, is_blank, plain_inside};
 use sd_sid::Sid;
 

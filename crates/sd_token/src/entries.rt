@@ -13,7 +13,7 @@ use crate::memory::{Lent, Memory, Owned};
 use crate::sought::Sought;
 use crate::token::{EntryKind, TokenFull};
 use crate::words::{is_met, key_of, words_of};
-use sd_memory::NoMemory;
+use sd_faults::NoMemory;
 use sd_sid::Sid;
 use std::alloc::Global;
 use std::marker::Model;

@@ -10,7 +10,7 @@ ghost use Rattle.sd_token.specs.TokenWords.{entries_of, entry_words};
 use crate::entries::{BLOCK, Entries};
 use crate::memory::{Lent, Memory, Owned};
 use crate::sought::Sought;
-use sd_memory::NoMemory;
+use sd_faults::NoMemory;
 use sd_sid::Sid;
 use sd_sid_view::SidView;
 use std::alloc::Global;

@@ -13,7 +13,7 @@ use Rattle.sd_sid.proofs.laws.SidLaws.{sid_at-bytes, sid_at-found}
 use Rattle.sd_acl_view.specs.Bytes.{u16_at}
 use Rattle.sd_parts.specs.declared.part.Part.{Part}
 use Rattle.sd_parts.specs.declared.part.Part.TheVariants.{Owner, Group, Sacl, Dacl}
-use Rattle.sd_view.specs.declared.fault.SdFault.{SdFault}
+use Rattle.sd_faults.specs.declared.fault.SdFault.{SdFault}
 use Rattle.sd_acl_view.specs.declared.fault.AclFault.{AclFault}
 use Rattle.sd_view.specs.declared.acl_part.AclPart.{AclPart}
 use Rattle.sd_view.specs.declared.acl_part.AclPart.TheVariants as acl

@@ -25,7 +25,7 @@ use Rattle.sd_view.specs.WrittenForm.{AclIsWritten, IsWritten}
 use Rattle.sd_acl_view.specs.declared.fault.AclFault.TheVariants as lists
 use Rattle.sd_view.specs.declared.acl_part.AclPart.{AclPart}
 use Rattle.sd_view.specs.declared.acl_part.AclPart.TheVariants as acl
-use Rattle.sd_view.specs.declared.fault.SdFault.TheVariants as faults
+use Rattle.sd_faults.specs.declared.fault.SdFault.TheVariants as faults
 
 -- `unfolding computed` lets `refl` compute a row
 computed : Unit {0}

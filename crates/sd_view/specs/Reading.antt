@@ -5,8 +5,8 @@ use Rattle.std.specs.Prelude.{slice_index, Option, Some, None, option_map, is_so
 use Rattle.sd_sid.specs.Sid.{SecurityId, sid_at}
 use Rattle.sd_parts.specs.declared.part.Part.{Part}
 use Rattle.sd_parts.specs.declared.part.Part.TheVariants.{Owner, Group, Sacl, Dacl}
-use Rattle.sd_view.specs.declared.fault.SdFault.{SdFault}
-use Rattle.sd_view.specs.declared.fault.SdFault.TheVariants as faults
+use Rattle.sd_faults.specs.declared.fault.SdFault.{SdFault}
+use Rattle.sd_faults.specs.declared.fault.SdFault.TheVariants as faults
 use Rattle.sd_acl_view.specs.declared.fault.AclFault.{AclFault}
 use Rattle.sd_acl_view.specs.declared.fault.AclFault.TheVariants as lists
 use Rattle.sd_view.specs.declared.acl_part.AclPart.{AclPart}

@@ -7,6 +7,6 @@ mod laid_out;
 mod view;
 
 pub use acl_part::AclPart;
-pub use fault::{SdFault, fault_in};
+pub use fault::fault_in;
 pub use sd_parts::Part;
 pub use view::{Extent, SdView, read, read_extents, view_written};

@@ -15,9 +15,10 @@ ghost use Rattle.sd_view.specs.Inner.Readable.{IsAclAt, IsSidAt};
 ghost use Rattle.sd_parts.specs.declared.limits.TheConstants.{HEADER_SIZE, MOST_SID_SIZE};
 
 use crate::acl_part::AclPart;
-use crate::fault::{SdFault, fault_in};
+use crate::fault::fault_in;
 use crate::laid_out::is_laid_out;
 use sd_acl_view::{Written, acl_view, check_acl, u16_at, u32_at};
+use sd_faults::SdFault;
 use sd_parts::{
     ACL_REVISION_DS, DACL_PRESENT, HEADER_SIZE, Part, Parts, SACL_PRESENT, SELF_RELATIVE, has_bit,
 };

@@ -8,8 +8,7 @@ ghost use Rattle.sd_command_line.specs.FaultLines.{fault_line};
 
 use sd_command::command;
 use sd_command_line::{NO_MEMORY_LINE, NO_MEMORY_STATUS, USAGE_LINE, USAGE_STATUS};
-use sd_run::{FromRead, ToWrite};
-use sd_streams::{HeldAnswers, InputAhead};
+use sd_run::{FromRead, HeldAnswers, InputAhead, ToWrite};
 use std::cell::Cell;
 use std::env::{self, Env};
 use std::io::{BufReader, BufWriter, ErrorKind};

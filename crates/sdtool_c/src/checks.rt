@@ -1,8 +1,8 @@
 //! The call that checks access.
 
-ghost use Rattle.sd_call_check.specs.Checks.{Tells, checked};
+ghost use Rattle.sd_call_access.specs.Checks.{Tells, checked};
 
-use sd_call_check::{
+use sd_call_access::{
     AskInput, AskerInput, Request, VerdictOutcome, check_access, check_without_token,
 };
 use sd_token::Token;

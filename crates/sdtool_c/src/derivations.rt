@@ -2,12 +2,12 @@
 
 ghost use Rattle.std.specs.Prelude.{◌≤◌};
 ghost use Rattle.sd_call.specs.Outcomes.{AnswersWithin};
-ghost use Rattle.sd_call_derive.specs.Derivations.{derivation, input_in};
-ghost use Rattle.sd_call_derive.specs.OriginsTold.{TellsOrigins};
-ghost use Rattle.sd_call_derive.specs.declared.origins.TheConstants.{MOST_DERIVED_ACES};
+ghost use Rattle.sd_call_access.specs.Derivations.{derivation, input_in};
+ghost use Rattle.sd_call_access.specs.OriginsTold.{TellsOrigins};
+ghost use Rattle.sd_call_access.specs.declared.origins.TheConstants.{MOST_DERIVED_ACES};
 
 use sd_call::Outcome;
-use sd_call_derive::{AceOrigin, MOST_DERIVED_ACES, OriginsOutcome, derive_new, derive_origins};
+use sd_call_access::{AceOrigin, MOST_DERIVED_ACES, OriginsOutcome, derive_new, derive_origins};
 use std::alloc::Global;
 
 /// Gives the descriptor of a new object.

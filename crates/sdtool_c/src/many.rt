@@ -1,10 +1,9 @@
 //! The call that checks access to many descriptors.
 
-ghost use Rattle.sd_call_many.specs.Many.{AnswersMany};
+ghost use Rattle.sd_call_access.specs.Many.{AnswersMany};
 
 use sd_call::Outcome;
-use sd_call_check::{AskInput, AskerInput, Request, VerdictOutcome};
-use sd_call_many::{Bytes, check_many};
+use sd_call_access::{AskInput, AskerInput, Bytes, Request, VerdictOutcome, check_many};
 use std::alloc::Global;
 
 /// Says of each descriptor whether it grants a token what is asked for.

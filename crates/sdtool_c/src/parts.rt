@@ -1,10 +1,10 @@
 //! The calls that say where the parts of a descriptor lie, and walk its ACLs.
 
 ghost use Rattle.std.specs.Prelude.{◌≡◌};
-ghost use Rattle.sd_call_parts.specs.Contents.{contents_in};
-ghost use Rattle.sd_call_parts.specs.Walk.{next, steps_to};
+ghost use Rattle.sd_call.specs.Contents.{contents_in};
+ghost use Rattle.sd_call.specs.Walk.{next, steps_to};
 
-use sd_call_parts::{AceFound, Contents, next_ace, parts_of};
+use sd_call::{AceFound, Contents, next_ace, parts_of};
 
 /// Says what is in a descriptor, and where its parts lie.
 #[unsafe(no_mangle)]

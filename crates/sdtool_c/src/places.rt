@@ -2,11 +2,11 @@
 
 ghost use Rattle.std.specs.Prelude.{◌≡◌};
 ghost use Rattle.sd_call.specs.Outcomes.{Answers};
-ghost use Rattle.sd_call_places.specs.Described.{described};
-ghost use Rattle.sd_call_places.specs.PlaceTold.{place_told, sddl_place_told};
+ghost use Rattle.sd_call_convert.specs.Described.{described};
+ghost use Rattle.sd_call_convert.specs.PlaceTold.{place_told, sddl_place_told};
 
 use sd_call::Outcome;
-use sd_call_places::{PlaceTold, describe, place_told, sddl_place_told};
+use sd_call_convert::{PlaceTold, describe, place_told, sddl_place_told};
 
 /// Says where the first fault of a descriptor is.
 #[unsafe(no_mangle)]

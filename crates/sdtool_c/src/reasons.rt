@@ -1,11 +1,11 @@
 //! The calls that say why each right is granted or denied.
 
 ghost use Rattle.std.specs.Prelude.{◌⊎◌};
-ghost use Rattle.sd_call_check.specs.Checks.{asker_in};
-ghost use Rattle.sd_call_check.specs.Reasons.{TellsNoReasons, TellsReasons, explained, explained_held, request_of};
+ghost use Rattle.sd_call_access.specs.Checks.{asker_in};
+ghost use Rattle.sd_call_access.specs.Reasons.{TellsNoReasons, TellsReasons, explained, explained_held, request_of};
 
 use sd_call::{Outcome, failed};
-use sd_call_check::{
+use sd_call_access::{
     AskInput, Asker, AskerInput, ReasonTold, explain_access, explain_with_token,
     explain_without_token, request_of, tell_none, token_held,
 };

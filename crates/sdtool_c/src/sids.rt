@@ -2,10 +2,10 @@
 
 ghost use Rattle.std.specs.Prelude.{◌≡◌};
 ghost use Rattle.sd_call.specs.Outcomes.{Answers};
-ghost use Rattle.sd_call_sids.specs.Sids.{sid_from_text, sid_size_at, sid_to_text};
+ghost use Rattle.sd_call_convert.specs.Sids.{sid_from_text, sid_size_at, sid_to_text};
 
 use sd_call::Outcome;
-use sd_call_sids::{sid_from_text, sid_size, sid_to_text};
+use sd_call_convert::{sid_from_text, sid_size, sid_to_text};
 
 /// Gives the SID that a text names, in binary.
 #[unsafe(no_mangle)]

@@ -1,11 +1,11 @@
 //! The calls that read a token into memory of the caller, and check access with it.
 
 ghost use Rattle.std.specs.Prelude.{◌≡◌, length, drop};
-ghost use Rattle.sd_call_check.specs.Checks.{told};
-ghost use Rattle.sd_call_check.specs.TokenMemory.{ReadsToken, checked_held, token_size};
+ghost use Rattle.sd_call_access.specs.Checks.{told};
+ghost use Rattle.sd_call_access.specs.TokenMemory.{ReadsToken, checked_held, token_size};
 
 use sd_call::Outcome;
-use sd_call_check::{
+use sd_call_access::{
     AskInput, Request, VerdictOutcome, check_with_token, read_token, token_held, told,
 };
 

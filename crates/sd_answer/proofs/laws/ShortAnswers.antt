@@ -13,19 +13,19 @@ use Rattle.sd_check.specs.declared.verdict.Verdict.TheVariants.{Denied, Granted}
 use Rattle.sd_inherit.proofs.laws.LimitLaws.{derived-limits}
 use Rattle.sd_inherit.specs.Derived.{derive_fault, derived}
 use Rattle.sd_inherit.specs.PlanLimits.{IsPlan}
-use Rattle.sd_inherit.specs.declared.derivation.DeriveFault.{DeriveFault}
+use Rattle.sd_faults.specs.declared.fault.DeriveFault.{DeriveFault}
 use Rattle.sd_inherit.specs.declared.plan.Plan.{Plan}
 use Rattle.sd_explain.proofs.laws.SizeLaws.{explain-length}
 use Rattle.sd_sddl_printer.proofs.laws.SizeLaws.{sddl-length}
 use Rattle.sd_answer.proofs.Base64Lemmas.{base64-short}
-use Rattle.sd_answer.proofs.FaultLemmas.{fault_text-short}
+use Rattle.sd_faults.proofs.laws.FaultTexts.{fault_text-short}
 use Rattle.sd_answer.proofs.LimitLemmas.{MeansLimits, meaning-limits}
 use Rattle.sd_answer.specs.Answer.{AnswersAreShort, LineOutcome, Meaning, act_outcome, answer, converted, form_text}
 use Rattle.sd_answer.specs.Answer.{meaning, naming_of, outcome_of_meaning, printed_size, unless_too_large, verdict_text}
-use Rattle.sd_answer.specs.Faults.{fault_text}
+use Rattle.sd_faults.specs.Faults.{fault_text}
 use Rattle.sd_answer.specs.Task.{ActLimits, TaskLimits}
-use Rattle.sd_answer.specs.declared.fault.LineFault.{LineFault}
-use Rattle.sd_answer.specs.declared.fault.LineFault.TheVariants.{Derive}
+use Rattle.sd_faults.specs.declared.line_fault.LineFault.{LineFault}
+use Rattle.sd_faults.specs.declared.line_fault.LineFault.TheVariants.{Derive}
 use Rattle.sd_answer.specs.declared.job.Act.{Act}
 use Rattle.sd_answer.specs.declared.job.Act.TheVariants.{Check, Convert, Explain}
 use Rattle.sd_answer.specs.declared.job.Act.TheVariants as act

@@ -7,7 +7,7 @@ use Rattle.sd_view.specs.Reading.{reading}
 use Rattle.sd_view.specs.WrittenForm.{IsWrittenForm}
 use Rattle.sd_sddl_reader.specs.SddlReading.{IsReading, ReadsSddl}
 use Rattle.sd_answer.specs.Answer.{or_byte_fault}
-use Rattle.sd_answer.specs.declared.fault.LineFault.{LineFault}
+use Rattle.sd_faults.specs.declared.line_fault.LineFault.{LineFault}
 use Rattle.sd_answer.specs.declared.job.Form.{Form}
 use Rattle.sd_answer.specs.declared.job.Form.TheVariants as form
 use Rattle.sd_answer.specs.declared.line.LineReader.{LineReader}

@@ -4,8 +4,8 @@ use Rattle.std.proofs.Common.{refl, sym, ap, ◌∙◌, arith, length-append}
 use Rattle.hex.specs.Hex.{decode_pairs, digit_or_error, hex_digit_value, ◌>>=◌}
 use Rattle.hex.specs.declared.error.FromHexError.{FromHexError}
 use Rattle.hex.proofs.HexLemmas.{decode_of-even, decode_pairs-ok}
-use Rattle.sd_buffer.specs.declared.buffer.TextFault.{TextFault}
-use Rattle.sd_buffer.specs.declared.buffer.TextFault.TheVariants.{HexDigit}
+use Rattle.sd_faults.specs.declared.fault.TextFault.{TextFault}
+use Rattle.sd_faults.specs.declared.fault.TextFault.TheVariants.{HexDigit}
 use Rattle.sd_buffer.specs.Text.{hex_spells, or_digit_fault}
 use Rattle.sd_buffer.proofs.Decoded.{spells-even}
 

@@ -6,8 +6,8 @@ use Rattle.base64.specs.GeneralPurpose.{IsBytes, decode_of, encode_of, engine_sy
 use Rattle.base64.specs.Rfc4648.{encode_symbols, padding_len}
 use Rattle.base64.specs.declared.decode.DecodeError.{DecodeError}
 use Rattle.base64.proofs.EngineFacts.{decode_of_iff}
-use Rattle.sd_buffer.specs.declared.buffer.TextFault.{TextFault}
-use Rattle.sd_buffer.specs.declared.buffer.TextFault.TheVariants.{Base64}
+use Rattle.sd_faults.specs.declared.fault.TextFault.{TextFault}
+use Rattle.sd_faults.specs.declared.fault.TextFault.TheVariants.{Base64}
 use Rattle.sd_buffer.specs.Text.{IsOneEncoding, base64_spells, or_base64_fault}
 
 pub base64-ok : (text bytes : List ℕ) → decode_of standard text ≡ Ok bytes → base64_spells text ≡ Ok bytes

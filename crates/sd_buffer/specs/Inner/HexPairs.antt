@@ -2,8 +2,8 @@
 use Rattle.std.specs.Prelude.{◌≡◌, ℕ, ◌%◌, Bool, true, false, List, ◌++◌, length, Result, Ok, Err}
 use Rattle.std.specs.Option.{option_to_list}
 use Rattle.sd_buffer.specs.Text.{hex_spells}
-use Rattle.sd_buffer.specs.declared.buffer.TextFault.{TextFault}
-use Rattle.sd_buffer.specs.declared.buffer.TextFault.TheVariants.{HexDigit}
+use Rattle.sd_faults.specs.declared.fault.TextFault.{TextFault}
+use Rattle.sd_faults.specs.declared.fault.TextFault.TheVariants.{HexDigit}
 use Rattle.sd_buffer.specs.declared.hex_reader.HexReader.{HexReader}
 
 -- what whole pairs spell: the bytes in the buffer, unless one of their characters is no digit

@@ -29,7 +29,7 @@ use Rattle.sd_inherit.specs.Derived.{is_protected, is_too_large, new_aces, new_d
 use Rattle.sd_inherit.specs.Derived.{parents_acl, sacl_beside}
 use Rattle.sd_inherit.specs.Taken.{handed_on, is_inherit_only, is_inherited, own_ace, taken, taken_for}
 use Rattle.sd_inherit.specs.PlanLimits.{IsPlan}
-use Rattle.sd_inherit.specs.declared.derivation.DeriveFault.{DeriveFault}
+use Rattle.sd_faults.specs.declared.fault.DeriveFault.{DeriveFault}
 use Rattle.sd_inherit.specs.declared.plan.Plan.{Plan}
 use Rattle.sd_inherit.specs.declared.plan.Target.{Target}
 use Rattle.sd_inherit.specs.declared.plan.Target.TheVariants.{Container, File}

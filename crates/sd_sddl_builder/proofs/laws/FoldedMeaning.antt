@@ -27,7 +27,7 @@ use Rattle.sd_sddl_builder.specs.Meaning.{acl_part_reads, field_reads, first_lar
 use Rattle.sd_sddl_builder.specs.Meaning.{sid_field_reads, sid_said, unless_large, picked_acl, picked_flags, picked_sid}
 use Rattle.sd_parts.specs.Control.{bit_if}
 use Rattle.sd_parts.specs.declared.control.AclFlags.{AclFlags}
-use Rattle.sd_sddl_builder.specs.declared.fault.SddlFault.TheVariants as fault
+use Rattle.sd_faults.specs.declared.fault.SddlFault.TheVariants as fault
 use Rattle.sd_sddl_builder.specs.declared.slot.Head.{Head}
 use Rattle.sd_sddl_builder.specs.declared.slot.Head.TheVariants as head
 use Rattle.sd_parts.specs.declared.part.SidPart.TheVariants as sid_part

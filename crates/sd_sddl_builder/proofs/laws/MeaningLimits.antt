@@ -4,7 +4,7 @@ use Rattle.std.specs.Prelude.{IfSome}
 use Rattle.sd_sid.specs.Sid.{IsSid, SecurityId}
 use Rattle.sd_view.specs.Descriptor.{Descriptor, IsDescriptor}
 use Rattle.sd_sddl_builder.specs.Meaning.{means}
-use Rattle.sd_sddl_builder.specs.declared.fault.SddlFault.{SddlFault}
+use Rattle.sd_faults.specs.declared.fault.SddlFault.{SddlFault}
 use Rattle.sd_sddl_builder.proofs.MeansLimits.{line-limits}
 
 pub means-limits : (text : List ℕ) (domain : Option SecurityId) (d : Descriptor) → IfSome domain IsSid

@@ -11,7 +11,7 @@ use Rattle.sd_sddl_builder.specs.FieldReading.{HasReadFields, Lacks}
 use Rattle.sd_sddl_builder.specs.FoldedReading.{FieldsRead, reads_as}
 use Rattle.sd_text.specs.Chains.{unless}
 use Rattle.sd_sddl_reader.specs.Inner.Progress.{Seen, rest_answer, is_inside, is_seen}
-use Rattle.sd_sddl_builder.specs.declared.fault.SddlFault.{SddlFault}
+use Rattle.sd_faults.specs.declared.fault.SddlFault.{SddlFault}
 use Rattle.sd_sddl_builder.specs.declared.slot.Head.{Head}
 use Rattle.sd_sddl_builder.specs.declared.slot.Head.TheVariants as head
 use Rattle.sd_sddl_reader.specs.declared.line.State.{State}

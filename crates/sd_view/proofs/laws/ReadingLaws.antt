@@ -4,7 +4,7 @@ use Rattle.sd_sid.proofs.laws.Numbers.{AreBytes}
 use Rattle.sd_text.specs.Chains.{unless}
 use Rattle.sd_view.specs.Descriptor.{Descriptor, IsDescriptor, Shows}
 use Rattle.sd_view.specs.Reading.{fault, reading, shown}
-use Rattle.sd_view.specs.declared.fault.SdFault.{SdFault}
+use Rattle.sd_faults.specs.declared.fault.SdFault.{SdFault}
 use Rattle.sd_view.proofs.ReadLaws.{fault-shows, reading-ok, shows-fault}
 
 -- what shows a descriptor reads as it

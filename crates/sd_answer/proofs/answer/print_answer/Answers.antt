@@ -2,7 +2,7 @@ use Rattle.std.proofs.Common.{Some, None, Ok, Err, ap}
 use Rattle.sd_answer.proofs.MeaningLemmas.{Compares-none, answered, compared, meaning-over, meaning-text}
 use Rattle.sd_answer.proofs.answer.print_answer.Goals as goal
 use Rattle.sd_answer.specs.Answer.{meaning}
-use Rattle.sd_answer.specs.declared.fault.LineFault.TheVariants.{TooLong}
+use Rattle.sd_faults.specs.declared.line_fault.LineFault.TheVariants.{TooLong}
 
 pub returns-then-is_too_long-clause-printed : goal.returns-then-is_too_long-clause-printed
 returns-then-is_too_long-clause-printed g c = λ text h.

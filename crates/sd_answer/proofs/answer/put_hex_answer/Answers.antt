@@ -4,7 +4,7 @@ use Rattle.sd_answer.proofs.answer.put_hex_answer.Goals as goal
 use Rattle.sd_answer.specs.Answer.{act_outcome, form_text, meaning}
 use Rattle.sd_answer.specs.LineInHand.{PutsAnswer}
 use Rattle.sd_answer.specs.declared.job.Act.{Act}
-use Rattle.sd_answer.specs.declared.fault.LineFault.TheVariants.{TooLong}
+use Rattle.sd_faults.specs.declared.line_fault.LineFault.TheVariants.{TooLong}
 
 pub returns-then-is_too_long : goal.returns-then-is_too_long
 returns-then-is_too_long g c = λ holder text h.

@@ -2,7 +2,7 @@ use Rattle.std.proofs.Common.{◌≡◌, true, false, Option, Some, None, Result
 use Rattle.std.specs.Option.{is_some}
 use Rattle.sd_text.specs.Chains.{and_then, unless}
 use Rattle.sd_sddl_builder.specs.FoldedReading.{FieldsRead}
-use Rattle.sd_sddl_builder.specs.declared.fault.SddlFault.{SddlFault}
+use Rattle.sd_faults.specs.declared.fault.SddlFault.{SddlFault}
 use Rattle.sd_sddl_reader.proofs.reader.SddlReader.end_field.Goals as goal
 use Rattle.sd_sddl_reader.proofs.reader.SddlReader.end_field.Goals.{then-is_none, else-is_none}
 

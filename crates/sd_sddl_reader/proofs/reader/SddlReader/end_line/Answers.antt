@@ -1,7 +1,7 @@
 use Rattle.std.proofs.Common.{subst, ◌≡◌, true, false, [], ap, sym, ◌∙◌, Ok, Err}
 use Rattle.std.specs.Prelude.{Result}
-use Rattle.sd_sddl_builder.specs.declared.fault.SddlFault.{SddlFault}
-use Rattle.sd_sddl_builder.specs.declared.fault.SddlFault.TheVariants as fault
+use Rattle.sd_faults.specs.declared.fault.SddlFault.{SddlFault}
+use Rattle.sd_faults.specs.declared.fault.SddlFault.TheVariants as fault
 use Rattle.sd_sddl_reader.specs.declared.reader.SddlReader.{SddlReader}
 use Rattle.sd_sddl_builder.specs.FoldedReading.{FieldsRead, finished}
 use Rattle.sd_text.specs.Chains.{unless}

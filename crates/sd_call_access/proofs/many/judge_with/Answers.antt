@@ -1,0 +1,8 @@
+use Rattle.sd_call_access.proofs.ManyLemmas.{answered}
+use Rattle.sd_call_access.proofs.many.judge_with.Goals as goal
+
+pub returns-in-Ok-asker_in : goal.returns-in-Ok-asker_in
+returns-in-Ok-asker_in c =
+    rw c.in-Ok.is
+    (answered _ _ _ _ _ _ _ _ _ _ _ (rw c.in-Ok-asker_in.is at c.asker_in.ensures.asker) c.done.ensures
+    c.judge.ensures.verdicts)

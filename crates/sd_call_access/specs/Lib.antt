@@ -1,0 +1,6 @@
+pub mod Checks
+pub mod Derivations
+pub mod Many
+pub mod OriginsTold
+pub mod Reasons
+pub mod TokenMemory

@@ -1,0 +1,31 @@
+//! The calls of the library for C that check access, and derive descriptors.
+#![tactic(auto)]
+
+mod access;
+mod asker;
+mod bytes;
+mod derivations;
+mod many;
+mod origins;
+mod reason;
+mod request;
+mod token;
+mod token_memory;
+mod verdict;
+mod with_token;
+
+pub use access::{check_access, check_without_token, verdict_on};
+pub use asker::{AskInput, AskerInput, asker_in, check_asker};
+pub use bytes::Bytes;
+pub use derivations::derive_new;
+pub use many::check_many;
+pub use origins::{MOST_DERIVED_ACES, OriginsOutcome, derive_origins};
+pub use reason::{
+    Asker, ReasonTold, explain_access, explain_with_token, explain_without_token, request_of,
+    tell_none,
+};
+pub use request::Request;
+pub use sd_inherit::AceOrigin;
+pub use token_memory::{read_token, token_held};
+pub use verdict::{VerdictOutcome, told, untold};
+pub use with_token::check_with_token;

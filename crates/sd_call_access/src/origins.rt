@@ -1,0 +1,101 @@
+//! The call that says where the ACEs of a new descriptor come from.
+
+ghost use Rattle.std.specs.Prelude.{◌≡◌, ◌≤◌};
+ghost use Rattle.sd_call_access.specs.Derivations.{input_in};
+ghost use Rattle.sd_call_access.specs.OriginsTold.{TellsOrigins, WritesOrigins, no_aces, nothing_derived, refused};
+ghost use Rattle.sd_call_access.specs.OriginsTold.{with_counts};
+ghost use Rattle.sd_call_access.specs.declared.origins.TheConstants.{MOST_DERIVED_ACES};
+
+use crate::derivations::{DerivationInput, input_in};
+use sd_call::{CallFault, Outcome, done, failed, too_small};
+use sd_faults::LineFault;
+use sd_inherit::{AceCounts, AceOrigin, OriginFault, origins};
+
+/// No ACL of a new descriptor has more ACEs: each has at least 16 bytes, and an ACL at most 65,535.
+pub const MOST_DERIVED_ACES: usize = 4095;
+
+/// How many ACEs of a new descriptor have an origin: `struct sdtool_origins` of the header.
+#[repr(C)]
+#[derive(Clone, Copy)]
+pub struct OriginsOutcome {
+    /// 0, or the number of the fault.
+    pub fault: u32,
+    /// The part that the fault names, or 0.
+    pub part: u32,
+    /// The second part that the fault names, or 0.
+    pub other_part: u32,
+    /// With fault 70 the number of the argument that is wrong, or 0.
+    pub argument: u32,
+    /// Which entry of that argument is wrong, from 0 on, where it is a list; or 0.
+    pub entry: usize,
+    /// How many origins the SACL has, or needs room for.
+    pub sacl_count: usize,
+    /// How many origins the DACL has, or needs room for.
+    pub dacl_count: usize,
+}
+
+/// Says of each ACE of the descriptor of a new object which ACE it was made of.
+pub fn derive_origins(
+    parent: &[u8],
+    creator: &[u8],
+    owner: &[u8],
+    group: &[u8],
+    kind: u32,
+    mapping: u32,
+    sacl: &mut [AceOrigin],
+    dacl: &mut [AceOrigin],
+) -> OriginsOutcome
+    ensures origins { TellsOrigins (input_in parent.now creator.now owner.now group.now kind mapping)
+        sacl.old sacl.new dacl.old dacl.new result }
+    // So much room suffices for any arguments.
+    ensures most { (result.sacl_count ≤ MOST_DERIVED_ACES) × (result.dacl_count ≤ MOST_DERIVED_ACES) }
+{
+    match input_in(parent, creator, owner, group, kind, mapping) {
+        Ok(input) => write_origins(&input, sacl, dacl),
+        Err(fault) => nothing_derived(fault),
+    }
+}
+
+fn write_origins(
+    input: &DerivationInput<'_>,
+    sacl: &mut [AceOrigin],
+    dacl: &mut [AceOrigin],
+) -> OriginsOutcome
+    ensures origins { WritesOrigins input.now sacl.old sacl.new dacl.old dacl.new result }
+    ensures most { (result.sacl_count ≤ MOST_DERIVED_ACES) × (result.dacl_count ≤ MOST_DERIVED_ACES) }
+{
+    let creator = input.creator.as_ref();
+    match origins(&input.parent, creator, &input.plan, sacl, dacl) {
+        Ok(counts) => with_counts(done(0), counts),
+        Err(fault) => refused(fault),
+    }
+}
+
+fn refused(fault: OriginFault) -> OriginsOutcome
+    ensures { result ≡ refused fault }
+{
+    match fault {
+        OriginFault::Derive(fault) => nothing_derived(CallFault::Line(LineFault::Derive(fault))),
+        OriginFault::TooSmall(counts) => with_counts(too_small(0), counts),
+    }
+}
+
+fn nothing_derived(fault: CallFault) -> OriginsOutcome
+    ensures { result ≡ nothing_derived fault }
+{
+    with_counts(failed(fault), AceCounts { sacl: 0, dacl: 0 })
+}
+
+fn with_counts(outcome: Outcome, counts: AceCounts) -> OriginsOutcome
+    ensures { result ≡ with_counts outcome counts }
+{
+    OriginsOutcome {
+        fault: outcome.fault.value(),
+        part: outcome.part,
+        other_part: outcome.other_part,
+        argument: outcome.argument,
+        entry: outcome.entry,
+        sacl_count: counts.sacl,
+        dacl_count: counts.dacl,
+    }
+}

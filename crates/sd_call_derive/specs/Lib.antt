@@ -1,2 +1,0 @@
-pub mod Derivations
-pub mod OriginsTold

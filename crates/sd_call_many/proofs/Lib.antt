@@ -1,2 +1,0 @@
-pub mod ManyLemmas
-mod Rows

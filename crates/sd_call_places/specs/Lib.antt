@@ -1,3 +1,0 @@
-pub mod Described
-pub mod Meanings
-pub mod PlaceTold
