@@ -135,7 +135,7 @@ install: program library
 	install -m 644 packaging/completions/sdtool.bash '$(DESTDIR)$(PREFIX)/share/$(BASH_COMPLETION)'
 	install -m 644 packaging/completions/_sdtool '$(DESTDIR)$(PREFIX)/share/$(ZSH_COMPLETION)'
 	install -m 644 packaging/completions/sdtool.fish '$(DESTDIR)$(PREFIX)/share/$(FISH_COMPLETION)'
-	install -d '$(DESTDIR)$(PREFIX)/include' '$(DESTDIR)$(LIBDIR)/pkgconfig'
+	install -d '$(DESTDIR)$(PREFIX)/include' '$(DESTDIR)$(LIBDIR)/pkgconfig' '$(DESTDIR)$(LIBDIR)/cmake/sdtool'
 	install -m 644 include/sdtool.h '$(DESTDIR)$(PREFIX)/include/sdtool.h'
 	install -d '$(DESTDIR)$(PREFIX)/share/man/man3'
 	packaging/man_pages.py '$(DESTDIR)$(PREFIX)/share/man/man3'
@@ -146,6 +146,10 @@ install: program library
 	sed -e 's|@PREFIX@|$(PREFIX)|' -e 's|@LIBDIR@|$(LIBDIR:$(PREFIX)/%=$${prefix}/%)|' -e 's|@VERSION@|$(VERSION)|' \
 	    packaging/sdtool.pc.in > '$(DESTDIR)$(LIBDIR)/pkgconfig/sdtool.pc'
 	chmod 644 '$(DESTDIR)$(LIBDIR)/pkgconfig/sdtool.pc'
+	install -m 644 packaging/sdtool-config.cmake '$(DESTDIR)$(LIBDIR)/cmake/sdtool'
+	sed 's|@VERSION@|$(VERSION)|' packaging/sdtool-config-version.cmake.in \
+	    > '$(DESTDIR)$(LIBDIR)/cmake/sdtool/sdtool-config-version.cmake'
+	chmod 644 '$(DESTDIR)$(LIBDIR)/cmake/sdtool/sdtool-config-version.cmake'
 
 uninstall:
 	rm -f '$(DESTDIR)$(PREFIX)/bin/sdtool' '$(DESTDIR)$(PREFIX)/share/man/man1/sdtool.1'
@@ -153,7 +157,7 @@ uninstall:
 	rm -f '$(DESTDIR)$(PREFIX)/include/sdtool.h' '$(DESTDIR)$(LIBDIR)/pkgconfig/sdtool.pc'
 	rm -f $(foreach file,libsdtool.a libsdtool.so $(SONAME) libsdtool.so.$(VERSION),'$(DESTDIR)$(LIBDIR)/$(file)')
 	rm -f $(foreach file,$(COMPLETIONS),'$(DESTDIR)$(PREFIX)/share/$(file)')
-	rm -rf '$(DESTDIR)$(DOCUMENTS)'
+	rm -rf '$(DESTDIR)$(DOCUMENTS)' '$(DESTDIR)$(LIBDIR)/cmake/sdtool'
 
 # Each system whose tools are here.
 systems: $(foreach system,$(SYSTEMS),$(if $(call missing_tools,$(system)),,$(system)))

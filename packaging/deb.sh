@@ -77,7 +77,7 @@ gzip -9n "$program/usr/share/man/man1/sdtool.1" "$program"/usr/share/man/man3/*.
 # Debian's zsh looks for the completions of packages in a folder of its own.
 mv "$program/usr/share/zsh/site-functions" "$program/usr/share/zsh/vendor-completions"
 move "$program" "$library" "$libraries"
-move "$library" "$development" "$libraries"/{libsdtool.a,libsdtool.so,pkgconfig}
+move "$library" "$development" "$libraries"/{libsdtool.a,libsdtool.so,pkgconfig,cmake}
 move "$program" "$development" usr/include usr/share/man/man3
 rmdir "$program/usr/lib"
 install -d "$modules"
@@ -86,6 +86,9 @@ extension=$modules/sdtool/_native.abi3.so
 # Where it cannot be compiled, a line says why, and the module's calls go through ctypes.
 packaging/extension.py "linux-$(dpkg-architecture -a "$architecture" -qDEB_HOST_GNU_CPU 2> /dev/null)" "$extension" || extension=
 rm "$modules/sdtool/_native.c"
+# Other Python packages ask here which version is there.
+install -d "$modules/sdtool-$version.dist-info"
+(cd python && python3 -B -c 'import build_wheel; print(end=build_wheel.METADATA)') > "$modules/sdtool-$version.dist-info/METADATA"
 [[ -z $extension ]] || chmod 644 "$extension"
 
 audit=$work/sdtool-audit
@@ -96,10 +99,11 @@ install -d "$audit/usr/bin" "$audit/usr/share/man/man1"
 install -m 755 packaging/sdtool-audit "$audit/usr/bin"
 gzip -9n < docs/sdtool-audit.1 > "$audit/usr/share/man/man1/sdtool-audit.1.gz"
 
-# What other packages that link to the library depend on, and that the system finds the library.
+# What other packages that link to the library depend on, by its names too, and that the system finds the library.
 install -d "$library/DEBIAN"
 soname=$(basename "$library/$libraries"/libsdtool.so.?)
 echo "libsdtool ${soname##*.} libsdtool0 (>= $version)" > "$library/DEBIAN/shlibs"
+dpkg-gensymbols -q -a"$architecture" -plibsdtool0 -v"$version" -P"$library" -O"$library/DEBIAN/symbols"
 echo 'activate-noawait ldconfig' > "$library/DEBIAN/triggers"
 
 mkdir -p "$packages"

@@ -14,11 +14,12 @@ dist=$PWD/out/dist
 work=$(mktemp -d)
 trap 'rm -rf "$work"' EXIT
 
-# What each archive has besides program and library: the man page as text, the licence, and a page on what is in it.
+# What each archive has besides program and library: the man page as text, the licences, and a page on what is in it.
 add_documents() {
     local system=${2%-*}
     MANWIDTH=100 man --local-file docs/sdtool.1 | col -bx > "$1/sdtool.txt"
     install -m 644 LICENSE "$1/LICENSE.txt"
+    install -m 644 packaging/copyright "$1/COPYRIGHT.txt"
     install -m 644 "packaging/readme/$system.txt" "$1/README.txt"
     [[ ! -f out/sdtool.html ]] || install -m 644 out/sdtool.html "$1/sdtool.html"
 }

@@ -32,7 +32,7 @@ compile_ir() {
 link_libraries() {
     local tools=$1
     "${tools}gcc" -shared -Wl,-soname,"libsdtool.so.$major" -Wl,--version-script=packaging/library.map -Wl,--no-undefined \
-        -Wl,--whole-archive "$compiled/$system/libsdtool_c.a" -Wl,--no-whole-archive "$work/heap.o" "$work/libc_heap.o" \
+        -Wl,-z,relro,-z,now -Wl,--whole-archive "$compiled/$system/libsdtool_c.a" -Wl,--no-whole-archive "$work/heap.o" "$work/libc_heap.o" \
         -o "$work/libsdtool.so.$major"
     "${tools}strip" --strip-unneeded "$work/libsdtool.so.$major"
     "${tools}ld" -r --whole-archive "$compiled/$system/libsdtool_c.a" "$work/heap.o" "$work/libc_heap.o" -o "$work/sdtool.o"

@@ -1,8 +1,8 @@
 """Tests that the library works where it is installed: by `make install`, from the archive of `make dist` and from
-Debian's packages. Each time a program in C and in C++ is built with the words that pkg-config gives, linked to the
-shared and to the static library, and run. Also tested: what `make uninstall` leaves, the library's man pages, the names
-and symbols of the shared library, lintian's opinion of the packages, and the Python module as pip installs it. Parts
-whose tools are missing are skipped.
+Debian's packages. Each time a program in C and in C++ is built with the words that pkg-config gives, and by CMake,
+linked to the shared and to the static library, and run. Also tested: what `make uninstall` leaves, the library's man
+pages, the names and symbols of the shared library, lintian's opinion of the packages, and the Python module as pip
+installs it. Parts whose tools are missing are skipped.
 """
 import os
 import pathlib
@@ -35,6 +35,21 @@ def version_of(path, pattern):
     return re.search(pattern, (TOP / path).read_text(encoding="utf-8"), re.M)[1]
 
 
+# A program for each library.
+PROJECT = """cmake_minimum_required(VERSION 3.13)
+project(installed C CXX)
+find_package(sdtool {version} EXACT REQUIRED)
+foreach(language c cxx)
+    foreach(library sdtool static)
+        set(name ${{language}}_${{library}})
+        configure_file({source} ${{name}}.${{language}} COPYONLY)
+        add_executable(${{name}} ${{CMAKE_CURRENT_BINARY_DIR}}/${{name}}.${{language}})
+        target_link_libraries(${{name}} sdtool::${{library}})
+    endforeach()
+endforeach()
+"""
+
+
 VERSION = version_of("packaging/control", r"^Version: (.*)$")
 HEADER = (TOP / "include/sdtool.h").read_text(encoding="utf-8")
 # The man pages of the library: one of each function, and one of all else.
@@ -43,9 +58,11 @@ PAGES = {"sdtool.h.3", *(f"{name}.3" for name in re.findall(r"\b(sdtool_\w+)\(",
 FILES_OF_PACKAGES = {
     "sdtool": {"sdtool", "sdtool.1.gz", "_sdtool", "sdtool.fish"},
     "libsdtool0": {f"libsdtool.so.{VERSION}", "libsdtool.so.0"},
-    "libsdtool-dev": {"sdtool.h", "libsdtool.a", "libsdtool.so", "sdtool.pc", *(f"{name}.gz" for name in PAGES)},
+    "libsdtool-dev": {"sdtool.h", "libsdtool.a", "libsdtool.so", "sdtool.pc", "sdtool-config.cmake",
+                      "sdtool-config-version.cmake", *(f"{name}.gz" for name in PAGES)},
     "python3-sdtool": {path.name for path in (TOP / "python/sdtool").rglob("*")
                        if path.is_file() and path.suffix not in (".c", ".so", ".pyc") and "audit" not in path.parts}
+    | {"METADATA"}
     | ({EXTENSION} if not extension.missing(f"linux-{os.uname().machine}") else set()),
     "sdtool-audit": {"sdtool-audit", "sdtool-audit.1.gz",
                      *(path.name for path in (TOP / "python/sdtool/audit").rglob("*.py")),
@@ -103,6 +120,23 @@ def test_programs(count, where, folder, found):
                 count.add(answer == (EXPECTED, 0), f"{name}: printed {answer}")
 
 
+def test_cmake(count, where, folder, tree):
+    """The same programs, by CMake, which finds the library below a folder."""
+    if not shutil.which("cmake"):
+        print(f"skipped: {where}: there is no cmake")
+        return
+    project, built = folder / "project", folder / "built"
+    project.mkdir()
+    source = PROJECT.format(version=VERSION, source=TOP / "tests/library/c/installed.c")
+    (project / "CMakeLists.txt").write_text(source, encoding="utf-8")
+    for words in (["-S", project, "-B", built, f"-DCMAKE_PREFIX_PATH={tree}"], ["--build", built]):
+        printed, status = ran(["cmake", *words])
+        count.add(status == 0, f"{where}: cmake: {printed}")
+    for name in ("c_sdtool", "c_static", "cxx_sdtool", "cxx_static"):
+        answer = ran([built / name], input=f"{SDDL}\nX:\n")
+        count.add(answer == (EXPECTED, 0), f"{where}, {name}: printed {answer}")
+
+
 def test_names(count, libraries):
     """The names of the shared library, and which library a program asks for."""
     real, soname, plain = (libraries / f"libsdtool.so.{VERSION}", libraries / "libsdtool.so.0",
@@ -112,6 +146,7 @@ def test_names(count, libraries):
     dynamic, _ = ran(["readelf", "-d", real])
     count.add(re.findall(r"\(SONAME\).*\[(.*)\]", dynamic) == ["libsdtool.so.0"], dynamic)
     count.add(re.findall(r"\(NEEDED\).*\[(.*)\]", dynamic) == ["libc.so.6"], dynamic)
+    count.add("BIND_NOW" in dynamic, dynamic)
     symbols, _ = ran(["nm", "-D", "--defined-only", real])
     names = [line.split()[-1] for line in symbols.splitlines() if " A " not in line]
     count.add(names and all(name.startswith("sdtool_") for name in names), symbols)
@@ -123,6 +158,7 @@ def test_install(count, folder):
     installed = pathlib.Path(f"{root}{PREFIX}")
     test_names(count, installed / "lib")
     test_programs(count, "make install", folder, found)
+    test_cmake(count, "make install", folder, installed)
     test_module(count, folder, found)
     test_pages(count, installed / "share/man/man3")
     make("uninstall", f"DESTDIR={root}", f"PREFIX={PREFIX}")
@@ -173,6 +209,7 @@ def test_archive(count, folder):
     count.add((printed, status) == ("", 0), f"the archive's checksums: {printed}")
     found = environment("", tree / "lib")
     test_programs(count, "make dist", folder, found)
+    test_cmake(count, "make dist", folder, tree)
 
 
 def test_packages(count, folder):
@@ -196,12 +233,24 @@ def test_packages(count, folder):
     count.add(answer == (f"{VERSION} {EXTENSION in FILES_OF_PACKAGES['python3-sdtool']}\n", 0),
               f"python3-sdtool: {answer}")
     test_programs(count, "make deb", folder, environment(root, libraries))
+    test_cmake(count, "make deb", folder, root / "usr")
+    test_metadata(count, root, packages)
     if shutil.which("lintian"):
         # It reads each man page, which takes long on a busy machine.
         printed, status = ran(["lintian", "--allow-root", "--fail-on", "error,warning", *packages], timeout=SECONDS)
         count.add(status == 0, f"lintian: {printed}")
     else:
         print("skipped: there is no lintian")
+
+
+def test_metadata(count, root, packages):
+    """What other packages ask: the version of the Python module, and since when the library has each name."""
+    code = "import importlib.metadata; print(importlib.metadata.version('sdtool'))"
+    answer = ran([sys.executable, "-c", code], env={**os.environ, "PYTHONPATH": str(next(root.rglob("dist-packages")))})
+    count.add(answer == (VERSION + "\n", 0), f"importlib.metadata: {answer}")
+    symbols, status = ran(["dpkg-deb", "--info", packages[1], "symbols"])
+    names = {line.split("@")[0].strip() for line in symbols.splitlines()[1:]}
+    count.add(status == 0 and set(re.findall(r"\bsdtool_\w+(?=\()", HEADER)) <= names, f"libsdtool0: {symbols}")
 
 
 def test_scripts(count):
