@@ -56,6 +56,27 @@ def is_sentence(text: str) -> bool:
             and text.count("\n") == 1)
 
 
+def test_mounted(place: Place) -> None:
+    """Who may only add to a mounted folder is medium, and the report in the page has its kind."""
+    added = bytes.fromhex("0100048014000000240000000000000034000000" "01020000000000052000000020020000"
+                          "01020000000000052000000020020000" "02001c0001000000" "0000140006001000"
+                          "010100000000000100000000")
+    try:
+        for name in ("drop", place.write("drop/a.txt", "")):
+            os.setxattr(place.folder / name, "user.sd", added)
+    except OSError as error:
+        print(f"skipped: no extended attributes here: {error}")
+        return
+    words = ("risks", "drop", "--attribute", "user.sd")
+    place.expect([(one["name"], [(found["severity"], found["rights"]) for found in one["findings"]])
+                  for one in place.objects(*words)],
+                 [("drop", [("medium", "add files, add subfolders")]),
+                  ("drop/a.txt", [("high", "write data, append data")])],
+                 "a mounted folder")
+    told = place.ask(*words, "--to", "html").stdout
+    place.expect([told.count(f'"{kind}",') for kind in ("folder", "file")], [1, 1], f"kinds of mounted files: {told}")
+
+
 def test_closed_streams(place: Place) -> None:
     """A stream that is closed: a sentence and the right status, whatever the command."""
     long = place.table(((f"file {at}", FOUND) for at in range(12_000)), "long.csv")
@@ -933,10 +954,11 @@ def test_said(place: Place) -> None:
                      f"{to}, of a class that isn't known")
 
 
-TESTS = (test_closed_streams, test_without_rich, test_words_come_first, test_files_named_twice, test_databases,
-         test_one_bad_source, test_comparing, test_groups, test_many_unknown, test_processes, test_severities,
-         test_trusted, test_words, test_abilities, test_spreadsheet, test_owners, test_markdown, test_long_names,
-         test_baselines, test_cut_lists, test_lost_objects, test_guesses, test_guesses_of_many, test_said)
+TESTS = (test_mounted, test_closed_streams, test_without_rich, test_words_come_first, test_files_named_twice,
+         test_databases, test_one_bad_source, test_comparing, test_groups, test_many_unknown, test_processes,
+         test_severities, test_trusted, test_words, test_abilities, test_spreadsheet, test_owners, test_markdown,
+         test_long_names, test_baselines, test_cut_lists, test_lost_objects, test_guesses, test_guesses_of_many,
+         test_said)
 
 
 def main(count: preload.Count) -> None:

@@ -15,7 +15,7 @@ getxattr: Any = getattr(os, "getxattr", None)  # Windows has none
 
 
 def _item_of_path(path: str, label: str, is_folder: bool, options: SourceOptions) -> Item:
-    kind = options.kind or "file"
+    kind = "folder" if is_folder and options.kind in (None, "file") else options.kind or "file"
     for name in options.attributes:
         try:
             data = getxattr(path, name, follow_symlinks=False)
