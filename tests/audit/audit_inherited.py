@@ -93,6 +93,7 @@ PAIRS = [
     ("of a unit that can't be read", None, OF_USER, f"D:AI{RESETS_INHERITED}", ["unknown"], ["reset-password"]),
     ("of a unit that isn't supported", "D:(XA;;FR;;;WD;(a == 1))", OF_USER, f"D:AI{RESETS_INHERITED}", ["unknown"],
      ["reset-password"]),
+    ("that counts nowhere", "D:", OF_USER, f"D:AI(OA;IOID;CR;{RESET};;{MALLORY})", [], []),
     ("not inherited", f"D:{RESETS}", OF_USER, f"D:{RESETS}", ["reset-password"], ["reset-password"]),
     ("denied by the unit before", f"D:{DENIED}{RESETS}", OF_USER, f"D:AI{DENIED_BELOW}{RESETS_INHERITED}", [], []),
     ("without the deny of the unit", f"D:{DENIED}{RESETS}", OF_USER, f"D:AI{RESETS_INHERITED}", [],

@@ -89,8 +89,8 @@ class Parents:
         seen: Dict[_Grant, _Reach] = {}
         for number, ace in enumerate(found.aces, 1):
             grant, reach = _grant_of(ace), _reach_of(ace)
-            if (ace.flags & INHERITED and ace.sid != sids.OWNER_RIGHTS
-                    and handed.reach.get(grant, _NOWHERE).covers(reach)
+            if (ace.flags & INHERITED and ace.sid != sids.OWNER_RIGHTS and grant in handed.reach
+                    and handed.reach[grant].covers(reach)
                     and all(seen.get(one, _NOWHERE).covers(where) for one, where in handed.denied[grant])):
                 numbers.append(number)
             seen[grant] = seen.get(grant, _NOWHERE).plus(reach)
