@@ -31,8 +31,10 @@ export const AROUND = [...ATTRIBUTES, ...HINTS].map(
 const OF_A_KEY = /\([A-Z]+;[A-Z]*;(?:[A-Z]{2})*?K[ARWX](?:[A-Z]{2})*;/;
 const OF_A_DIRECTORY =
     /\(O[ADU];|\([A-Z]+;[A-Z]*;\w*;[0-9a-f]{8}-[0-9a-f]{4}-|\([A-Z]+;[A-Z]*;\w*;;[0-9a-f]{8}-[0-9a-f]{4}-/i;
-// What sc sdshow prints: an empty line, and then SDDL without an owner whose rights are those of services.
-const OF_A_SERVICE = /^[ \t]*\r?\n\s*D:[A-Z]*\(A;[A-Z]*;(?:[A-Z]{2})*?LO(?:[A-Z]{2})*;/;
+// What sc sdshow prints: an empty line, and then SDDL without an owner whose rights are all pairs of letters of
+// services, of which LO is to interrogate one.
+const OF_A_SERVICE = /^[ \t]*\r?\n\s*D:(?=[^\n]*\(A;[A-Z]*;(?:[A-Z]{2})*?LO)/;
+const OTHER_RIGHTS = /\([AD];[^;]*;(?!(?:CC|DC|LC|SW|RP|WP|DT|LO|CR|SD|RC|WD|WO|GA|GR|GW|GX)*;)/;
 
 // What sc sdshow prints of scmanager: to connect, to list services and to query the lock go together.
 const OF_A_MANAGER = /^\s*D:[^\n]*;CCLCRP(?:WP)?RC;/;
@@ -42,7 +44,7 @@ export function kindIn(text) {
     if (OF_A_MANAGER.test(text)) {
         return "service-manager";
     }
-    if (OF_A_SERVICE.test(text)) {
+    if (OF_A_SERVICE.test(text) && !OTHER_RIGHTS.test(text)) {
         return "service";
     }
     const around = AROUND.find(({patterns}) => patterns.every((pattern) => pattern.test(text)));
@@ -98,7 +100,8 @@ export function kindsOf(aces) {
         const {mapping, inherits: by} = tableOf(kind);
         const isOdd = isDirectory(kind) || (inherits && !by) || (lacksSynchronize && (mapping[3] & SYNCHRONIZE) !== 0);
         const usual = masksOf(tableOf(kind));
-        return telling.filter(({mask}) => usual.includes(mask)).length - (isOdd ? telling.length + 1 : 0);
+        return telling.filter(({mask}) => usual.includes(mask)).length - (isOdd ? telling.length + 1 : 0) -
+            (isDirectory(kind) ? 1 / 2 : 0);
     };
     const all = Object.keys(KINDS).filter((kind) => !tableOf(kind).rule);
     const fitting = all.filter((kind) => hasRights(kind, aces)).map((kind) => ({kind, rank: rank(kind)}));

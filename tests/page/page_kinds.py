@@ -32,6 +32,7 @@ TEXTS = [
     ("name: Application\nchannelAccess: O:BAG:SYD:(A;;0xf0007;;;SY)", "log"),
     ("\r\n" + SERVICE, "service"),
     ("\n" + SERVICE, "service"),
+    ("\n" + SERVICE.replace("D:", "D:(D;;DCLCWPDTSD;;;IU)(A;;RPWP;;;WD)"), "service"),
     ("dn: CN=Ann,DC=example,DC=com\nnTSecurityDescriptor:: AQAEgBQA", "ds"),
     ("dn: CN=User,CN=Certificate Templates,CN=Public Key Services,CN=Services\nnTSecurityDescriptor:: AQAEgBQA", "ds"),
     ("dn: CN=SRV,DC=example,DC=com\nmsDS-AllowedToActOnBehalfOfOtherIdentity:: AQAEgBQA", "delegation"),
@@ -82,6 +83,7 @@ BARE: list = [
     ("G:SYD:(A;;LCSWSDRCWDWO;;;BA)(A;OIIO;RPWPSDRCWDWO;;;BA)(A;OIIO;GA;;;CO)(A;OIIO;GA;;;AC)(A;;SWRC;;;WD)(A;CIIO;GX;;"
      ";WD)(A;;SWRC;;;AC)(A;CIIO;GX;;;AC)", "printer", ["log", "com", "authority"]),
     (SERVICE, "service", ["key", "service-manager", "log", "printer", "com", "wmi", "authority"]),
+    (SERVICE.replace("(A;;CCLCSWRPWP", "(A;CI;CCLCSWRPWP"), "service", ["key", "log", "printer", "com", "wmi"]),
     ("O:BAG:BAD:(A;CI;CCDCLCSWRPWPRCWD;;;BA)(A;CI;CCDCRP;;;NS)(A;CI;CCDCRP;;;LS)(A;CI;CCDCRP;;;AU)", "wmi",
      ["log", "printer", "com", "authority"]),
     ("O:BAG:SYD:(A;CI;0xf003f;;;BA)(A;CI;0x20019;;;BU)", "key", ["log", "printer", "com", "authority"]),
