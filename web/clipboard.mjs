@@ -10,7 +10,7 @@ import {DESCRIPTORS} from "./windows.mjs";
 // of what was found: a search that began at each quotation mark would take minutes for a hostile text of 1 MB.
 const REG_VALUE = /hex(?<=(?:(@|"[^"]*")\s*=\s*)?hex)(?:\([0-9a-f]+\))?:/gi;
 const REG_BINARY = /REG_BINARY(?<=(\S*)[ \t]+REG_BINARY)[ \t]+(?=[0-9a-f])/gi;
-const ATTRIBUTE = /^([A-Za-z][\w;-]*)::/;
+const ATTRIBUTE = /^([A-Za-z][\w-]*)(?:;[\w;=*-]*)?(::?) */;
 const BEFORE = "(^|[\\s\"',;=:>\\t|`\u201c\u201e\u2018\u00ab])"; // what may come before a descriptor
 const SDDL_START = new RegExp(
     BEFORE + "(?=[OG]:\\s*(?:S-1-|[A-Za-z]{2})|[DS]:\\s*(?:P|AR|AI|NO_ACCESS|\\(|[OGDS]:|$|\"))",
@@ -54,48 +54,67 @@ function valueOfEntry(line, pattern) {
     }
 }
 
-// Attributes with a descriptor beside that of the object.
-const BESIDE = new Set(Object.entries(DESCRIPTORS).filter(([, kind]) => kind).map(([name]) => name.toLowerCase()));
-const isBeside = (name) => BESIDE.has(name.toLowerCase());
+// The kinds of attributes with a descriptor beside that of the object.
+const BESIDE = new Map(Object.entries(DESCRIPTORS).map(([name, kind]) => [name.toLowerCase(), kind]));
+const OF_THE_OBJECT = "ntsecuritydescriptor";
+const HEAD = 20; // bytes of a descriptor
 
 const nameOfEntry = (line) => valueOfEntry(line, /^dn(::?)/i);
 
-// The classes of each entry of LDIF, by its name. Of entries with the same name none are known.
-function classesIn(text) {
-    const found = new Map();
-    let classes = [];
-    const isLdif = /^dn:/im.test(text);
-    for (const line of isLdif ? unfolded(text).split(/\r?\n/) : []) {
-        const name = nameOfEntry(line);
-        if (name !== undefined) {
-            classes = [];
-            found.set(name, found.has(name) ? [] : classes);
-        }
-        const one = valueOfEntry(line, /^objectClass(::?)/i);
-        classes.push(...(one ? [one] : []));
+// Whether a text is base64 of what begins as a descriptor does: its revision, the bit for one block, and a null.
+function looksLikeBytes(text) {
+    if (!/^A[Q-Za-f][A-Za-z0-9+/]{26}/.test(text)) {
+        return false;
     }
-    return found;
+    const head = atob(text.slice(0, 28)).slice(0, HEAD);
+    return (head.charCodeAt(3) & 0x80) !== 0 && head.includes("\0");
 }
 
-// Whether an attribute with this name has a descriptor in base64.
-const hasDescriptor = (name) => isBeside(name) || name === "ntsecuritydescriptor" ||
-    (name.startsWith("ms") && name.endsWith("securitydescriptor")) || name.includes("sddl") || name.endsWith("sd");
+const LOOKS_LIKE_SDDL = /^(?:[OG]:[A-Z0-9-]+)*[DS]:[A-Z_]*\(/i;
 
+// The descriptor that a line of an entry has, or null: that of the object, or one of another attribute. Where nothing
+// says what its rights mean the kind is empty.
+function ofAttribute(line) {
+    const [front, attribute, colons] = ATTRIBUTE.exec(line) ?? [];
+    if (!front) {
+        return null;
+    }
+    const name = attribute.toLowerCase();
+    const kind = name === OF_THE_OBJECT ? "ds" : BESIDE.get(name);
+    const value = line.slice(front.length).trim();
+    if (kind === undefined && !(colons === "::" ? looksLikeBytes(value) : LOOKS_LIKE_SDDL.test(value))) {
+        return null;
+    }
+    return {front, attribute, kind: kind ?? "", form: colons === "::" ? "base64" : "sddl", line: value};
+}
+
+// The descriptors of entries of LDIF, each with the classes of its entry and the kind that its attribute tells.
 function ofLdif(text) {
     const found = [];
     const folds = /\n[ \t]/.test(text) ? [{what: "folds"}] : [];
-    let [name, others] = ["", []];
+    let [name, classes, made, others] = [undefined, [], [], []];
     for (const line of unfolded(text).split(/\r?\n/)) {
-        const [front, attribute] = ATTRIBUTE.exec(line) ?? [];
-        name = nameOfEntry(line) ?? name;
-        if (attribute && hasDescriptor(attribute.toLowerCase())) {
-            const dropped = [...leftOut("before", [...others, attribute + "::"].join(" ")), ...folds];
-            const own = isBeside(attribute) ? `${name}: ${attribute}` : name;
-            found.push({name: own, form: "base64", line: line.slice(front.length).trim(), dropped});
-            others = [];
-        } else {
+        const named = nameOfEntry(line);
+        [name, classes, made] = named === undefined ? [name, classes, made] : [named, [], []];
+        classes.push(...[valueOfEntry(line, /^objectClass(::?)/i)].filter(Boolean));
+        made.push(...[valueOfEntry(line, /^lDAPDisplayName(::?)/i)].filter(Boolean)); // of a class, its objects'
+        const has = ofAttribute(line);
+        if (!has) {
             others.push(line);
+            continue;
         }
+        const {front, attribute, kind, ...own} = has;
+        const isOwn = attribute.toLowerCase() === OF_THE_OBJECT;
+        found.push({
+            name: isOwn ? name ?? "" : [name, attribute].filter(Boolean).join(": "),
+            ...own,
+            ...(name === undefined ? {} : {kind}),
+            classes: isOwn    ? classes :
+                kind === "ds" ? made :
+                                NONE,
+            dropped: [...leftOut("before", [...others, front.trim()].join(" ")), ...folds]
+        });
+        others = [];
     }
     found.at(-1)?.dropped.push(...leftOut("after", others.join(" ")));
     return found;
@@ -252,8 +271,8 @@ function ofSddl(text) {
         }
         // icacls /save writes the name of the object in a line of its own.
         const path = pathIn(others);
-        one.name = isBeside(one.name) ? [path, one.name].filter(Boolean).join(": ") :
-                                        path ?? (one.name || (others.at(-1) ?? ""));
+        one.name = BESIDE.has(one.name.toLowerCase()) ? [path, one.name].filter(Boolean).join(": ") :
+                                                        path ?? (one.name || (others.at(-1) ?? ""));
         one.dropped.unshift(...leftOut("before", others.join(" ")));
         others = [];
         found.push(one);
@@ -318,7 +337,7 @@ function asChosen(text, form) {
 
 function guessed(text) {
     const plain = text.trim();
-    const entries = plain.includes(":: ") && /^[A-Za-z][\w;-]*:: /m.test(plain) ? ofLdif(plain) : [];
+    const entries = /^(?:dn:|[A-Za-z][\w;-]*:: )/im.test(plain) ? ofLdif(plain) : [];
     if (entries.length) {
         return entries;
     }
@@ -339,13 +358,13 @@ function guessed(text) {
     if (looksLikeBase64(plain)) {
         return ofBase64(plain);
     }
-    const found = ofSddl(/^dn::? /im.test(plain) ? unfolded(plain) : plain);
+    const found = ofSddl(/^dn:/im.test(plain) ? unfolded(plain) : plain);
     const listing = found.length ? null : listingIn(plain);
     return listing ? [{...listing, form: "sddl", dropped: [{what: "listing"}]}] : found;
 }
 
-// The descriptors in a text, at least one: {name, classes, isEntry, form, line, dropped}. Of a text in which none is
-// found the whole is taken as SDDL, so that the library says what is wrong with it.
+// The descriptors in a text, at least one: {name, classes, kind, form, line, dropped}. Of a text in which none is found
+// the whole is taken as SDDL, so that the library says what is wrong with it.
 export function descriptorsIn(text, form) {
     const bare = text.replace(/^\uFEFF/, "").replace(/\0/g, "");
     // A text of null characters is no empty descriptor: it stays, and the library refuses it.
@@ -357,9 +376,8 @@ export function descriptorsIn(text, form) {
     const found = form === "auto" ? guessed(given) : asChosen(given, form);
     const all = found.length ? found : [{name: "", form: "sddl", line: linesOf(given).join(" "), dropped: []}];
     const other = found.length ? null : kindOfText(given);
-    const classes = classesIn(given);
     return all.map((one) => {
         one.dropped.unshift(...lost);
-        return Object.assign(one, {classes: classes.get(one.name) ?? NONE, isEntry: classes.has(one.name), other});
+        return {classes: NONE, ...one, other};
     });
 }

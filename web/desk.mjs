@@ -103,7 +103,7 @@ function read(library, {text, form, chosen}, domain) {
     const about = {
         found: found.length,
         names: found.slice(0, 1000).map(({name}) => name),
-        entry: {name: one.name, classes: one.classes, isEntry: one.isEntry},
+        entry: {name: one.name, classes: one.classes, kind: one.kind},
         chosen: Math.min(chosen ?? 0, found.length - 1),
         form: one.form,
         line: one.line,
@@ -168,7 +168,10 @@ function kindOf({kind, isKindChosen, text}, {found, names, chosen, dropped, entr
     if (isKindChosen || dropped.some(({what}) => what === "listing")) {
         return {kind: isKindChosen ? kind : "folder", isKindSure: true};
     }
-    const told = entry.isEntry ? "ds" : kindTold((found > 1 && names[chosen]) || "") ?? kindTold(text);
+    if (entry.kind === "") {
+        return {kind: "folder", isKindOpen: true, isKindSure: false};
+    }
+    const told = entry.kind ?? kindTold((found > 1 && names[chosen]) || "") ?? kindTold(text);
     const byRights = told ?? kindByRights(acesIn(model));
     return {kind: byRights ?? "folder", isKindOpen: !byRights, isKindSure: (told ?? "folder") !== "folder"};
 }

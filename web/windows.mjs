@@ -973,7 +973,7 @@ export const HARMLESS = [
     "06bd3202-df3e-11d1-9c86-006008764d0e",
 ];
 export const DESCRIPTORS = {
-    "fRSRootSecurity": "folder", "msDFS-LinkSecurityDescriptorv2": "folder",
+    "defaultSecurityDescriptor": "ds", "fRSRootSecurity": "folder", "msDFS-LinkSecurityDescriptorv2": "folder",
     "msDS-AllowedToActOnBehalfOfOtherIdentity": "delegation", "msDS-GroupMSAMembership": "managed-password",
     "pKIEnrollmentAccess": "",
 };

@@ -1207,7 +1207,7 @@ HARMLESS: Tuple[str, ...] = (
 )
 # Attributes whose values are descriptors, with the kind that their ACEs are for, if it is known.
 DESCRIPTORS: Dict[str, str] = {
-    "fRSRootSecurity": "folder", "msDFS-LinkSecurityDescriptorv2": "folder",
+    "defaultSecurityDescriptor": "ds", "fRSRootSecurity": "folder", "msDFS-LinkSecurityDescriptorv2": "folder",
     "msDS-AllowedToActOnBehalfOfOtherIdentity": "delegation", "msDS-GroupMSAMembership": "managed-password",
     "pKIEnrollmentAccess": "",
 }

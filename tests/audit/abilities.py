@@ -562,6 +562,50 @@ def test_conditions_on_page(place):
                      f"conditions of {text}, by the audit and on the page")
 
 
+RESET = table("schema")["right"]["User-Force-Change-Password"]["guid"]
+BESIDE = f"O:BAD:(A;;GA;;;{SOMEBODY})"
+# The objects of mixed(), each with the rules that find SOMEBODY, or None where nobody knows what its rights mean.
+OF_MIXED = [("CN=a,DC=x", ["add-member"]), ("CN=a,DC=x", []), ("CN=a,DC=x", ["reset-password"]), ("CN=b,DC=x", []),
+            ("CN=b,DC=x: msDS-AllowedToActOnBehalfOfOtherIdentity", ["acts-for-others"]),
+            ("CN=b,DC=x: msExchMailboxSecurityDescriptor", None), ("CN=User,CN=Schema,CN=Configuration,DC=x", []),
+            ("CN=User,CN=Schema,CN=Configuration,DC=x: defaultSecurityDescriptor", ["reset-password"])]
+
+
+def mixed():
+    """Entries of one name, and attributes with descriptors of their own."""
+    return (
+        entry_text("CN=a,DC=x", ("top", "group"), f"O:BAG:BAD:(OA;;WP;{MEMBER};;{SOMEBODY})")
+        + entry_text("CN=a,DC=x", ("top", "container"), f"O:BAG:BAD:(OA;;WP;{MEMBER};;{SOMEBODY})")
+        + "dn: CN=a,DC=x\nobjectClass: user\n\n"
+        + entry_text("CN=a,DC=x", (), f"O:BAG:BAD:(OA;;CR;{RESET};;{SOMEBODY})")
+        + entry_text("CN=b,DC=x", CHAINS["computer"].split(","), "O:BAG:BAD:(A;;GA;;;BA)").rstrip("\n")
+        + f"\nmsDS-AllowedToActOnBehalfOfOtherIdentity: {BESIDE}\n"
+        f"msExchMailboxSecurityDescriptor:: {in_bytes(BESIDE)}\nhomeDrive: D:\n\n"
+        "dn: CN=User,CN=Schema,CN=Configuration,DC=x\nobjectClass: top\nobjectClass: classSchema\n"
+        "nTSecurityDescriptor: O:BAG:BAD:(A;;GA;;;BA)\n"
+        f"defaultSecurityDescriptor: D:(A;;GA;;;AO)(OA;;CR;{RESET};;{SOMEBODY})\nlDAPDisplayName: user\n\n")
+
+
+def test_entries(place):
+    """Each descriptor of a directory is judged by its own entry and attribute, by the audit and on the page."""
+    told = [one for one in place.objects("risks", place.write("mixed.ldif", mixed()))
+            if one.get("reason") != "the entry has no nTSecurityDescriptor"]
+    place.expect([(one["name"], None if one["answer"] == "unknown" else [each["rule"] for each in one["findings"]])
+                  for one in told], OF_MIXED, "entries")
+    titles = ("DistinguishedName", "ObjectClass", "nTSecurityDescriptor", "msDS-AllowedToActOnBehalfOfOtherIdentity")
+    row = ("CN=b,DC=x", "computer", "O:BAG:BAD:(A;;GA;;;BA)", BESIDE)
+    members = dict(zip(titles, row))
+    for source in (place.table([row], "mixed.csv", titles), place.write("mixed.json", json.dumps(members)),
+                   place.write("mixed.txt", "".join(f"{one} : {text}\n" for one, text in members.items()))):
+        got = [(one["name"], [each["rule"] for each in one["findings"]]) for one in place.objects("risks", source)]
+        place.expect(got, OF_MIXED[3:5], f"attributes in {source}")
+    looked = on_page(place, [{"text": mixed(), "chosen": at} for at in range(len(OF_MIXED))])
+    for one, got in zip(told, looked or ()):
+        place.expect((got["name"], got["isAsked"]), (one["name"], one["answer"] == "unknown"), "an entry on the page")
+        kind = "delegation" if one["name"].endswith("OtherIdentity") else "ds"
+        place.expect(otherwise_on_page(one["findings"], got["warnings"], kind), {}, f"{one['name']}, by audit and page")
+
+
 def run_tests(count, tests):
     """Runs the tests that are chosen."""
     python = audit.python_with_packages()
@@ -576,4 +620,4 @@ def run_tests(count, tests):
 
 def main(count: preload.Count) -> None:
     run_tests(count, (test_named, test_design, test_reasons, test_all_rules, test_page, test_conditions,
-                      test_conditions_of_defaults, test_places, test_said, test_conditions_on_page))
+                      test_conditions_of_defaults, test_places, test_said, test_conditions_on_page, test_entries))

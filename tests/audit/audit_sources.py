@@ -1155,7 +1155,8 @@ def test_ldif(place: Place) -> None:
                   f"# record 1\ndn: CN=a\ndefaultSecurityDescriptor: {more}\n\ndnsRecord:     NDR: struct "
                   f"dnsp_DnssrvRpcRecord\n        wDataLength : 0x0004 (4)\n\nnTSecurityDescriptor: {dumped}\n\ncn: a\n"
                   f"\n# record 2\ndn: CN=b\nnTSecurityDescriptor: {dumped}\n\n\n# Referral\nref: ldap://example/DC=x\n"
-                  "\n# returned 3 records\n# 2 entries\n# 1 referrals\n", both)
+                  "\n# returned 3 records\n# 2 entries\n# 1 referrals\n",
+                  [both[0], ("CN=a: defaultSecurityDescriptor", READ), both[1]])
     place.answers("an entry without its name behind a dump",
                   f"dn: CN=a\nnTSecurityDescriptor: {dumped}\n\n\nnTSecurityDescriptor: {dumped}\n",
                   [("CN=a", READ), (f"line {dumped.count(chr(10)) + 5}", UNKNOWN)])

@@ -130,14 +130,14 @@ def judge_sets(count, folder):
 
 
 def judge_descriptors(count, folder):
-    """Each attribute whose values are descriptors, but for that of the object itself."""
+    """Each attribute whose values are descriptors, but for that of the object itself. That of a class is text."""
     all_entries = (entry for path in folder.glob("ad-schema/*[Aa]ttributes*") for entry in entries(text_of(path)))
     named = {entry["ldapdisplayname"][0][1] for entry in all_entries
              if entry.get("attributesyntax", [("", "")])[0][1] == OF_DESCRIPTORS and "ldapdisplayname" in entry}
     with open(TOP / "windows/directory.toml", "rb") as file:
         ours = set(tomllib.load(file)["descriptor"])
-    count.add("nTSecurityDescriptor" in named and ours == named - {"nTSecurityDescriptor"},
-              f"attributes with descriptors: {named ^ ours}")
+    wanted = named - {"nTSecurityDescriptor"} | {"defaultSecurityDescriptor"}
+    count.add("nTSecurityDescriptor" in named and ours == wanted, f"attributes with descriptors: {named ^ ours}")
 
 
 CONTAINS = ("mustcontain", "maycontain", "systemmustcontain", "systemmaycontain")

@@ -9,8 +9,8 @@ from typing import Deque, Iterable, Iterator, List, Mapping, NamedTuple, Optiona
 from sdtool.audit.sources.frame import BY_NAMES, Format, LineBlocks, Look, Piece, guesses_of
 from sdtool.audit.sources.items import UNTOLD, Item, item_of, looks_like_descriptor, shortened, unreadable
 from sdtool.audit.sources.messages import named_in, strange_item
-from sdtool.audit.sources.naming import (CLASS_NAME, DESCRIPTOR_NAMES, NAME_NAMES, kind_of_name, kind_of_titles,
-                                         place_of_classes, plain_name, ranked)
+from sdtool.audit.sources.naming import (CLASS_NAME, DESCRIPTOR_NAMES, NAME_NAMES, attribute_item, is_attribute,
+                                         kind_of_name, kind_of_titles, place_of_classes, plain_name, ranked)
 from sdtool.audit.sources.options import SourceOptions
 
 _LINES = ("|", "\u2502")
@@ -60,6 +60,7 @@ class Columns(NamedTuple):
     is_words: bool = False
     others: Tuple[int, ...] = ()
     classes: Optional[int] = None  # the column with the classes of directory objects
+    attributes: Tuple[int, ...] = ()  # those with other descriptors of these
 
 
 def _records_of_lines(block: List[str], delimiter: str, quoting: int, before: int) -> Optional[Iterable[Record]]:
@@ -226,6 +227,9 @@ def _columns(rows: List[List[str]], header: Optional[List[str]], options: Source
     width = len(header) if header is not None else _usual_width(rows)
     known = f"its columns are {shortened(', '.join(header), 1_000)}" if header else f"it has {width} columns"
     likely = _likely_columns([row for row in rows if header is not None or len(row) == width])
+    attributes = [at for at, title in enumerate(header or ()) if is_attribute(title)]
+    if set(likely) - set(attributes) or ranked(header or (), DESCRIPTOR_NAMES):
+        likely = [at for at in likely if at not in attributes]
     described = set(likely)
     rivals: List[int] = []
     for option, chosen in (("--descriptor-column", options.descriptor_column), ("--name-column", options.name_column)):
@@ -266,8 +270,9 @@ def _columns(rows: List[List[str]], header: Optional[List[str]], options: Source
         width = collections.Counter(len(row) for row in rows if len(row) > descriptor).most_common(1)[0][0]
     rivals = [at for at in rivals if at < width]
     classes = next(iter(ranked(header or (), (CLASS_NAME,))), None)
+    attributes = [] if options.descriptor_column else [at for at in attributes if at < width]
     return Columns(names[0] if names else None, descriptor, width, tuple(rivals), others=tuple(names[1:]),
-                   classes=classes)
+                   classes=classes, attributes=tuple(attributes))
 
 
 def _is_empty(rows: List[List[str]], at: int) -> bool:
@@ -432,6 +437,7 @@ def pieces_of_records(found: List[Record], layout: Layout, reading: Reading) -> 
     them."""
     label, kind, columns, heads, blanks = layout.label, layout.kind, layout.columns, layout.heads, reading.blanks
     count, name_at, descriptor_at, classes_at = columns.width, columns.name, columns.descriptor, columns.classes
+    attributes = columns.attributes
     is_odd = bool(columns.reason or columns.rivals or descriptor_at >= count)
     is_drawn = layout.is_drawn
     items: List[Item] = []
@@ -479,9 +485,12 @@ def pieces_of_records(found: List[Record], layout: Layout, reading: Reading) -> 
             continue
         if not form:
             advice += f"; {_MAY_BE_TITLES}{layout.look}" if line == layout.first else layout.look
-        place = place_of_classes(name, row[classes_at], kind or "") if classes_at is not None else ""
-        told = kind or (UNTOLD if named is None else kind_of_name(name))
-        items.append(Item(name, label, line, form, text, told, advice, None, place))
+        if descriptor_at not in attributes:
+            place = place_of_classes(name, row[classes_at], kind or "") if classes_at is not None else ""
+            told = kind or (UNTOLD if named is None else kind_of_name(name))
+            items.append(Item(name, label, line, form, text, told, advice, None, place))
+        for at in attributes:
+            items += [attribute_item(name, heads[-1][at], label, line, row[at])] if row[at].strip() else []
     if items:
         yield Piece(begin, end, items)
 

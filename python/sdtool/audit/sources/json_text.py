@@ -7,8 +7,8 @@ from typing import Any, Dict, Iterable, Iterator, List, NamedTuple, Optional, Tu
 
 from sdtool.audit.sources.frame import BY_NAMES, Format, Lines, Look, Piece, Texts
 from sdtool.audit.sources.items import UNTOLD, Item, item_of, looks_like_descriptor, shortened, unreadable
-from sdtool.audit.sources.naming import (CLASS_NAME, DESCRIPTOR_NAMES, NAME_NAMES, kind_of_name, kind_of_titles,
-                                         place_of_classes, plain_name, ranked)
+from sdtool.audit.sources.naming import (CLASS_NAME, DESCRIPTOR_NAMES, NAME_NAMES, attribute_item, is_attribute,
+                                         kind_of_name, kind_of_titles, place_of_classes, plain_name, ranked)
 from sdtool.audit.sources.opening import READ_FAULTS
 from sdtool.audit.sources.options import SourceOptions
 
@@ -303,11 +303,16 @@ def items_of_element(value: Any, label: str, line: int, options: SourceOptions, 
         return [item for one in value for item in items_of_element(one, label, line, options)]
     if not isinstance(value, dict):
         return [unreadable(place, label, line, "the element is no object", "look at the source")]
-    parts = _parts(value, place, options)
+    of_attributes = {} if options.descriptor_column else _of_attributes(value)
+    parts = _parts({key: one for key, one in value.items() if key not in of_attributes} if of_attributes else value,
+                   place, options)
     is_named = parts.name != f"{label}:{line}"
     kind = options.kind or kind_of_titles(value) or (kind_of_name(parts.name) if is_named else UNTOLD)
-    found = [unreadable(parts.name, label, line, parts.reason, parts.help, kind) if parts.reason else
-             item_of(parts.name, label, line, parts.text, kind)._replace(place=_place_of(value, parts.name, kind))]
+    found = [attribute_item(parts.name, key, label, line, text) for key, text in of_attributes.items()]
+    if not of_attributes or any(plain_name(key) in DESCRIPTOR_NAMES for key in value):
+        found.insert(0, unreadable(parts.name, label, line, parts.reason, parts.help, kind) if parts.reason else
+                     item_of(parts.name, label, line, parts.text, kind)._replace(
+                         place=_place_of(value, parts.name, kind)))
     of_name = shortened(parts.name)
     for key, inner in _inside(value, options.descriptor_column) if any(type(inner) in (dict, list)
                                                                        for inner in value.values()) else ():
@@ -315,6 +320,12 @@ def items_of_element(value: Any, label: str, line: int, options: SourceOptions, 
         found.append(unreadable(name, label, line, f"it is inside member {shortened(key)} of {of_name}",
                                 "export a list without lists inside", options.kind or kind_of_name(name)))
     return found
+
+
+def _of_attributes(value: Dict[str, Any]) -> Dict[str, str]:
+    """The members of a directory object that are descriptors beside its own."""
+    texts = ((key, _pair_text(one)) for key, one in value.items() if is_attribute(key))
+    return {key: text for key, text in texts if isinstance(text, str) and text.strip()}
 
 
 def _place_of(value: Dict[str, Any], name: str, kind: str) -> str:

@@ -346,6 +346,7 @@ def _described(name: str, value: bytes, shown: str, entry: Entry, label: str, ki
 
 _KIND_OF = {name.lower(): kind for name, kind in DESCRIPTORS.items()}
 _OF_THE_OBJECT = "ntsecuritydescriptor"
+_SDDL = re.compile(rb"(?:[OG]:[A-Z0-9-]+)*[DS]:[A-Z_]*\(", re.I)
 
 
 def _attribute_items(entry: Entry, label: str) -> Iterator[Item]:
@@ -353,14 +354,22 @@ def _attribute_items(entry: Entry, label: str) -> Iterator[Item]:
     for attribute, values in entry.attributes.items():
         kind = _KIND_OF.get(attribute)
         for number, value in enumerate(values, 1) if attribute != _OF_THE_OBJECT else ():
-            if kind is None and not binary.looks_like_descriptor(value):
+            if kind is None and not (binary.looks_like_descriptor(value) or _SDDL.match(value)):
                 continue
             name = f"{entry.name}: {entry.titles[attribute]}" + (f" ({number})" if len(values) > 1 else "")
             if kind:
-                yield _described(name, value, entry.titles[attribute], entry, label, kind)
+                # What objects of a class begin with is judged as one of them.
+                of_class = entry.attributes.get("ldapdisplayname", ()) if kind == "ds" else ()
+                place = place_of_object("", tuple(one.decode("utf-8", "replace") for one in of_class))
+                yield _described(name, value, entry.titles[attribute], entry, label, kind, place if of_class else "")
             else:
-                reason = f"what the ACEs of {entry.titles[attribute]} mean isn't known here"
-                yield unreadable(name, label, entry.line, reason, "look at the object on its own system", "ds")
+                yield unknown_attribute(name, entry.titles[attribute], label, entry.line)
+
+
+def unknown_attribute(name: str, title: str, label: str, line: int) -> Item:
+    """A descriptor of an attribute of which nobody knows what its rights mean."""
+    return unreadable(name, label, line, f"what the ACEs of {title} mean isn't known here",
+                      "look at the object on its own system", "ds")
 
 
 def _read(source: Lines, label: str, options: SourceOptions) -> Iterator[Piece]:

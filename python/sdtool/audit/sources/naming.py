@@ -3,9 +3,9 @@ kind, and the classes of those of a directory."""
 import re
 from typing import AbstractSet, Dict, Iterable, List, Sequence
 
-from sdtool._windows import HINTS
-from sdtool.audit.sources.items import BY_PATH, UNTOLD
-from sdtool.audit.sources.ldif import place_of_object
+from sdtool._windows import DESCRIPTORS, HINTS
+from sdtool.audit.sources.items import BY_PATH, UNTOLD, Item, item_of
+from sdtool.audit.sources.ldif import place_of_object, unknown_attribute
 
 # In lower case and without blanks, '_' and '-'; the first that is there counts.
 DESCRIPTOR_NAMES = ("sddl", "securitydescriptor", "ntsecuritydescriptor", "descriptor", "sd", "acl",
@@ -34,7 +34,9 @@ def plain_name(title: str) -> str:
 
 # Titles that tell the kind of objects; the first that is there counts.
 _KINDS = {plain_name(name): hint["kind"] for hint in HINTS for name in hint.get("property", ())}
-_TELLING = frozenset({*DESCRIPTOR_NAMES, *NAME_NAMES, *_OF_SHARES, *_KINDS, CLASS_NAME})
+# Those of other attributes of directory objects that are descriptors.
+_ATTRIBUTES = {plain_name(name): kind for name, kind in DESCRIPTORS.items()}
+_TELLING = frozenset({*DESCRIPTOR_NAMES, *NAME_NAMES, *_OF_SHARES, *_KINDS, *_ATTRIBUTES, CLASS_NAME})
 
 
 def telling(titles: Iterable[str]) -> List[str]:
@@ -71,6 +73,17 @@ def kind_of_name(name: str) -> str:
     found = _KIND_OF_NAME.match(name, 0, _MOST_OF_NAME)
     kind: str = _NAMES[found.lastindex - 1]["kind"] if found and found.lastindex else UNTOLD
     return BY_PATH if kind == "folder" else kind
+
+
+def is_attribute(title: str) -> bool:
+    """Whether a title is of an attribute with a descriptor beside that of its object."""
+    return plain_name(title) in _ATTRIBUTES
+
+
+def attribute_item(name: str, title: str, label: str, line: int, text: str) -> Item:
+    """Such a descriptor."""
+    kind, own = _ATTRIBUTES[plain_name(title)], f"{name}: {title}"
+    return item_of(own, label, line, text, kind) if kind else unknown_attribute(own, title, label, line)
 
 
 def place_of_classes(name: str, text: str, kind: str) -> str:
