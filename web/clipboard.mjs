@@ -10,7 +10,7 @@ import {DESCRIPTORS} from "./windows.mjs";
 // of what was found: a search that began at each quotation mark would take minutes for a hostile text of 1 MB.
 const REG_VALUE = /hex(?<=(?:(@|"[^"]*")\s*=\s*)?hex)(?:\([0-9a-f]+\))?:/gi;
 const REG_BINARY = /REG_BINARY(?<=(\S*)[ \t]+REG_BINARY)[ \t]+(?=[0-9a-f])/gi;
-const ATTRIBUTE = /^([A-Za-z][\w-]*)(?:;[\w;=*-]*)?(::?) */;
+const ATTRIBUTE = /^>?([A-Za-z][\w-]*)(?:;[\w;=*-]*)?(::?) */;
 const BEFORE = "(^|[\\s\"',;=:>\\t|`\u201c\u201e\u2018\u00ab])"; // what may come before a descriptor
 const SDDL_START = new RegExp(
     BEFORE + "(?=[OG]:\\s*(?:S-1-|[A-Za-z]{2})|[DS]:\\s*(?:P|AR|AI|NO_ACCESS|\\(|[OGDS]:|$|\"))",
@@ -96,8 +96,8 @@ function ofLdif(text) {
     for (const line of unfolded(text).split(/\r?\n/)) {
         const named = nameOfEntry(line);
         [name, classes, made] = named === undefined ? [name, classes, made] : [named, [], []];
-        classes.push(...[valueOfEntry(line, /^objectClass(::?)/i)].filter(Boolean));
-        made.push(...[valueOfEntry(line, /^lDAPDisplayName(::?)/i)].filter(Boolean)); // of a class, its objects'
+        classes.push(...[valueOfEntry(line, /^>?objectClass(::?)/i)].filter(Boolean));
+        made.push(...[valueOfEntry(line, /^>?lDAPDisplayName(::?)/i)].filter(Boolean)); // of a class, its objects'
         const has = ofAttribute(line);
         if (!has) {
             others.push(line);

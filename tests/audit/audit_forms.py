@@ -67,6 +67,9 @@ FORMS = [
     Form("wevtutil gl", f"name: Application\nenabled: true\nchannelAccess: {FR}\n", (("Application", FR),), "log"),
     Form("ldapsearch", f"dn: CN=Ann,DC=x\nnTSecurityDescriptor:: {folded(B64, 40, ' ')}\n\n",
          (("CN=Ann,DC=x", DIGITS),), "ds"),
+    Form("AdFind", "\nAdFind V01.62.00cpp Joe Richards (support@joeware.net) October 2023\n\nUsing server: dc.x:389\n"
+         f"Directory: Windows Server 2019 (10.0.17763.1)\n\ndn:CN=Ann,DC=x\n>objectClass: top\n>objectClass: user\n"
+         f">nTSecurityDescriptor: {FR}\n\n\n1 Objects returned\n", (("CN=Ann,DC=x", FR),), "ds"),
     Form("reg export", f'Windows Registry Editor Version 5.00\n\n[{KEY}]\n'
          f'"Security"=hex:{folded(",".join(pairs(DIGITS).split()), 60, "  ").replace(chr(10), chr(92) + chr(10))}\n',
          ((KEY + "\\Security", DIGITS),), "service"),

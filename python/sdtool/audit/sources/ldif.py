@@ -1,5 +1,5 @@
-"""Objects in LDIF, the export of a directory, as RFC 2849 and the programs have it that write it: ldapsearch and
-ldbsearch."""
+"""Objects in LDIF, the export of a directory, as RFC 2849 and the programs have it that write it: ldapsearch,
+ldbsearch and AdFind."""
 import base64
 import binascii
 import re
@@ -21,10 +21,12 @@ _SEARCH, _RESULT = "the head of ldapsearch (# extended LDIF)", "its result (resu
 _RECORD, _RECORDS = "the head of ldbsearch (# record 1)", "its count (# returned N records)"
 _COUNT = "its counts"
 _REST = "the rest of the search"
-_ATTRIBUTE = re.compile(r"([A-Za-z0-9][\w;.=*-]*):([:<]?) *(.*)", re.S)
+_ATTRIBUTE = re.compile(r">?([A-Za-z0-9][\w;.=*-]*):([:<]?) *(.*)", re.S)
 _NAME = re.compile(r"dn:", re.I)
 _ENTRY_LINE = re.compile(r" ?dn:|version: *[0-9]+\s*\Z", re.I)
 _CONTROL = re.compile(r"(search|result|ref|control|matchedDN|text|pagedresults|# ?pagedresults):", re.I)
+# What AdFind says before entries, whose attributes it marks with >, and behind them.
+_ADFIND = re.compile(r"AdFind V|Using server: |Directory: |Base DN: |([0-9]+) Objects returned\s*\Z")
 _NUMBERED = re.compile(r"# (numResponses|numEntries|numReferences|numPartial|numExtended): ([0-9]+)\s*\Z")
 _RETURNED = re.compile(r"# returned ([0-9]+) records\s*\Z")
 _FIRST_RECORD = re.compile(r"# record [0-9]+\s*\Z")
@@ -214,6 +216,12 @@ def _read_blocks(source: Lines) -> Iterator[_Read]:
             yield begin, end, found, False
             if isinstance(found, Entry):
                 yield end, end, _RESULT, False
+            return
+        of_adfind = [_ADFIND.match(line) for line in unfolded]
+        if all(of_adfind):
+            count = next((one[1] for one in of_adfind if one and one[1]), "")
+            missing = search.missing(int(count)) if count else ""
+            yield begin, end, Entry(begin, _REST, {}, missing) if missing else _COMMENT, False
             return
         search.entries += 1
         entry = _parsed(block)
