@@ -172,9 +172,12 @@ export async function showParts(place, count, parts, isOver) {
 // cell is: a button, or a whole row.
 export function moveByArrows(table, css) {
     const cells = () => {
-        const all = [...table.querySelectorAll(`tbody ${css}`)];
-        const rows = [...new Set(all.map((cell) => cell.closest("tr")))];
-        return rows.map((row) => all.filter((cell) => cell.closest("tr") === row));
+        const rows = new Map();
+        for (const cell of table.querySelectorAll(`tbody ${css}`)) {
+            const row = cell.closest("tr");
+            rows.set(row, rows.get(row) ?? []).get(row).push(cell);
+        }
+        return [...rows.values()];
     };
     const focus = (cell) => {
         table.querySelectorAll(`${css}:is([tabindex='0'])`).forEach((other) => other.setAttribute("tabindex", "-1"));

@@ -8,6 +8,7 @@ from page_driver import LIMIT, MOST_TURN, TOO_SLOW, busy, in_time
 
 SLOWER = 0.5  # seconds more, for a new worker and for what is shown
 WORKING = "Working .."
+ROWS = 1200  # of a grid
 TYPES = 60  # object types of a large descriptor of a directory object
 # characters, of which more stay out of a field, and of what is shown at once of a copy
 LARGE, MOST_COPIED = 20_000, 200_000
@@ -223,6 +224,24 @@ def test_links(count, page, _):
         "byId('object').checkVisibility()];"
     )
     count.add(got == [False, True], f"an object type that begins to apply is not shown: {got}")
+
+
+def test_keys_in_many_rows(count, page, _):
+    """A key in a grid takes time in proportion to the rows: for four times as many at most eight times as long."""
+    page.open()
+    least = []
+    for rows in (ROWS // 4, ROWS):
+        page.see("D:" + "".join(f"(A;;FR;;;S-1-5-21-1-2-3-{number})" for number in range(1000, 1000 + rows)))
+        *times, sid, shown = page.do(
+            "byId('grid-all').click(); await until(isIdle); const more = () => first('table.grid').closest('section')."
+            "querySelector('.more button'); while (more()) { more().click(); await pause(1); } const found = []; "
+            "for (let at = 0; at < 7; at += 1) { first('button.cell').focus(); const began = performance.now(); "
+            "document.activeElement.dispatchEvent(new window.KeyboardEvent('keydown', {key: 'ArrowDown', bubbles: "
+            "true})); found.push(performance.now() - began); await pause(5); } "
+            "return [...found, document.activeElement.dataset.sid, each('table.grid tbody tr').length];")
+        count.add((sid, shown) == ("S-1-5-21-1-2-3-1001", rows), f"the next of {shown} rows: {sid}")
+        least.append(min(times))
+    count.add(least[1] <= 8 * max(least[0], 5), f"a key in {ROWS // 4} and {ROWS} rows: {least} milliseconds")
 
 
 MOST_WORD, MOST_LIST = 1000, 400_000  # characters of a SID, a GUID or rights, and of a token or names
