@@ -706,6 +706,14 @@ def test_who(place: Place) -> None:
     place.write("nested.txt", f"{all_hands},{team}\n{team},{bob}\n")
     place.expect(place.told("who", "write", nested, "--groups", "nested.txt")["nested"],
                  ("found", ("who", all_hands, write), ("who", bob, write)), "who, nested groups")
+    # No token has so many SIDs. What is asked about the other objects has its answers.
+    many = [f"{DOMAIN}-{number}" for number in range(2000, 3100)]
+    both = place.table([("many", "O:BAD:" + "".join(f"(A;;FW;;;{one})" for one in many)),
+                        ("nested", f"O:BAD:(A;;FW;;;{all_hands})")], "both.csv")
+    place.write("many.txt", "".join(f"{one},{bob}\n" for one in (*many, all_hands)))
+    place.expect(place.told("who", "write", both, "--groups", "many.txt"),
+                 {"many": ("unknown",), "nested": ("found", ("who", all_hands, write), ("who", bob, write))},
+                 "who, a member of more groups than a token has")
     place.write("directory.ldif",
                 "dn: CN=Team\nobjectSid:: AQUAAAAAAAUVAAAAAQAAAAIAAAADAAAA0QcAAA==\nsAMAccountName: Team\nmember: "
                 "CN=Ann\n\ndn: CN=Ann\nobjectSid:: AQUAAAAAAAUVAAAAAQAAAAIAAAADAAAA6QMAAA==\nsAMAccountName: ann\n"

@@ -1,11 +1,11 @@
 """Checks of many descriptors for many tokens, asked together, and what findings say by them."""
 import functools
 import operator
-from typing import Dict, FrozenSet, Iterable, List, NamedTuple, Optional, Sequence, Tuple, Union
+from typing import Dict, FrozenSet, Iterable, List, NamedTuple, Optional, Sequence, Set, Tuple, Union
 
 from sdtool.audit.findings import NO_MARK, Answer, Because, Mark, answer_of, unknown, unknown_of
-from sdtool.audit.library import (ALLOWS, DENIES, INHERITED, OTHERS, Ace, AnswersFault, Decided, Descriptor, Got,
-                                  Reasons, Refusal, Token, granted, granted_by_each, layouts, mapped, text_of)
+from sdtool.audit.library import (ALLOWS, DENIES, INHERITED, MOST_SIDS, OTHERS, Ace, AnswersFault, Decided, Descriptor,
+                                  Got, Reasons, Refusal, Token, granted, granted_by_each, layouts, mapped, text_of)
 from sdtool.audit.masks import MAPPINGS
 from sdtool.audit.sources.items import BY_PATH, UNTOLD, WITHOUT_OWNER
 from sdtool.audit.windows import names as sids
@@ -76,6 +76,7 @@ class Checks:
         self._reasons = Reasons(form, texts, kind, domain)
         self._types: Dict[int, ObjectTypes] = {}
         self._typed: Dict[int, int] = {}  # how many checks for object types a descriptor has
+        self._crowded: Set[int] = set()  # descriptors of which somebody has more SIDs than a token
 
     def know(self, at: int, aces: Iterable[Ace]) -> None:
         """Says which ACEs decide about a descriptor."""
@@ -88,6 +89,9 @@ class Checks:
     def ask(self, at: int, token: Token, is_bound: bool = True) -> None:
         """Asks what a token gets of a descriptor, as a whole and for each object type that ACEs name for it. Tokens
         that don't come from the descriptor alone aren't bound."""
+        if len(token.sids) > MOST_SIDS:
+            self._crowded.add(at)
+            return
         asked = self._asked.setdefault((token, ""), {})
         if at in asked:
             return
@@ -98,7 +102,11 @@ class Checks:
             self._asked.setdefault((token, object_type), {})[at] = None
 
     def too_many(self, at: int) -> Optional[Answer]:
-        """Why a descriptor has no answer, if its trustees and object types are too many to be asked together."""
+        """Why a descriptor has no answer, if its trustees and object types are too many to be asked together, or the
+        groups of a member."""
+        if at in self._crowded:
+            return unknown(f"its ACEs name more groups of somebody than the {MOST_SIDS:,} SIDs of a token",
+                           "take groups out of the file")
         if self._typed.get(at, 0) <= _MOST_TYPED:
             return None
         return unknown(f"its ACEs name more than {_MOST_TYPED:,} pairs of a trustee and an object type",

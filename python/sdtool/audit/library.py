@@ -255,6 +255,9 @@ def derived(texts: Sequence[str], container: bool, owner: str, group: str, kind:
     return [Refusal(line) if line.startswith("error ") else line for line in lines]
 
 
+MOST_SIDS = 1024  # of a token
+
+
 class Token(NamedTuple):
     """Who asks: SIDs, those that are deny-only with '!' before them, and what else a check takes. missing says what the
     token lacks that the real one has; notes say what it may do beside what permissions grant."""

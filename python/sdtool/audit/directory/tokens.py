@@ -7,7 +7,7 @@ from typing import Iterator, List, NamedTuple, Optional, Sequence, Tuple
 from sdtool._windows import ATTRIBUTES, PRIVILEGES
 from sdtool.audit import library
 from sdtool.audit.directory.groups import text_lines
-from sdtool.audit.library import Token
+from sdtool.audit.library import MOST_SIDS, Token
 from sdtool.audit.sources import ldif
 from sdtool.audit.sources.opening import OpeningFault
 from sdtool.audit.windows.names import Names, meaning_of
@@ -20,7 +20,6 @@ _ID = re.compile(r"\s*uid=([0-9]+)")
 _PRIVILEGE = re.compile(r'(?:"|[^":]+:\s+)?(Se\w+Privilege)\b')
 _OF_A_LIST = re.compile(r"\s*SID:\s+(S-1-[0-9]+(?:-[0-9]+)+)\s*\Z", re.I)
 _TITLED = re.compile(r"[^:\\]+:\s+(.*)\Z", re.S)
-_MOST_SIDS = 1024
 _MOST_SHOWN = 12
 
 
@@ -192,8 +191,8 @@ def read_token(word: str, domain: str, exact: bool = False) -> Token:
     if not token.sids:
         raise OpeningFault(f"{word}: the file has no SID")
     token = token._replace(missing="") if exact else _with_everybody(token)
-    if len(token.sids) > _MOST_SIDS:
-        raise OpeningFault(f"the token has {len(token.sids):,} SIDs; a token has at most {_MOST_SIDS:,}")
+    if len(token.sids) > MOST_SIDS:
+        raise OpeningFault(f"the token has {len(token.sids):,} SIDs; a token has at most {MOST_SIDS:,}")
     return token
 
 

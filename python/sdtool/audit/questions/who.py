@@ -1,4 +1,5 @@
 """The question who gets any of some rights."""
+import itertools
 from typing import Dict, Iterable, Iterator, List, NamedTuple, Optional, Sequence, Tuple
 
 from sdtool.audit.checks import (Checks, as_owner, asked_of, kept_of, mark_of, of_allowed_types, refused, shares_of,
@@ -66,10 +67,11 @@ class Who:
         for at, trustees in asked.items():
             checks.know(at, of_allowed_types(trustees.descriptor, mask, kind))
             checks.ask(at, trustee_token(sids.AUTHENTICATED_USERS))
-            for sid in trustees.allowed + trustees.denied:
+            named = trustees.allowed + trustees.denied
+            for sid in named:
                 checks.ask(at, trustee_token(sid))
-                for member in self._members(sid):
-                    checks.ask(at, self._member_token(member, trustees), False)
+            for member in dict.fromkeys(itertools.chain(*map(self._members, named))):
+                checks.ask(at, self._member_token(member, trustees), False)
         checks.run()
         for at, trustees in asked.items():
             answers[at] = checks.too_many(at)
