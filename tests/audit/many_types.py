@@ -1,8 +1,9 @@
 """Tests how long descriptors with many trustees and object types take. Twice as many take at most 2.6 times the
 instructions, in the questions of sdtool-audit: valgrind counts what each of two steps adds, and what else the machine
-does changes nothing. Nor do twice as many levels of a name take more. On the page four times as many take about four
-times as long. Too many pairs of a trustee and an object type are said to be unknown. It needs what tests/audit/audit.py
-needs, Debian's valgrind, and for the page Node and the module that `make wasm` builds.
+does changes nothing. Nor do twice as many levels of a name take more, or ACEs of two objects that are compared. On the
+page four times as many take about four times as long. Too many pairs of a trustee and an object type are said to be
+unknown. It needs what tests/audit/audit.py needs, Debian's valgrind, and for the page Node and the module that
+`make wasm` builds.
 """
 import concurrent.futures
 import itertools
@@ -16,6 +17,7 @@ import preload
 
 TRUSTEES, MOST_FOR_EACH = (20, 40, 80), 2.6  # twice the trustees are linear, four times are quadratic
 LEVELS = (800, 1600, 3200)  # more than are looked at
+ACES = (150, 300, 600)
 JOBS = 2  # side by side
 # On the page: four times the trustees take four times as long, and 16 times where every pair is asked.
 FEW, MANY, MOST_GROWTH, LEAST = 200, 800, 8.0, 0.05
@@ -93,6 +95,45 @@ def test_levels(place):
             place.expect(is_slow(counts[1:]), False, f"levels in {name}: {counts[1:]} instructions")
 
 
+def listed(count, aces, first=2000):
+    """ACEs for so many trustees."""
+    return "".join(aces.format(f"S-1-5-21-1-2-3-{first + at}") for at in range(count))
+
+
+def halves(count, flags):
+    """So many ACEs, of which the first half denies."""
+    return listed(count // 2, f"(D;{flags};GA;;;{{}})") + listed(count // 2, f"(A;{flags};GA;;;{{}})", 9000)
+
+
+ENTRY = "dn: {}\nobjectClass: {}\nnTSecurityDescriptor: O:BAG:BAD:{}\n\n"
+# Files with so many ACEs in an ACL, and the question about them: two lists that have none in common, an object that has
+# none of its folder's, and a unit of a directory that denies to what is below.
+MANY_ACES = {
+    ("diff", "old.csv", "new.csv"): lambda count: {
+        name: f"Path,Sddl\none,O:BAG:BAD:{listed(count, '(A;;FR;;;{})', first)}\n"
+        for name, first in (("old.csv", 2000), ("new.csv", 9000))},
+    ("inherit", "tree.csv"): lambda count: {
+        "tree.csv": f"Path,Sddl\nC:\\,O:BAG:BAD:{listed(count, '(A;OICI;FR;;;{})')}\nC:\\a,O:BAG:BAD:AI"
+                    f"{listed(count, '(A;OICIID;FR;;;{})')}\nC:\\a\\b,O:BAG:BAD:AI(A;ID;FA;;;BA)\n"},
+    ("risks", "unit.ldif"): lambda count: {
+        "unit.ldif": ENTRY.format("OU=a,DC=b", "organizationalUnit", halves(count, "CI")) +
+        ENTRY.format("CN=c,OU=a,DC=b", "user", "AI" + halves(count, "CIID"))}}
+
+
+def test_aces(place):
+    """Twice the ACEs of an ACL."""
+    if not shutil.which("valgrind"):
+        print("ACEs: skipped, there is no command valgrind")
+        return
+    with tempfile.TemporaryDirectory() as folder, counted_calls.CountedCalls(place.python, ASK, folder) as counted:
+        for words, make in MANY_ACES.items():
+            counts = []
+            for aces in (ACES[0], *ACES):
+                paths = {name: str(place.folder / place.write(name, text)) for name, text in make(aces).items()}
+                counts.append(counted.call(*(paths.get(word, word) for word in words), "--jobs", "1")[0])
+            place.expect(is_slow(counts[1:]), False, f"ACEs of {words}: {counts[1:]} instructions")
+
+
 def test_page(place):
     """Four times the trustees, by the least times of some rounds."""
     for aces in SHAPES:
@@ -134,4 +175,4 @@ def test_bound(place):
 
 
 def main(count: preload.Count) -> None:
-    abilities.run_tests(count, (test_growth, test_levels, test_page, test_bound))
+    abilities.run_tests(count, (test_growth, test_levels, test_aces, test_page, test_bound))

@@ -38,10 +38,11 @@ _NOWHERE = _Reach(False, False)
 
 
 class _Handed(NamedTuple):
-    """What an object hands on: where each ACE counts, and which ones that deny come before it."""
+    """What an object hands on: where each ACE counts, how many that deny come before it, and these."""
 
     reach: Dict[_Grant, _Reach]
-    denied: Dict[_Grant, Tuple[Tuple[_Grant, _Reach], ...]]
+    denied: Dict[_Grant, int]
+    denies: List[Tuple[_Grant, _Reach]]
 
 
 def _grant_of(ace: Ace) -> _Grant:
@@ -59,7 +60,12 @@ def _is_of_class(guid: str, of_class: str) -> bool:
     return CLASSES[of_class] == guid if of_class in CLASSES else guid not in _OF_KNOWN_CLASSES
 
 
-_NOTHING = _Handed({}, {})
+def _counts(reach: Dict[_Grant, _Reach], grant: _Grant, where: _Reach) -> bool:
+    """Whether a grant counts wherever it has to."""
+    return reach.get(grant, _NOWHERE).covers(where)
+
+
+_NOTHING = _Handed({}, {}, [])
 
 
 class Parents:
@@ -85,13 +91,14 @@ class Parents:
         above = ldif.parent_of(name).casefold()
         if not above or found.control & PROTECTED or not any(ace.flags & INHERITED for ace in found.aces):
             return ()
-        handed, numbers = self._handed(above, of_class), []
+        handed, numbers, passed = self._handed(above, of_class), [], 0
         seen: Dict[_Grant, _Reach] = {}
         for number, ace in enumerate(found.aces, 1):
             grant, reach = _grant_of(ace), _reach_of(ace)
+            while passed < len(handed.denies) and _counts(seen, *handed.denies[passed]):
+                passed += 1
             if (ace.flags & INHERITED and ace.sid != sids.OWNER_RIGHTS and grant in handed.reach
-                    and handed.reach[grant].covers(reach)
-                    and all(seen.get(one, _NOWHERE).covers(where) for one, where in handed.denied[grant])):
+                    and _counts(handed.reach, grant, reach) and handed.denied[grant] <= passed):
                 numbers.append(number)
             seen[grant] = seen.get(grant, _NOWHERE).plus(reach)
         return tuple(numbers)
@@ -121,13 +128,13 @@ class Parents:
         except sdtool.Fault:
             return _NOTHING
         assert not isinstance(handed, Refusal)
-        found, denies = _Handed({}, {}), []  # type: _Handed, List[Tuple[_Grant, _Reach]]
+        found = _Handed({}, {}, [])
         for number, ace in zip(numbers, handed.aces):
             grant, (here, below) = _grant_of(ace), _reach_of(ace)
             here = (here and _is_of_class(ace.inherited_type, of_class)
                     and str(above.dacl[number - 1].sid) not in _CREATORS)
             found.reach[grant] = found.reach.get(grant, _NOWHERE).plus(_Reach(here, below))
-            found.denied[grant] = tuple(denies)
+            found.denied[grant] = len(found.denies)
             if ace.kind in DENIES and ace.sid != _NOBODY:
-                denies.append((grant, _Reach(here, below)))
+                found.denies.append((grant, _Reach(here, below)))
         return found

@@ -1,7 +1,7 @@
 """Where an ACE was set that an object inherits: by the origins of its folder's ACEs, and of those above."""
 import base64
 import functools
-from typing import List, NamedTuple, Optional, Tuple
+from typing import Dict, List, NamedTuple, Optional, Tuple
 
 import sdtool
 from sdtool.audit.directory.trees import folder_key
@@ -12,6 +12,7 @@ from sdtool.audit.store.scratch import Scratch, restored
 _NOBODY = "S-1-0-0"  # stands for an owner that the source doesn't say
 _INHERIT_ONLY = sdtool.AceFlags.IO
 _MOST_KEPT = 10_000
+_MOST_OBJECTS = 100  # which may have thousands of ACEs
 
 
 class _Object(NamedTuple):
@@ -19,6 +20,7 @@ class _Object(NamedTuple):
     folder: str  # its key
     kind: str
     descriptor: sdtool.SecurityDescriptor
+    aces: Tuple[sdtool.Ace, ...]
 
 
 class _Place(NamedTuple):
@@ -43,6 +45,8 @@ class Trails:
         self._scratch = scratch
         self._domain = domain
         self._way = functools.lru_cache(_MOST_KEPT)(self._followed)
+        self._object = functools.lru_cache(_MOST_OBJECTS)(self._looked_up)
+        self._above = functools.lru_cache(_MOST_OBJECTS)(self._compared)
 
     def told(self, item: Item, number: int) -> str:
         """From which ACE of its folder an object would get an ACE, and where that was set."""
@@ -60,21 +64,25 @@ class Trails:
         last: Optional[_Place] = None
         seen = set()
         found = self._object(key)
-        while found is not None and key not in seen and number <= len(found.descriptor.dacl):
+        while found is not None and key not in seen and number <= len(found.aces):
             seen.add(key)
-            is_set = not found.descriptor.dacl[number - 1].flags & sdtool.AceFlags.ID
+            is_set = not found.aces[number - 1].flags & sdtool.AceFlags.ID
             last = _Place(found.name, number, is_set)
             first = first or last
-            above = None if is_set else self._object(found.folder)
-            if above is None:
-                break
-            number_above = _number_above(found, number, above)
+            number_above = None if is_set else self._above(key)[number - 1]
             if number_above is None:
                 break
-            key, number, found = found.folder, number_above, above
+            key, number, found = found.folder, number_above, self._object(found.folder)
         return first, last
 
-    def _object(self, key: str) -> Optional[_Object]:
+    def _compared(self, key: str) -> List[Optional[int]]:
+        """For each ACE of an object the number of the ACE of its folder of which it was made."""
+        found = self._object(key)
+        assert found is not None
+        above = self._object(found.folder)
+        return [None] * len(found.aces) if above is None else _numbers_above(found, above)
+
+    def _looked_up(self, key: str) -> Optional[_Object]:
         """The object of a key, if the source has one descriptor for it, which is a list."""
         rows = self._scratch.database.execute(
             "SELECT name, form, text, kind, folder FROM objects WHERE key = ? GROUP BY form, text ORDER BY "
@@ -87,8 +95,8 @@ class Trails:
             descriptor = read_descriptor(form, restored(text), self._domain)
         except (sdtool.Error, ValueError):
             return None
-        return (_Object(restored(name), folder.decode("utf-8", "surrogatepass"), kind, descriptor)
-                if descriptor.dacl.is_list else None)
+        return (_Object(restored(name), folder.decode("utf-8", "surrogatepass"), kind, descriptor,
+                        tuple(descriptor.dacl)) if descriptor.dacl.is_list else None)
 
 
 def read_descriptor(form: str, text: str, domain: str) -> sdtool.SecurityDescriptor:
@@ -99,23 +107,23 @@ def read_descriptor(form: str, text: str, domain: str) -> sdtool.SecurityDescrip
                                                 else bytes.fromhex(text))
 
 
-def _number_above(found: _Object, number: int, above: _Object) -> Optional[int]:
-    """The number of the ACE above of which an inherited ACE was made. Of equal ones the first is made of the first."""
-    own, ace = found.descriptor, found.descriptor.dacl[number - 1]
-    arguments = (own.owner or _NOBODY, own.group or _NOBODY)
+def _numbers_above(found: _Object, above: _Object) -> List[Optional[int]]:
+    """For each ACE of an object the number of the ACE above of which it would be made. Of equal ones the first is made
+    of the first."""
+    arguments = (found.descriptor.owner or _NOBODY, found.descriptor.group or _NOBODY)
     try:
         handed = above.descriptor.derive(*arguments, kind="container",
                                          mapping=MAPPINGS[found.kind][0])  # type: ignore[arg-type]
         numbers = places_of(above.descriptor, True, str(arguments[0]), str(arguments[1]), found.kind)
     except sdtool.Fault:
-        return None
-    before = sum(_is_same(one, ace) for one in own.dacl[:number - 1])
-    equal = [at for at, one in enumerate(handed.dacl) if _is_same(one, ace)]
-    return numbers[equal[before]] if before < len(equal) else None
+        return [None] * len(found.aces)
+    left: Dict[sdtool.Ace, List[int]] = {}  # the numbers of equal ACEs, the last one first
+    for number, ace in reversed(list(zip(numbers, handed.dacl))):
+        left.setdefault(_for_any_class(ace), []).append(number)
+    equal = [left.get(_for_any_class(ace)) for ace in found.aces]
+    return [one.pop() if one else None for one in equal]
 
 
-def _is_same(one: sdtool.Ace, other: sdtool.Ace) -> bool:
-    """Whether two ACEs are equal. One for a class of directory objects is inherit-only in objects of the others."""
-    if one.inherited_object_type is not None:
-        one, other = (ace.replace(flags=ace.flags | _INHERIT_ONLY) for ace in (one, other))
-    return one == other
+def _for_any_class(ace: sdtool.Ace) -> sdtool.Ace:
+    """An ACE for a class of directory objects as it is in objects of the others, where it is inherit-only."""
+    return ace if ace.inherited_object_type is None else ace.replace(flags=ace.flags | _INHERIT_ONLY)

@@ -210,17 +210,24 @@ class Differences:
 
     def _of_aces(self, title: str, old: Sequence[Ace], new: Sequence[Ace], kind: str) -> Iterator[Finding]:
         removed, added = surplus(old, new), surplus(new, old)
-        for ace in list(removed):
-            partner = next((one for one in added if _without_flags(one) == _without_flags(ace)), None)
-            if partner is not None:
-                removed.remove(ace)
-                added.remove(partner)
-                yield Finding("ace", "", "", f"{title}: flags {_flags(ace)}, then {_flags(partner)}: "
-                                             f"{ace_in_words(partner, kind, self._context.names)}")
-        for verb, aces in (("removed", removed), ("added", added)):
+        left: List[Ace] = []
+        partners: List[Ace] = []
+        # Those that are added, the last one first, by what an ACE is without its flags.
+        alike: Dict[Tuple[str, int, str, str, str], List[Ace]] = {}
+        for ace in reversed(added):
+            alike.setdefault(_without_flags(ace), []).append(ace)
+        for ace in removed:
+            found = alike.get(_without_flags(ace))
+            if not found:
+                left.append(ace)
+                continue
+            partners.append(found.pop())
+            yield Finding("ace", "", "", f"{title}: flags {_flags(ace)}, then {_flags(partners[-1])}: "
+                                         f"{ace_in_words(partners[-1], kind, self._context.names)}")
+        for verb, aces in (("removed", left), ("added", surplus(added, partners))):
             for ace in aces:
                 yield Finding("ace", "", "", f"{title}: {verb}: {ace_in_words(ace, kind, self._context.names)}")
-        if not surplus(old, new) and not surplus(new, old) and tuple(old) != tuple(new):
+        if not removed and not added and tuple(old) != tuple(new):
             yield Finding("order", "", "", f"{title}: the same ACEs in another order")
 
 
