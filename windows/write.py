@@ -532,12 +532,20 @@ def arms(key):
     """Arms of a match, each in a line if that has at most 100 characters."""
     def arm(number, row):
         line = f'        {number} => "{row[key]}",'
-        return [line if len(line) <= 100 else f'        {number} =>\n            "{row[key]}",']
+        pieces = textwrap.wrap(row[key], 104, drop_whitespace=False)
+        in_lines = "\\\n             ".join(pieces)
+        return [line if len(line) <= 100 else f'        {number} =>\n            "{in_lines}",']
     return arm
 
 
 def cases(key):
-    return lambda number, row: [f'    {"else " if number > 1 else ""}if nat_eq number {number} then codes "{row[key]}"']
+    """Cases of a definition, each in a line if that has at most 120 characters."""
+    def case(number, row):
+        front = f'    {"else " if number > 1 else ""}if nat_eq number {number} then '
+        fits = len(front) + len(row[key]) <= 112
+        pieces = [row[key]] if fits else textwrap.wrap(row[key], 76, drop_whitespace=False)
+        return [front + "\n    ++ ".join(f'codes "{piece}"' for piece in pieces)]
+    return case
 
 
 def errors(rows, first=1, last=99, heads=()):

@@ -5,8 +5,8 @@
 //! of a command line of `sdtool`, and the command answers as many lines as the number says (`command_job.rt`). Or they
 //! are `each` or `many` and the SIDs of a token, and calls of the library check as many descriptors (`check_job.rt`).
 //!
-//! `sd_bench SEED` prints a line for each section: how much was digested, in bytes and numbers, and the digest. Each seed
-//! gives other lines of the same kinds and sizes.
+//! `sd_bench SEED` prints a line for each section: how much was digested, in bytes and numbers, and the digest. Each
+//! seed gives other lines of the same kinds and sizes.
 #![tactic(auto)]
 
 mod check_job;

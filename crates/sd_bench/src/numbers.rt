@@ -2,8 +2,8 @@
 
 ghost use Rattle.std.specs.Prelude.{◌<◌};
 
-/// A linear congruential generator, of which the upper bits are taken (Knuth, The Art of Computer Programming, volume 2,
-/// section 3.2.1).
+/// A linear congruential generator, of which the upper bits are taken (Knuth, The Art of Computer Programming,
+/// volume 2, section 3.2.1).
 #[derive(Clone, Copy)]
 pub struct Numbers {
     state: u64,

@@ -23,8 +23,8 @@ struct Place {
     symbols: &'static [u8; 64],
 }
 
-/// A line, in whose pattern `?` is a hex digit, `%` a decimal digit and `~` a character of base64. One line in 1,024 has
-/// a wrong character in one of these places.
+/// A line, in whose pattern `?` is a hex digit, `%` a decimal digit and `~` a character of base64. One line in 1,024
+/// has a wrong character in one of these places.
 #[derive(Drop)]
 pub struct LinePattern {
     text: Vec<u8>,

@@ -44,7 +44,11 @@ impl<'a> ChangedAce<'a> {
     /// The ACE with these flags, without 0x20, this mask, and this SID in place of its own if there is one.
     pub fn new(ace: &'a AceView<'a>, flags: u8, mask: u32, sid: Option<&'a Sid>) -> ChangedAce<'a>
         requires { flags / 0x20 % 2 ≡ 0 }
-        ensures { result ≡ record ace.now { flags = flags; mask = mask; sid = unwrap_or (option_copied sid.entry) ace.now.sid } }
+        ensures { result ≡ record ace.now {
+          flags = flags;
+          mask = mask;
+          sid = unwrap_or (option_copied sid.entry) ace.now.sid;
+        } }
     {
         ChangedAce {
             ace,

@@ -37,7 +37,12 @@ impl<'a> Sink for BufSink<'a> {
     ghost use Rattle.std.specs.Prelude.{Some, ◌-◌, length};
     ghost use Rattle.sd_parts.specs.declared.limits.TheConstants.{CAPACITY};
 
-    ghost told = { λ s. record { identity = s.buf.ghost_name; contents = Some s.buf.now; failures = s.failures; room = CAPACITY - length s.buf.now } };
+    ghost told = { λ s. record {
+      identity = s.buf.ghost_name;
+      contents = Some s.buf.now;
+      failures = s.failures;
+      room = CAPACITY - length s.buf.now;
+    } };
 
     fn put(&mut self, bytes: &[u8]) -> Result<(), SinkFault> {
         match self.buf.extend(bytes) {

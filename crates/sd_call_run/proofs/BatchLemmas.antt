@@ -1,6 +1,6 @@
 -- The answers to lines, one after the other in the caller's cells.
-use Rattle.std.proofs.Common.{◌≡◌, ◌<◌, ◌-◌, ◌+◌, ◌||◌, ℕ, zero, suc, List, [], ◌∷◌, ◌++◌, length, take, Bool, true, false, Some}
-use Rattle.std.proofs.Common.{refl, sym, subst, ap, ◌∙◌, arith, append_assoc, append-nil, length-append}
+use Rattle.std.proofs.Common.{◌≡◌, ◌<◌, ◌-◌, ◌+◌, ◌||◌, ℕ, zero, suc, List, [], ◌∷◌, ◌++◌, length, take, Bool, true}
+use Rattle.std.proofs.Common.{false, Some, refl, sym, subst, ap, ◌∙◌, arith, append_assoc, append-nil, length-append}
 use Rattle.std.proofs.lemmas.Grind.{flat_map-append}
 use Rattle.std.specs.List.{list_any}
 use Rattle.sd_sink.specs.Sink.{PutAll, PutSome, SinkTold}
@@ -76,8 +76,9 @@ taken : (name : ℕ) (cells : List ℕ) (failures name' : ℕ) (cells' : List �
 taken name cells failures name' cells' held' failures' text put = let all = put.appended in (cc, cc)
 
 -- one line more is answered
-pub sofar-more : (settings now : Settings) → now ≡ settings → (input : List ℕ) (name : ℕ) (cells : List ℕ) (failures : ℕ) (mid : SinkTold)
-    (name' : ℕ) (cells' : List ℕ) (held' failures' : ℕ) (left rest line : List ℕ) (batch batch' : Batch)
+pub sofar-more : (settings now : Settings) → now ≡ settings → (input : List ℕ) (name : ℕ) (cells : List ℕ)
+    (failures : ℕ) (mid : SinkTold) (name' : ℕ) (cells' : List ℕ) (held' failures' : ℕ) (left rest line : List ℕ)
+    (batch batch' : Batch)
     → Sofar settings input (told_of name cells 0 failures) mid left batch → lines left ≡ line ∷ lines rest
     → PutAll mid (told_of name' cells' held' failures') (answer now.task now.holder line)
     → batch'.length ≡ length (take held' cells')
@@ -94,7 +95,8 @@ sofar-more settings now now_is input name cells failures mid name' cells' held' 
     let same = answers-push settings sofar.front line in
     record {
       front = sofar.front ++ line ∷ [];
-      split = sofar.split ∙ ap (λ (l : List (List ℕ)). sofar.front ++ l) cut ∙ sym (append_assoc sofar.front (line ∷ []) (lines rest));
+      split = sofar.split ∙ ap (λ (l : List (List ℕ)). sofar.front ++ l) cut
+          ∙ sym (append_assoc sofar.front (line ∷ []) (lines rest));
       put = rw same all;
       count = long ∙ ap (λ (l : List ℕ). length l) (
           (taken name cells failures name' cells' held' failures' _ all).0 ∙ sym same);
@@ -128,17 +130,17 @@ had : (name : ℕ) (cells : List ℕ) (held failures name' : ℕ) (cells' : List
 had name cells held failures name' cells' held' failures' text some = let part = some.appended in (cc, cc)
 
 -- there is no room for the answer to the next line
-pub batched-cut : (settings now : Settings) → now ≡ settings → (input : List ℕ) (name : ℕ) (cells : List ℕ) (failures name' : ℕ)
-    (cells' : List ℕ) (held' failures' name'' : ℕ) (cells'' : List ℕ) (held'' failures'' : ℕ) (left rest line : List ℕ)
-    (batch batch' : Batch)
+pub batched-cut : (settings now : Settings) → now ≡ settings → (input : List ℕ) (name : ℕ) (cells : List ℕ)
+    (failures name' : ℕ) (cells' : List ℕ) (held' failures' name'' : ℕ) (cells'' : List ℕ) (held'' failures'' : ℕ)
+    (left rest line : List ℕ) (batch batch' : Batch)
     → Sofar settings input (told_of name cells 0 failures) (told_of name' cells' held' failures') left batch
     → lines left ≡ line ∷ lines rest
     → PutSome (told_of name' cells' held' failures') (told_of name'' cells'' held'' failures'')
     (answer now.task now.holder line)
     → batch'.length ≡ batch.length → batch'.faulty ≡ batch.faulty → batch'.all ≡ false
     → Batched settings input cells'' batch'
-batched-cut settings now now_is input name cells failures name' cells' held' failures' name'' cells'' held'' failures'' left rest line
-    batch batch' sofar cut some_now same_length same_faults none =
+batched-cut settings now now_is input name cells failures name' cells' held' failures' name'' cells'' held''
+    failures'' left rest line batch batch' sofar cut some_now same_length same_faults none =
     let some : PutSome (told_of name' cells' held' failures') (told_of name'' cells'' held'' failures'')
     (answer settings.task settings.holder line) =
     subst (λ (s : Settings). PutSome (told_of name' cells' held' failures')

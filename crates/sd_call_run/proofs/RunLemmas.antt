@@ -1,6 +1,6 @@
 -- The endings of a batch.
-use Rattle.std.proofs.Common.{◌≡◌, ◌≢◌, ℕ, List, [], ◌∷◌, true, false, Option, Some, None, Result, Ok, Err, inl, inr, refl, sym}
-use Rattle.std.proofs.Common.{subst, ◌∙◌, if◌then◌else◌, length}
+use Rattle.std.proofs.Common.{◌≡◌, ◌≢◌, ℕ, List, [], ◌∷◌, true, false, Option, Some, None, Result, Ok, Err, inl, inr}
+use Rattle.std.proofs.Common.{refl, sym, subst, ◌∙◌, if◌then◌else◌, length}
 use Rattle.clap.specs.Words.{Text, takes}
 use Rattle.sd_answer.specs.Answer.{is_error}
 use Rattle.std.specs.List.{list_any}
@@ -16,7 +16,8 @@ use Rattle.sd_command.specs.declared.program.Stop.TheVariants as stop
 use Rattle.sd_command.specs.declared.settings.UsageFault.{UsageFault}
 use Rattle.sd_run.specs.declared.engine.RunFault.TheVariants.{Write}
 use Rattle.sd_call_run.specs.Inner.Batches.{Batched, EndsPrepared, StopsBehind}
-use Rattle.sd_call_run.specs.Runs.{EndsBehind, EndsBy, EndsOn, EndsRun, EndsSettled, EndsTaken, EndsWithoutMemory, Shows}
+use Rattle.sd_call_run.specs.Runs.{EndsBehind, EndsBy, EndsOn, EndsRun, EndsSettled, EndsTaken, EndsWithoutMemory}
+use Rattle.sd_call_run.specs.Runs.{Shows}
 use Rattle.sd_call_run.specs.declared.batch.Batch.{Batch}
 use Rattle.sd_call_run.specs.declared.run.Ending.{Ending}
 
@@ -71,7 +72,8 @@ settled-by r s input output message ending same e =
 taken : (words : List Text) (prepared : Result Prepared Stop) (input output message : List ℕ) (ending : Ending)
     → PreparesBy words prepared → StopsTaken prepared → EndsPrepared prepared input output message ending
     → EndsTaken words input output message ending
-taken words (Ok prepared) input output message ending p stops e = inr (settled-by _ _ input output message ending p.1.0 e)
+taken words (Ok prepared) input output message ending p stops e =
+    inr (settled-by _ _ input output message ending p.1.0 e)
 taken words (Err (stop.Early NoMemory)) input output message ending p stops e = inl e
 taken words (Err (stop.Early Usage)) input output message ending p stops e = let is : Usage ≡ NoMemory = stops in cc
 taken words (Err (stop.Early (Help text))) input output message ending p stops e =

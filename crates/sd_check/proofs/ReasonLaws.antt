@@ -1,7 +1,7 @@
 -- The reasons, right by right.
-use Rattle.std.proofs.Common.{◌≡◌, ◌<◌, ◌≤◌, ℕ, zero, suc, ◌+◌, ◌-◌, ◌*◌, ◌%◌, ◌^◌, Bool, true, false, not, ◌&&◌, ◌||◌, cond}
-use Rattle.std.proofs.Common.{eqb, ltb, List, [], ◌∷◌, length, set, take, get_or, Option, Some, None, refl, sym, ap, subst}
-use Rattle.std.proofs.Common.{map, replicate}
+use Rattle.std.proofs.Common.{◌≡◌, ◌<◌, ◌≤◌, ℕ, zero, suc, ◌+◌, ◌-◌, ◌*◌, ◌%◌, ◌^◌, Bool, true, false, not, ◌&&◌}
+use Rattle.std.proofs.Common.{◌||◌, cond, eqb, ltb, List, [], ◌∷◌, length, set, take, get_or, Option, Some, None, refl}
+use Rattle.std.proofs.Common.{sym, ap, subst, map, replicate}
 use Rattle.std.proofs.Common.{◌∙◌, ⊎_elim, arith, lit<, bit_and, bit_or, slice_get}
 use Rattle.std.specs.List.{find, list_any, position_from, position_or_len, range_with_len}
 use Rattle.std.specs.Int.Count.{count_trailing_zeros}
@@ -136,7 +136,8 @@ given_step old xs rights left i given size limit below has before right other e 
         ap (λ (k : ℕ). slice_get (set xs i given) k) here ∙ slice_get-set_same xs i given (omega (arith, size, below))
         ∙ ap (λ (b : Bool). Some (cond b given other)) given_too
     by false differs =
-        slice_get-set_other xs i right given (λ here. let one = eq-eqb right i here in absurd (cc)) ∙ before right other e
+        slice_get-set_other xs i right given (λ here. let one = eq-eqb right i here in absurd (cc))
+        ∙ before right other e
         ∙ ap (λ (b : Bool). Some (cond (carries rights right && not b) given other)) (kept (carries left right))
 
 pub given_all : (old new : List Reason) (rights left : ℕ) (given : Reason) → left ≡ 0
@@ -163,7 +164,8 @@ AreReasoned xs q u why =
 
 pub reasoned_none : (q : ℕ) (why : ℕ → Reason) → AreReasoned (replicate 25 reason.Nothing) q q why
 reasoned_none q why right below =
-    slice_get-get_or (replicate 25 reason.Nothing) right reason.Nothing (omega (arith, length-replicate 25 reason.Nothing))
+    slice_get-get_or (replicate 25 reason.Nothing) right reason.Nothing
+    (omega (arith, length-replicate 25 reason.Nothing))
     ∙ ap (λ (r : Reason). Some r)
     (get_or-replicate 25 right reason.Nothing reason.Nothing (omega arith) ∙ neither (carries q right))
   where
@@ -196,7 +198,8 @@ reasoned_step d t ask a old new q u m place why p s decided within here given be
 -- an ACE that does not decide is passed
 pub passed_by : (test : AccessControlEntry → Bool) (a : AccessControlEntry) (rest : List AccessControlEntry) (n : ℕ)
     → test a ≡ false
-    → by_ace (position_from test n (a ∷ rest)) (find test (a ∷ rest)) ≡ by_ace (position_from test (n + 1) rest) (find test rest)
+    → by_ace (position_from test n (a ∷ rest)) (find test (a ∷ rest))
+    ≡ by_ace (position_from test (n + 1) rest) (find test rest)
 passed_by test a rest n h = rw h refl
 
 pub decided_here : (test : AccessControlEntry → Bool) (a : AccessControlEntry) (rest : List AccessControlEntry) (n : ℕ)
@@ -208,7 +211,8 @@ pub by_first-start : (test : AccessControlEntry → Bool) (aces : List AccessCon
 by_first-start test aces = ap (λ (o : Option ℕ). by_ace o (find test aces)) (position_from-zero test aces)
 
 -- the undecided rights have the reason that the ACEs from this place on give
-abbrev pub LeavesReasons : Descriptor → List Entry → Asked → List AccessControlEntry → ℕ → List AccessControlEntry → ℕ → Type 0
+abbrev pub LeavesReasons : Descriptor → List Entry → Asked → List AccessControlEntry → ℕ → List AccessControlEntry
+    → ℕ → Type 0
 LeavesReasons d t ask all place rest u =
     (right : ℕ) → carries u right ≡ true
     → by_first (decides right d t ask) all
@@ -288,8 +292,8 @@ carries-ungranted : (d : Descriptor) (t : List Entry) (ask : Asked) (right : ℕ
 unfolding without_ace_mask
 carries-ungranted d t ask right below = carries-without_ace d t (all_asked ask) right below (λ one. refl)
 
-carries-refused : (d : Descriptor) (holder : Holder) (ask : Asked) (p right : ℕ) → p ≡ permitted_mask d holder ask → p < 2 ^ 32
-    → right < 25
+carries-refused : (d : Descriptor) (holder : Holder) (ask : Asked) (p right : ℕ)
+    → p ≡ permitted_mask d holder ask → p < 2 ^ 32 → right < 25
     → carries (bit_and 0xff_ffff (2 ^ 32 - 1 - p)) right
     ≡ (carries 0xff_ffff right && not (eqb right 24 || label_allows right d holder ask))
 carries-refused d holder ask p right is wide below =
@@ -304,8 +308,8 @@ in_order : (l o w security take open_dacl owned allowed : Bool) (label by : Reas
     (cond (open_dacl && not l) reason.NoDacl
     (cond (cond l security (open_dacl || (o && owned) || (w && take)) && (w || l)) reason.Privilege
     (cond (cond l security (open_dacl || (o && owned) || (w && take)) && o) reason.Owner
-    (cond (((not l || false) && (l || allowed)) && not (cond l security (open_dacl || (o && owned) || (w && take)) || l))
-    by reason.Nothing))))
+    (cond (((not l || false) && (l || allowed))
+    && not (cond l security (open_dacl || (o && owned) || (w && take)) || l)) by reason.Nothing))))
     ≡ cond l (cond security reason.Privilege reason.Nothing)
     (cond (not allowed) label
     (cond open_dacl reason.NoDacl (cond (o && owned) reason.Owner (cond (w && take) reason.Privilege by))))
@@ -342,8 +346,8 @@ pub reason_is : (d : Descriptor) (holder : Holder) (ask : Asked) (p right : ℕ)
     (cond (carries (mask_if (is_open d.dacl) 0xff_ffff) right) reason.NoDacl
     (cond (carries (bit_and (without_ace_mask 0xff_ffff d holder.entries ask) 0x108_0000) right) reason.Privilege
     (cond (carries (bit_and (without_ace_mask 0xff_ffff d holder.entries ask) 0x6_0000) right) reason.Owner
-    (cond (carries (open_rights d holder ask) right) (by_first (decides right d holder.entries ask) (listed_aces d.dacl))
-    reason.Nothing))))
+    (cond (carries (open_rights d holder ask) right)
+    (by_first (decides right d holder.entries ask) (listed_aces d.dacl)) reason.Nothing))))
     ≡ reason_of right d holder ask
 unfolding reason_of
 reason_is d holder ask p right is wide below =
@@ -358,8 +362,8 @@ reason_is d holder ask p right is wide below =
       owners right below,
       privileged right below,
     )
-    (in_order (eqb right 24) (eqb right 17 || eqb right 18) (eqb right 19) ask.security ask.take_ownership (is_open d.dacl)
-    (is_owned d holder.entries) (label_allows right d holder ask) (reason.Label (label_place d))
+    (in_order (eqb right 24) (eqb right 17 || eqb right 18) (eqb right 19) ask.security ask.take_ownership
+    (is_open d.dacl) (is_owned d holder.entries) (label_allows right d holder ask) (reason.Label (label_place d))
     (by_first (decides right d holder.entries ask) (listed_aces d.dacl)) (not_owners right) (not_write_owner right))
 
 same_reasons : (xs ys : List Reason) → length xs ≡ length ys
@@ -567,7 +571,8 @@ pub reasons_scan-le : (d : Descriptor) (holder : Holder) (ask : Asked)
     → scan_need (open_rights d holder ask) d holder.entries ask (listed_aces d.dacl) ≤ reasons_need d holder ask
 unfolding scan_need reasons_need all_below
 reasons_scan-le d holder ask =
-    least_mono (length (listed_aces d.dacl)) (λ k. all_below 25 (open_is_decided k)) (λ k. all_below 24 (reason_is_known k))
+    least_mono (length (listed_aces d.dacl)) (λ k. all_below 25 (open_is_decided k))
+    (λ k. all_below 24 (reason_is_known k))
     (λ k all. and_from (open_is_decided k 24) (all_below 24 (open_is_decided k)) (last k)
     (all_below_mono 24 (open_is_decided k) (reason_is_known k) (step k) all))
   where
@@ -585,9 +590,11 @@ reasons_scan-le d holder ask =
     step : (k i : ℕ) → i < 24 → reason_is_known k i ≡ true → open_is_decided k i ≡ true
     step k i below known =
         rw (carries-open d holder ask i (omega arith), ne_eqb i 24 (λ e. omega (arith, e)))
-        (have_reason (carries 0xff_ffff i) ask.security (label_allows i d holder ask) (needs_no_ace i d holder.entries ask)
+        (have_reason (carries 0xff_ffff i) ask.security (label_allows i d holder ask)
+        (needs_no_ace i d holder.entries ask)
         (list_any (decides i d holder.entries ask) (take k (listed_aces d.dacl))) known)
 
-pub reasons_need-le : (d : Descriptor) (holder : Holder) (ask : Asked) → reasons_need d holder ask ≤ length (listed_aces d.dacl)
+pub reasons_need-le : (d : Descriptor) (holder : Holder) (ask : Asked)
+    → reasons_need d holder ask ≤ length (listed_aces d.dacl)
 unfolding reasons_need
 reasons_need-le d holder ask = least_le (length (listed_aces d.dacl)) _

@@ -1,5 +1,5 @@
 -- What each fault means, by its number.
-use Rattle.std.specs.Prelude.{ℕ, List, [], if◌then◌else◌, nat_eq, codes}
+use Rattle.std.specs.Prelude.{ℕ, List, [], ◌++◌, if◌then◌else◌, nat_eq, codes}
 
 -- empty where no fault has the number
 abbrev pub meaning : ℕ → List ℕ
@@ -12,9 +12,13 @@ meaning number =
     else if nat_eq number 6 then codes "the revision of the header is not 1"
     else if nat_eq number 7 then codes "control bit 0x8000 is clear"
     else if nat_eq number 8 then codes "the offset is below 20, or fewer than 8 bytes follow it"
-    else if nat_eq number 9 then codes "the revision of a SID is not 1, its count exceeds 15, or it passes the end of the bytes or of its ACE"
-    else if nat_eq number 10 then codes "the revision of the ACL is not 2 or 4, its size is below 8, or it passes the end of the bytes"
-    else if nat_eq number 11 then codes "fewer than 16 bytes of the ACL are left for an ACE; or its size is below 16, not a multiple of 4 or beyond the ACL; or its object fields and 8 bytes of a SID do not fit in it"
+    else if nat_eq number 9 then codes "the revision of a SID is not 1, its count exceeds 15, or it passes the end "
+    ++ codes "of the bytes or of its ACE"
+    else if nat_eq number 10 then codes "the revision of the ACL is not 2 or 4, its size is below 8, or it passes the"
+    ++ codes " end of the bytes"
+    else if nat_eq number 11 then codes "fewer than 16 bytes of the ACL are left for an ACE; or its size is below 16,"
+    ++ codes " not a multiple of 4 or beyond the ACL; or its object fields and 8 bytes of "
+    ++ codes "a SID do not fit in it"
     else if nat_eq number 12 then codes "the type of an ACE is not supported"
     else if nat_eq number 13 then codes "an ACE has flag 0x20"
     else if nat_eq number 14 then codes "two parts share a byte"

@@ -25,7 +25,8 @@ pub fn meaning(number: u32) -> &'static str
         10 =>
             "the revision of the ACL is not 2 or 4, its size is below 8, or it passes the end of the bytes",
         11 =>
-            "fewer than 16 bytes of the ACL are left for an ACE; or its size is below 16, not a multiple of 4 or beyond the ACL; or its object fields and 8 bytes of a SID do not fit in it",
+            "fewer than 16 bytes of the ACL are left for an ACE; or its size is below 16, not a multiple of 4 or \
+             beyond the ACL; or its object fields and 8 bytes of a SID do not fit in it",
         12 => "the type of an ACE is not supported",
         13 => "an ACE has flag 0x20",
         14 => "two parts share a byte",

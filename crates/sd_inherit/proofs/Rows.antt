@@ -423,7 +423,8 @@ from_creator place inherit_only = record { place = place; from_creator = true; i
 from_parent : ℕ → Bool → AceOrigin
 from_parent place inherit_only = record { place = place; from_creator = false; inherit_only = inherit_only }
 
--- Two equal ACEs have origins of their own, and an ACE that gives nothing has a place. The last one is to hand on alone.
+-- Two equal ACEs have origins of their own, and an ACE that gives nothing has a place. The last one is to hand on
+-- alone.
 origins_in_a_container : new_origins Dacl
     (parent acl.Absent (acl.List (ace kinds.Allow 0x0 0x1 users ∷ ace kinds.Allow 0x2 0x8000_0000 users
     ∷ ace kinds.Allow 0x2 0x8000_0000 users ∷ ace kinds.Allow 0x4 0x1 users ∷ ace kinds.Allow 0x1 0x1 users ∷ [])))

@@ -22,7 +22,8 @@ pub answers-push : (task : Task) (holder : Holder) (all : List (List ℕ)) (line
 answers-push task holder all line = answers-append task holder all (line ∷ [])
     ∙ ap (λ l. answers task holder all ++ l) (answers-one task holder line)
 
-pub errors-append : (task : Task) (holder : Holder) (all more : List (List ℕ)) → errors task holder (all ++ more) ≡ errors task holder all + errors task holder more
+pub errors-append : (task : Task) (holder : Holder) (all more : List (List ℕ))
+    → errors task holder (all ++ more) ≡ errors task holder all + errors task holder more
 unfolding errors
 errors-append task holder all more = sum_by-append (λ line. cond (is_error task holder line) 1 0) all more
 

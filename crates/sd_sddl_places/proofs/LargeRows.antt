@@ -1,5 +1,5 @@
--- A DACL that is too large (MS-DTYP 2.4.5, 2.5.1), counted by hand: its header has 8 bytes, and each of its ACEs 20, for
--- 10 bytes of text. With 3,276 of them it has 65,528 bytes, and with one more 65,548.
+-- A DACL that is too large (MS-DTYP 2.4.5, 2.5.1), counted by hand: its header has 8 bytes, and each of its ACEs 20,
+-- for 10 bytes of text. With 3,276 of them it has 65,528 bytes, and with one more 65,548.
 use Rattle.std.proofs.Common.{◌≡◌, ◌≤◌, ℕ, zero, suc, ◌+◌, ◌*◌, Bool, true, false, List, [], ◌∷◌, ◌++◌, codes, length}
 use Rattle.std.proofs.Common.{Option, Some, None, refl, sym, ap, ◌∙◌, arith}
 use Rattle.std.specs.Prelude.{◌&&◌, nat_lt, if◌then◌else◌}
@@ -15,8 +15,8 @@ use Rattle.sd_rights.specs.Rights.{rights_reads}
 use Rattle.sd_sid.specs.SidText.{letters_read, sid_reads}
 use Rattle.sd_text.specs.Names.{run_of}
 use Rattle.sd_sddl_fields.specs.FieldTexts.{front_reads, kind_reads, object_reads}
-use Rattle.sd_sddl_builder.specs.Line.{Piece, Section, Sections, ace, byte, are_aces, is_paired, is_shaped, pieces_from, sections}
-use Rattle.sd_sddl_builder.specs.Line.{are_shaped, is_acl_body, is_blank_piece, sections_of}
+use Rattle.sd_sddl_builder.specs.Line.{Piece, Section, Sections, ace, byte, are_aces, is_paired, is_shaped}
+use Rattle.sd_sddl_builder.specs.Line.{pieces_from, sections, are_shaped, is_acl_body, is_blank_piece, sections_of}
 use Rattle.sd_sddl_builder.specs.declared.fault.SddlFault.{SddlFault}
 use Rattle.sd_sddl_builder.specs.declared.fault.SddlFault.TheVariants as fault
 use Rattle.sd_sddl_builder.specs.declared.slot.Head.TheVariants as head
@@ -99,8 +99,8 @@ placed-parts n = ap (λ (s : Sections). placed (pieces_size s.before) s.parts) (
 -- 2. All of its fields read.
 
 no-faults : (number at n : ℕ) → first_faulty None (fields_in_aces Dacl (aces_from number at (pieces n)) ++ []) ≡ None
-unfolding pieces inside kind_entry kind_letters kind_named kind_reads object_reads flags_reads rights_reads run_of sid_reads
-    letters_read
+unfolding pieces inside kind_entry kind_letters kind_named kind_reads object_reads flags_reads rights_reads run_of
+    sid_reads letters_read
 no-faults number at zero = refl
 no-faults number at (suc n) = no-faults (number + 1) (at + 10) n
 
@@ -123,7 +123,8 @@ pieces-more (suc j) n m e =
 
 passed : (j n number at size number' at' size' : ℕ) → number' ≡ number + j → at' ≡ at + 10 * j → size' ≡ size + 20 * j
     → size' ≤ 65535
-    → passing None size (aces_from number at (more j (pieces n))) ≡ passing None size' (aces_from number' at' (pieces n))
+    → passing None size (aces_from number at (more j (pieces n)))
+    ≡ passing None size' (aces_from number' at' (pieces n))
 unfolding more inside kind_entry kind_letters kind_named kind_reads object_reads sid_reads letters_read
 passed zero n number at size number' at' size' e f g fits =
     let a : number ≡ number' = omega (arith, e) in
@@ -141,7 +142,8 @@ passed (suc j) n number at size number' at' size' e f g fits =
 
 by-faults : (n : ℕ) → place_in_parts None (parts (suc n)) ≡ first_large None (parts (suc n))
 unfolding parts
-by-faults n = ap (λ (o : Option (SddlFault × FaultPlace)). option_or o (first_large None (parts (suc n)))) (none-faulty n)
+by-faults n =
+    ap (λ (o : Option (SddlFault × FaultPlace)). option_or o (first_large None (parts (suc n)))) (none-faulty n)
 
 in-parts : (n : ℕ) → place_of_sddl_fault (dacl_text (suc n)) None ≡ first_large None (parts (suc n))
 in-parts n =
@@ -152,8 +154,10 @@ in-parts n =
 
 found : Option PlacedAce → Option (SddlFault × FaultPlace)
 found o =
-    option_or (option_map (λ a. (fault.AclTooLarge which.Dacl, place (Some Dacl) (Some a.number) None a.at (length a.text + 2)))
-    o) None
+    option_or (option_map (λ a. (
+      fault.AclTooLarge which.Dacl,
+      place (Some Dacl) (Some a.number) None a.at (length a.text + 2),
+    )) o) None
 
 -- what 3,276 ACEs leave of a text that may have others behind them
 behind-them : (n m : ℕ) → m ≡ 3276 + n

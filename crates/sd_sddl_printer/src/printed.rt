@@ -66,7 +66,6 @@ pub fn print_sddl<P: Print>(view: &SdView<'_>, domain: Option<&Sid>, numeric: bo
     print_parts(&naming, view, out);
 }
 
-#[tactic(auto, unfolding(crate::specs::Printed::sddl, crate::specs::Printed::owner_text, crate::specs::Printed::group_text, crate::specs::Printed::dacl_text, crate::specs::Printed::sacl_text))]
 fn print_parts<P: Print>(naming: &Naming, view: &SdView<'_>, out: &mut P)
     ensures printed { Prints (P.told out.old) (P.told out.new) (sddl naming.now view.now) }
     ensures limits { IsDescriptor view.now }

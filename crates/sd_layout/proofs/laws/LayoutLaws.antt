@@ -19,8 +19,8 @@ use Rattle.sd_parts.specs.declared.part.Parts.{Parts}
 use Rattle.sd_view.specs.declared.acl_part.AclPart.{AclPart}
 use Rattle.sd_view.specs.declared.acl_part.AclPart.TheVariants as acl
 use Rattle.sd_view.proofs.laws.ApartLaws.{six-apart}
-use Rattle.sd_view.proofs.laws.LayoutSizes.{acl_size-read, length-acl_part, length-header, length-layout, length-sid_part}
-use Rattle.sd_view.proofs.laws.LayoutSizes.{size-most}
+use Rattle.sd_view.proofs.laws.LayoutSizes.{acl_size-read, length-acl_part, length-header, length-layout}
+use Rattle.sd_view.proofs.laws.LayoutSizes.{length-sid_part, size-most}
 use Rattle.sd_view.proofs.laws.Places.{after, not-zero, offset-stands}
 use Rattle.sd_layout.proofs.laws.AclLayoutLaws.{acl_bytes-shows}
 
@@ -38,11 +38,14 @@ module _ (rm control : ℕ) (o : Parts ℕ) (rest : List ℕ) where
   unfolding u16_at header_bytes
   header-control h =
       little_number-reads_back 2 control
-      (little_bytes 4 o.owner ++ (little_bytes 4 o.group ++ (little_bytes 4 o.sacl ++ (little_bytes 4 o.dacl ++ rest)))) h
+      (little_bytes 4 o.owner
+      ++ (little_bytes 4 o.group ++ (little_bytes 4 o.sacl ++ (little_bytes 4 o.dacl ++ rest)))) h
 
   pub header-owner : o.owner < 2 ^ 32 → u32_at 4 (header_bytes rm control o ++ rest) ≡ o.owner
   unfolding u32_at header_bytes
-  header-owner h = little_number-reads_back 4 o.owner (little_bytes 4 o.group ++ (little_bytes 4 o.sacl ++ (little_bytes 4 o.dacl ++ rest))) h
+  header-owner h =
+      little_number-reads_back 4 o.owner
+      (little_bytes 4 o.group ++ (little_bytes 4 o.sacl ++ (little_bytes 4 o.dacl ++ rest))) h
 
   pub header-group : o.group < 2 ^ 32 → u32_at 8 (header_bytes rm control o ++ rest) ≡ o.group
   unfolding u32_at header_bytes
