@@ -11,6 +11,16 @@ use sd_sid::Sid;
 use std::marker::Model;
 use uuid::Uuid;
 
+/// What an ACE has before its SID (MS-DTYP 2.4.4).
+#[derive(Clone, Copy)]
+pub struct AceFields {
+    pub kind: AceKind,
+    pub flags: u8,
+    pub mask: u32,
+    pub object: Option<Uuid>,
+    pub inherited: Option<Uuid>,
+}
+
 /// An access control entry (MS-DTYP 2.4.4) of which GUIDs and SID stand elsewhere, so that they are not copied before
 /// they are written.
 #[derive(Drop)]
@@ -44,33 +54,28 @@ impl<'a> Model for AceParts<'a> {
 }
 
 impl<'a> AceParts<'a> {
-    /// The ACE of these parts.
+    /// The ACE of these fields for a trustee.
     #[inline(always)]
-    pub fn new(
-        kind: AceKind,
-        flags: u8,
-        mask: u32,
-        object: &'a Option<Uuid>,
-        inherited: &'a Option<Uuid>,
-        sid: &'a Sid,
-    ) -> AceParts<'a>
-        requires clear { flags / 0x20 % 2 ≡ 0 }
-        requires fit { GuidsFit (is_object kind) object.now inherited.now }
+    pub fn new(fields: &'a AceFields, sid: &'a Sid) -> AceParts<'a>
+        requires clear { fields.now.flags / 0x20 % 2 ≡ 0 }
+        requires fit { GuidsFit (is_object fields.now.kind) fields.now.object fields.now.inherited }
         ensures { result ≡ record {
-          kind = kind;
-          flags = flags;
-          mask = mask;
-          object = object.now;
-          inherited = inherited.now;
+          kind = fields.now.kind;
+          flags = fields.now.flags;
+          mask = fields.now.mask;
+          object = fields.now.object;
+          inherited = fields.now.inherited;
           sid = sid.now;
         } }
     {
+        // Read, so that the limits of their types are known.
+        let (flags, mask) = (fields.flags, fields.mask);
         AceParts {
-            kind,
+            kind: fields.kind,
             flags,
             mask,
-            object,
-            inherited,
+            object: &fields.object,
+            inherited: &fields.inherited,
             sid,
         }
     }

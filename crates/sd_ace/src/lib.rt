@@ -10,7 +10,7 @@ mod guid;
 pub use ace::{Ace, UNUSED_FLAG};
 pub use ace_front::{AceFront, FRONT_SIZE, OBJECT_FRONT_SIZE, object_flags};
 pub use ace_head::AceHead;
-pub use ace_parts::AceParts;
+pub use ace_parts::{AceFields, AceParts};
 pub use guid::{
     GUID_SIZE, GUID_TEXT_SIZE, guid_bytes, guid_from_text, guid_read, print_guid, put_guid,
 };

@@ -1,6 +1,6 @@
 -- Worked rows of lines and answers, computed.
 use Rattle.std.proofs.Common.{◌≡◌, ◌∙◌, ℕ, ◌+◌, ◌*◌, ◌-◌, ◌/◌, ◌^◌, List, [], ◌∷◌, ◌++◌, Option, Some, None, Ok, Err}
-use Rattle.std.proofs.Common.{true, false, codes, ap, drop, length, min, refl, replicate, sym, arith}
+use Rattle.std.proofs.Common.{true, false, codes, ap, drop, length, min, refl, sym, arith}
 use Rattle.std.specs.Fmt.{digits}
 use Rattle.std.specs.Prelude.{map}
 use Rattle.base64.proofs.OnLiterals.{base64_on_literals}
@@ -9,7 +9,6 @@ use Rattle.sd_text.specs.Limits.{most_base64_text, most_hex_text, most_sddl_text
 use Rattle.sd_sid.specs.Sid.{SecurityId, sid_at}
 use Rattle.sd_sid.specs.SidText.{alias_of, has_form, letters_read, numbers_read, sid_reads}
 use Rattle.sd_sid.specs.declared.sid_text.SidFault.TheVariants as sid
-use Rattle.sd_buffer.specs.declared.buffer.TextFault.TheVariants as text
 use Rattle.sd_parts.specs.declared.part.Which.TheVariants as which
 use Rattle.sd_inherit.specs.Derived.{derive_fault, derived}
 use Rattle.sd_inherit.specs.declared.derivation.DeriveFault.TheVariants.{DerivedTooLarge}
@@ -19,12 +18,10 @@ use Rattle.sd_sddl_builder.specs.Meaning.{body_reads, means}
 use Rattle.sd_sddl_builder.specs.declared.fault.SddlFault.TheVariants as sddl
 use Rattle.sd_parts.specs.declared.limits.TheConstants.{CAPACITY}
 use Rattle.sd_parts.specs.Header.{header_bytes}
-use Rattle.sd_parts.specs.declared.part.Part.TheVariants as part
 use Rattle.sd_buffer.specs.Text.{base64_spells, hex_spells}
 use Rattle.sd_acl_view.specs.Bytes.{u16_at, u32_at}
 use Rattle.sd_view.specs.Reading.{acl_part_fault, acl_shown, fault, header_fault, overlap_fault, overlaps_fault}
 use Rattle.sd_view.specs.Reading.{parts_fault, reading, sid_fault, sid_shown}
-use Rattle.sd_view.specs.declared.fault.SdFault.TheVariants as sd
 use Rattle.sd_view.specs.declared.acl_part.AclPart.TheVariants as acl
 use Rattle.sd_view.specs.Descriptor.{Descriptor}
 use Rattle.sd_explain.specs.Explain.{control_line, explain, rm_line, sid_line, sid_words}
@@ -39,13 +36,12 @@ use Rattle.sd_check.specs.Granted.{granted}
 use Rattle.sd_check.specs.Verdict.{missing, rights_below, verdict, won}
 use Rattle.sd_answer.specs.Answer.{act_outcome, answer, bound, form_text, is_error, line_limit, line_means, output_of}
 use Rattle.sd_answer.specs.Answer.{printed_size, text_means, verdict_text}
-use Rattle.sd_faults.specs.FaultNames.{fault_name}
 use Rattle.sd_faults.specs.Faults.{fault_text}
 use Rattle.sd_answer.specs.Inner.Reading.{HasRead}
 use Rattle.sd_answer.specs.LineEnd.{without_cr}
 use Rattle.sd_answer.specs.LineInHand.{Holds, HoldsText, PutsAnswer, pending}
 use Rattle.sd_answer.specs.declared.line.Line.{Line}
-use Rattle.sd_faults.specs.declared.line_fault.LineFault.TheVariants.{Derive, Sd, Sddl, Text, TooLong}
+use Rattle.sd_faults.specs.declared.line_fault.LineFault.TheVariants.{Sddl, TooLong}
 use Rattle.sd_answer.specs.declared.job.Act.{Act}
 use Rattle.sd_answer.specs.declared.job.Act.TheVariants.{Check, Convert, Derive as DeriveAct, Explain}
 use Rattle.sd_answer.specs.declared.job.Form.{Form}

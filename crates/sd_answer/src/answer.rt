@@ -28,7 +28,7 @@ use sd_builder::write_layout;
 use sd_check::{Verdict, check};
 use sd_explain::print_explain;
 use sd_faults::{LineFault, print_fault};
-use sd_inherit::{Plan, derive};
+use sd_inherit::derive;
 use sd_sddl_printer::print_sddl;
 use sd_sink::{Gather, Print, Sink, SinkFault};
 use sd_text::print_hex;
@@ -207,7 +207,15 @@ fn print_act<P: Print>(
             print_verdict(check(view, token, &ask), out);
             print_end(false, out)
         }
-        Act::Derive(plan, form) => print_derived(task, view, &plan, form, stores, out),
+        Act::Derive(plan, form) => {
+            match derive(view, task.creator.as_ref(), &plan, &mut stores.written) {
+                Ok(()) => {
+                    print_written(job, form, stores, out);
+                    print_end(false, out)
+                }
+                Err(fault) => print_error(&LineFault::Derive(fault), out),
+            }
+        }
     }
 }
 
@@ -264,30 +272,6 @@ fn print_as_sddl<P: Print>(job: &Job, view: &SdView<'_>, out: &mut P)
     ensures { Prints (P.told out.old) (P.told out.new) (sddl (naming_of job.now) view.now) }
 {
     print_sddl(view, job.domain.as_ref(), job.numeric, out);
-}
-
-// Prints the descriptor of a new object in a form, or why there is none.
-fn print_derived<P: Print>(
-    task: &Task<'_>,
-    parent: &SdView<'_>,
-    plan: &Plan,
-    form: OutputForm,
-    stores: &mut Stores,
-    out: &mut P,
-) -> bool
-    ensures { PrintsAnswer (P.told out.old) (P.told out.new)
-        (unless_too_large (derive_fault parent.now task.now.creator plan.now)
-        (converted task.now.job form (derived parent.now task.now.creator plan.now))).text
-        (unless_too_large (derive_fault parent.now task.now.creator plan.now)
-        (converted task.now.job form (derived parent.now task.now.creator plan.now))).is_error result }
-{
-    match derive(parent, task.creator.as_ref(), plan, &mut stores.written) {
-        Ok(()) => {
-            print_written(&task.job, form, stores, out);
-            print_end(false, out)
-        }
-        Err(fault) => print_error(&LineFault::Derive(fault), out),
-    }
 }
 
 // Prints what a descriptor has, on lines that each have an LF already.

@@ -91,24 +91,7 @@ pub fn run_at_most<R: Source, W: Drain>(
 {
     // The creator's descriptor is read once, before the lines.
     let task = Task::new(engine.job, &engine.creator);
-    run_task(&task, &mut engine.state, token, source, drain, most)
-}
-
-// A run over the engine's parts.
-fn run_task<R: Source, W: Drain>(
-    task: &Task<'_>,
-    state: &mut RunState,
-    token: &mut Token,
-    source: &mut R,
-    drain: &mut W,
-    most: u64,
-) -> Result<Report, RunFault>
-    requires { most ≤ 2 ^ 40 }
-    ensures outcome { Outcome most task.now
-        (record { token = token.old; source = R.told source.old; drain = W.told drain.old })
-        (record { token = token.new; source = R.told source.new; drain = W.told drain.new }) result }
-    ensures holder { token.new.holder ≡ token.old.holder }
-{
+    let state = &mut engine.state;
     state.line.start(&task.job);
     state.report = Report {
         lines: 0,
@@ -118,10 +101,10 @@ fn run_task<R: Source, W: Drain>(
     for turn in 0..most {
         let n = read_piece(source, &mut buf)?;
         if n == 0 {
-            close(task, state, token, drain)?;
+            close(&task, state, token, drain)?;
             return Ok(state.report);
         }
-        answer_piece(task, state, &buf[..n], token, drain)?;
+        answer_piece(&task, state, &buf[..n], token, drain)?;
     }
     Err(RunFault::TooManyReads)
 }

@@ -16,7 +16,7 @@ use Rattle.sd_sddl_fields.specs.FieldTexts.{object_reads}
 use Rattle.sd_sddl_builder.specs.Meaning.{control_flags, unless_large}
 use Rattle.sd_sddl_builder.specs.FieldReading.{AreAceFields, BuildsParts, HasReadFields}
 use Rattle.sd_parts.specs.declared.control.AclFlags.{AclFlags}
-use Rattle.sd_sddl_builder.specs.declared.reading.AceFields.{AceFields}
+use Rattle.sd_ace.specs.declared.ace_parts.AceFields.{AceFields}
 use Rattle.sd_sddl_fields.specs.declared.field_texts.AclFront.{AclFront}
 use Rattle.sd_parts.specs.declared.part.Which.{Which}
 use Rattle.sd_sddl_builder.specs.declared.reading.FieldReader.{FieldReader}

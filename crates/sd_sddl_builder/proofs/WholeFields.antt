@@ -6,7 +6,7 @@ use Rattle.sd_sid.specs.SidText.{sid_reads}
 use Rattle.sd_kinds.specs.Flags.{flags_reads}
 use Rattle.sd_rights.specs.Rights.{rights_reads}
 use Rattle.sd_sddl_fields.specs.FieldTexts.{kind_reads}
-use Rattle.sd_sddl_builder.specs.declared.reading.AceFields.{AceFields}
+use Rattle.sd_ace.specs.declared.ace_parts.AceFields.{AceFields}
 use Rattle.sd_sddl_builder.specs.declared.reading.FieldReader.{FieldReader}
 use Rattle.sd_sddl_builder.specs.FoldedReading.{FieldsRead, take_ace_field, take_field, with_trustee}
 use Rattle.sd_sddl_builder.specs.FieldReading.{AreAceFields}

@@ -17,7 +17,7 @@ use Rattle.sd_sddl_builder.specs.declared.slot.Head.TheVariants as head
 use Rattle.sd_parts.specs.declared.part.SidPart.TheVariants as sid_part
 use Rattle.sd_sddl_builder.specs.declared.slot.Slot.{Slot}
 use Rattle.sd_sddl_builder.specs.declared.slot.Slot.TheVariants as slot
-use Rattle.sd_sddl_builder.specs.declared.reading.AceFields.{AceFields}
+use Rattle.sd_ace.specs.declared.ace_parts.AceFields.{AceFields}
 use Rattle.sd_sddl_builder.specs.declared.reading.FieldReader.{FieldReader}
 
 -- the part of a head is not given yet

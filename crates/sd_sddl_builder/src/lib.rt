@@ -11,4 +11,4 @@ pub use fault::SddlFault;
 pub use kept::KeptDomains;
 pub use name::front_name;
 pub use reading::{FieldReader, fault_of};
-pub use slot::{AceField, Head, Slot};
+pub use slot::{AceField, Head, Slot, next_field};

@@ -1,6 +1,6 @@
 //! The fields of a line, read one after the other.
 
-ghost use Rattle.std.specs.Prelude.{◌≡◌, ◌/◌, ◌%◌, Option, Ok, None, false, MatchOption};
+ghost use Rattle.std.specs.Prelude.{◌≡◌, Option, Ok, None, false, MatchOption};
 ghost use Rattle.sd_builder.specs.Trustee.{IsTrustee, trustee_sid};
 ghost use Rattle.sd_sid.specs.SidText.{sid_reads};
 ghost use Rattle.sd_sddl_builder.specs.FoldedReading.{FieldsRead, fault_of, plain_fields, no_fields, take_ace_field};
@@ -14,7 +14,7 @@ use crate::fault::SddlFault;
 use crate::kept::KeptDomains;
 use crate::name::front_name;
 use crate::slot::{AceField, Slot};
-use sd_ace::{AceHead, AceParts};
+use sd_ace::{AceFields, AceHead, AceParts};
 use sd_buffer::SdBuf;
 use sd_builder::{Builder, Trustee};
 use sd_kinds::{AceKind, flags_from_text};
@@ -25,17 +25,6 @@ use sd_sddl_fields::{
     front_rights, object_from_text,
 };
 use sd_sid::{Sid, SidFault};
-use uuid::Uuid;
-
-/// The fields of an ACE before its SID.
-#[derive(Clone, Copy)]
-pub struct AceFields {
-    pub kind: AceKind,
-    pub flags: u8,
-    pub mask: u32,
-    pub object: Option<Uuid>,
-    pub inherited: Option<Uuid>,
-}
 
 /// Reads fields, and builds the descriptor in a buffer beside it.
 #[derive(Drop)]
@@ -216,7 +205,7 @@ impl FieldReader {
     }
 
     // A field of the ACE at hand.
-    #[tactic(auto, unfolding(crate::specs::FoldedReading::take_ace_field, sd_sddl_fields::specs::FieldTexts::kind_reads))]
+    #[tactic(auto, unfolding(crate::specs::FoldedReading::take_ace_field))]
     fn take_ace_field(
         &mut self,
         buf: &mut SdBuf,
@@ -283,7 +272,7 @@ impl FieldReader {
         };
         // Most ACEs have no object types.
         if let Some(rest) = after(rest, b";;") {
-            if let Some(behind) = self.end_usual(buf, kind, flags, mask, rest) {
+            if let Some(behind) = self.end_usual(buf, AceHead::new(kind, flags, mask), rest) {
                 return Some(behind);
             }
             let after = self.end_ace(buf, start, rest)?;
@@ -335,24 +324,22 @@ impl FieldReader {
         }
     }
 
-    // The same without object types, where the SID is an account or has a name everywhere. Most ACEs are such.
+    // The same for an ACE that begins so and has no object types, where the SID is an account or has a name everywhere.
+    // Most ACEs are such. None too where the kind is an object kind, which has no head.
     #[inline(always)]
     fn end_usual<'a>(
         &mut self,
         buf: &mut SdBuf,
-        kind: AceKind,
-        flags: u8,
-        mask: u32,
+        head: Option<AceHead>,
         text: &'a [u8],
     ) -> Option<&'a [u8]>
-        requires clear { flags / 0x20 % 2 ≡ 0 }
-        requires held { (t : FieldsRead) × HasReadFields self.old buf.old t × IsOpen t.parts }
+        requires { (t : FieldsRead) × HasReadFields self.old buf.old t × IsOpen t.parts }
         ensures read { MatchOption result ((self.new ≡ self.old) × (buf.new ≡ buf.old))
-            (λ rest. EndsAce self.old buf.old (record no_fields { kind = kind; flags = flags; mask = mask }) text.now
-            self.new buf.new rest.now) }
+            (λ rest. MatchOption head ⊥
+            (λ h. EndsAce self.old buf.old (plain_fields h) text.now self.new buf.new rest.now)) }
         ensures domain { self.new.domain ≡ self.old.domain }
     {
-        let head = AceHead::new(kind, flags, mask)?;
+        let head = head?;
         if text.len() < 2 {
             return None;
         }
@@ -386,7 +373,7 @@ impl FieldReader {
     }
 
     // The same for a SID that two letters name everywhere. Its numbers come from the table of names.
-    #[inline(never)]
+    #[inline(always)]
     fn append_named<'a>(
         &mut self,
         buf: &mut SdBuf,
@@ -431,9 +418,8 @@ impl FieldReader {
         if self.large.is_some() {
             return;
         }
-        let f = &self.ace;
         // Each field was read as one of an ACE.
-        let ace = AceParts::new(f.kind, f.flags, f.mask, &f.object, &f.inherited, sid);
+        let ace = AceParts::new(&self.ace, sid);
         if let Err(_) = self.builder.ace_of(buf, &ace) {
             self.large = self.open_acl;
         }

@@ -1,6 +1,7 @@
 //! The parts of an SDDL line, and what its fields are.
 
 ghost use Rattle.std.specs.Prelude.{◌≡◌};
+ghost use Rattle.sd_sddl_builder.specs.FoldedReading.{next_field};
 ghost use Rattle.sd_sddl_builder.specs.Line.{part_of_head};
 
 use sd_parts::{Part, SidPart, Which};
@@ -42,5 +43,18 @@ impl From<Head> for Part {
             Head::Sid(part) => part.into(),
             Head::Acl(which) => which.into(),
         }
+    }
+}
+
+/// The field after this one.
+pub fn next_field(field: AceField) -> AceField
+    ensures { result ≡ next_field field }
+{
+    match field {
+        AceField::Kind => AceField::Flags,
+        AceField::Flags => AceField::Rights,
+        AceField::Rights => AceField::Object,
+        AceField::Object => AceField::Inherited,
+        AceField::Inherited | AceField::Sid => AceField::Sid,
     }
 }

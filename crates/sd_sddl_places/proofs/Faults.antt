@@ -402,10 +402,10 @@ body-fault : (domain : Option SecurityId) (h : Head) (body : List Piece) (at : �
 unfolding body_reads
 body-fault domain (head.Sid p) body at shaped =
     sid-said (sid_field_reads domain (trim (front body))) (sid_said p)
-    ∙ sym (first-cons domain (front_field (sid_part_of p) (slot.Sid p) named.Sid at (front body)) [])
+    ∙ sym (first-cons domain (front_field (sid_part_of p) (slot.Sid p) at (front body)) [])
 body-fault domain (head.Acl w) body at shaped =
     acl-fault domain w body at (acl-six body shaped) (field_reads fault.Flags front_reads (trim (front body)))
-    ∙ sym (first-cons domain (front_field (part_of w) (slot.AclFlags w (has_aces body)) named.Flags at (front body))
+    ∙ sym (first-cons domain (front_field (part_of w) (slot.AclFlags w (has_aces body)) at (front body))
     (fields_in_aces (part_of w) (aces_from 0 at body)))
 
 sections-fault : (domain : Option SecurityId) (ss : List Section) (at : ℕ) → are_shaped ss ≡ true

@@ -295,14 +295,14 @@ before_aces body = take (before_byte 40 body) body
 
 pub sid-body : (domain : Option SecurityId) (at : ℕ) (body : List ℕ) (p : SidPart)
     → first_faulty domain (fields_in_body (head.Sid p) at (pieces_from false body).after)
-    ≡ first_faulty domain (front_field (sid_part_of p) (slot.Sid p) named.Sid at (before_aces body) ∷ [])
+    ≡ first_faulty domain (front_field (sid_part_of p) (slot.Sid p) at (before_aces body) ∷ [])
 sid-body domain at body p =
-    ap (λ (t : List ℕ). first_faulty domain (front_field (sid_part_of p) (slot.Sid p) named.Sid at t ∷ []))
+    ap (λ (t : List ℕ). first_faulty domain (front_field (sid_part_of p) (slot.Sid p) at t ∷ []))
     (front-cut body)
 
 module _ (domain : Option SecurityId) (at : ℕ) (body : List ℕ) (w : Which) where
   abbrev acl_front : List ℕ → Bool → PlacedField
-  acl_front text has = front_field (part_of w) (slot.AclFlags w has) named.Flags at text
+  acl_front text has = front_field (part_of w) (slot.AclFlags w has) at text
 
   abbrev ace_fields : List PlacedField
   ace_fields = fields_in_aces (part_of w) (aces_from 0 at (pieces_from false body).after)

@@ -90,6 +90,11 @@ name_of field.Object = named.ObjectType
 name_of field.Inherited = named.InheritedObjectType
 name_of field.Sid = named.Sid
 
+abbrev pub field_of : Slot → Field
+field_of (slot.Sid p) = named.Sid
+field_of (slot.AclFlags w has_aces) = named.Flags
+field_of (slot.Ace f) = name_of f
+
 abbrev pub ace_field : Part → ℕ → AceKind → ℕ → AceField → List ℕ → PlacedField
 ace_field part number kind at f text = record {
   slot = slot.Ace f;
@@ -126,18 +131,18 @@ abbrev pub blanks_before : List ℕ → ℕ
 blanks_before text = if list_all is_blank text then 0 else blanks_at text
 
 -- what stands in a part before its ACEs, without the blanks at its ends
-abbrev pub front_field : Part → Slot → Field → ℕ → List ℕ → PlacedField
-front_field part s name at text = record {
+abbrev pub front_field : Part → Slot → ℕ → List ℕ → PlacedField
+front_field part s at text = record {
   slot = s;
   kind = kinds.Allow;
   text = trim text;
-  place = place (Some part) None (Some name) (at + blanks_before text) (length (trim text));
+  place = place (Some part) None (Some (field_of s)) (at + blanks_before text) (length (trim text));
 }
 
 abbrev pub fields_in_body : Head → ℕ → List Piece → List PlacedField
-fields_in_body (head.Sid p) at body = front_field (sid_part_of p) (slot.Sid p) named.Sid at (front body) ∷ []
+fields_in_body (head.Sid p) at body = front_field (sid_part_of p) (slot.Sid p) at (front body) ∷ []
 fields_in_body (head.Acl w) at body =
-    front_field (part_of w) (slot.AclFlags w (has_aces body)) named.Flags at (front body)
+    front_field (part_of w) (slot.AclFlags w (has_aces body)) at (front body)
     ∷ fields_in_aces (part_of w) (aces_from 0 at body)
 
 abbrev pub fields_in : List PlacedPart → List PlacedField

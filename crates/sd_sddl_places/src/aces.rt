@@ -13,12 +13,11 @@ ghost use Rattle.sd_sddl_places.specs.Inner.Cutting.{first_ace};
 
 use crate::cutting::{before_byte, behind, until};
 use crate::fields::{name_of, place, slot_fault};
-use crate::shape::next_field;
 use sd_ace::{FRONT_SIZE, GUID_SIZE, OBJECT_FRONT_SIZE};
 use sd_fault_places::FaultPlace;
 use sd_kinds::AceKind;
 use sd_parts::{ACL_HEADER_SIZE, MOST_ACL_SIZE, Part};
-use sd_sddl_builder::{AceField, SddlFault, Slot};
+use sd_sddl_builder::{AceField, SddlFault, Slot, next_field};
 use sd_sddl_fields::object_from_text;
 use sd_sid::Sid;
 

@@ -8,7 +8,7 @@ ghost use Rattle.sd_sddl_fields.specs.FieldTexts.{front_reads, is_blank};
 ghost use Rattle.sd_sddl_places.specs.Inner.Faults.{flags_fault};
 ghost use Rattle.sd_sid.specs.SidText.{sid_reads};
 ghost use Rattle.sd_sddl_builder.specs.Meaning.{is_unreadable, sid_or_fault};
-ghost use Rattle.sd_sddl_places.specs.Fields.{ace_field_fault, name_of, place, slot_fault};
+ghost use Rattle.sd_sddl_places.specs.Fields.{ace_field_fault, field_of, name_of, place, slot_fault};
 
 use sd_fault_places::{ByteRange, FaultPlace, Field};
 use sd_kinds::{AceKind, flags_from_text};
@@ -100,6 +100,17 @@ fn unless(reads: bool, fault: SddlFault) -> Option<SddlFault>
     ensures { result ≡ (if reads then None else Some fault) }
 {
     if reads { None } else { Some(fault) }
+}
+
+/// The field that a slot has.
+pub(crate) fn field_of(slot: Slot) -> Field
+    ensures { result ≡ field_of slot }
+{
+    match slot {
+        Slot::Sid(_) => Field::Sid,
+        Slot::AclFlags(_, _) => Field::Flags,
+        Slot::Ace(field) => name_of(field),
+    }
 }
 
 pub(crate) fn name_of(field: AceField) -> Field

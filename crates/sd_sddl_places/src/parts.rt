@@ -12,8 +12,8 @@ ghost use Rattle.sd_sddl_places.specs.Inner.Cutting.{before_byte, parts_at};
 
 use crate::aces::{aces_fault, first_ace, passing};
 use crate::cutting::{before_byte, before_head, behind, front_head, trim, until};
-use crate::fields::{place, slot_fault};
-use sd_fault_places::{FaultPlace, Field};
+use crate::fields::{field_of, place, slot_fault};
+use sd_fault_places::FaultPlace;
 use sd_kinds::AceKind;
 use sd_parts::{Part, Parts};
 use sd_sddl_builder::{Head, SddlFault, Slot};
@@ -130,18 +130,11 @@ fn body_fault(
         (fields_in_body head at (pieces_from false body.now).after) }
 {
     match head {
-        Head::Sid(part) => front_fault(
-            Part::from(part),
-            Slot::Sid(part),
-            Field::Sid,
-            at,
-            body,
-            domain,
-        ),
+        Head::Sid(part) => front_fault(Part::from(part), Slot::Sid(part), at, body, domain),
         Head::Acl(which) => {
             let part = Part::from(which);
             let slot = Slot::AclFlags(which, first_ace(body).is_some());
-            if let Some(found) = front_fault(part, slot, Field::Flags, at, body, domain) {
+            if let Some(found) = front_fault(part, slot, at, body, domain) {
                 return Some(found);
             }
             aces_fault(part, at, body, domain)
@@ -153,17 +146,17 @@ fn body_fault(
 fn front_fault(
     part: Part,
     slot: Slot,
-    name: Field,
     at: usize,
     body: &[u8],
     domain: Option<&Sid>,
 ) -> Option<(SddlFault, FaultPlace)>
     requires small { at + length body.now < 2 ^ 32 }
     ensures { result ≡ first_faulty (option_copied domain.entry)
-        (front_field part slot name at (take (before_byte (char "(") body.now) body.now) ∷ []) }
+        (front_field part slot at (take (before_byte (char "(") body.now) body.now) ∷ []) }
 {
     let (blanks, text) = trim(until(body, before_byte(b'(', body)));
     let fault = slot_fault(slot, AceKind::Allow, text, domain)?;
+    let name = field_of(slot);
     Some((
         fault,
         place(Some(part), None, Some(name), at + blanks, text.len()),

@@ -1,7 +1,6 @@
 //! How far a text goes as a line of SDDL may go.
 
 ghost use Rattle.std.specs.Prelude.{◌≡◌, ◌≤◌, ◌<◌, ◌+◌, ◌^◌, length};
-ghost use Rattle.sd_sddl_builder.specs.FoldedReading.{next_field};
 ghost use Rattle.sd_sddl_builder.specs.Line.{head_of};
 ghost use Rattle.sd_sddl_places.specs.Shape.{at_stand, is_between, is_ended, is_inside, is_last, next_stand, reach};
 ghost use Rattle.sd_sddl_places.specs.Shape.{stand_of, start, step, stop};
@@ -9,7 +8,7 @@ ghost use Rattle.sd_sddl_places.specs.declared.shape.Stand.TheVariants as stand;
 ghost use Rattle.sd_sddl_places.specs.Inner.Counted.{aces_before};
 
 use sd_parts::{SidPart, Which};
-use sd_sddl_builder::{AceField, Head};
+use sd_sddl_builder::{AceField, Head, next_field};
 use sd_sddl_fields::is_blank;
 
 /// Where in a line the next byte is. An ACE has the number of the ACEs before it in its part.
@@ -137,19 +136,6 @@ fn is_last(field: AceField) -> bool
     match field {
         AceField::Sid => true,
         _ => false,
-    }
-}
-
-/// The field after this one.
-pub(crate) fn next_field(field: AceField) -> AceField
-    ensures { result ≡ next_field field }
-{
-    match field {
-        AceField::Kind => AceField::Flags,
-        AceField::Flags => AceField::Rights,
-        AceField::Rights => AceField::Object,
-        AceField::Object => AceField::Inherited,
-        AceField::Inherited | AceField::Sid => AceField::Sid,
     }
 }
 

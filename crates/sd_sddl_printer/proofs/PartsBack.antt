@@ -18,7 +18,7 @@ use Rattle.sd_sddl_builder.specs.declared.slot.Head.TheVariants as head
 use Rattle.sd_parts.specs.declared.part.SidPart.{SidPart}
 use Rattle.sd_sddl_builder.specs.declared.slot.Slot.TheVariants as slot
 use Rattle.sd_sid.specs.declared.naming.Naming.{Naming}
-use Rattle.sd_sddl_builder.specs.declared.reading.AceFields.{AceFields}
+use Rattle.sd_ace.specs.declared.ace_parts.AceFields.{AceFields}
 use Rattle.sd_parts.specs.declared.part.Which.{Which}
 use Rattle.sd_parts.specs.declared.part.Which.TheVariants as which
 use Rattle.sd_builder.specs.Draft.{DraftParts, begun, closed, with_ace, with_acl}

@@ -10,7 +10,6 @@ ghost use Rattle.sd_sddl_fields.specs.FieldTexts.{is_blank};
 ghost use Rattle.sd_sddl_reader.specs.Inner.WholePart.{AccountBefore, FrontBefore, HeadAfter, IsBehindBlanks};
 ghost use Rattle.sd_sddl_reader.specs.Inner.WholePart.{IsPlainText, NamedBefore};
 ghost use Rattle.sd_sddl_builder.specs.Line.{head_of};
-ghost use Rattle.sd_sddl_builder.specs.FoldedReading.{next_field};
 ghost use Rattle.sd_sddl_reader.specs.Inner.Heads.{have_heads};
 ghost use Rattle.sd_sddl_reader.specs.Inner.Progress.{state_of};
 ghost use Rattle.sd_text.specs.Limits.{most_field};
@@ -92,19 +91,6 @@ pub fn state_of(head: Head) -> State
     match head {
         Head::Sid(part) => State::Sid(part),
         Head::Acl(which) => State::AclFlags(which),
-    }
-}
-
-/// The field after this one.
-pub fn next_field(field: AceField) -> AceField
-    ensures { result ≡ next_field field }
-{
-    match field {
-        AceField::Kind => AceField::Flags,
-        AceField::Flags => AceField::Rights,
-        AceField::Rights => AceField::Object,
-        AceField::Object => AceField::Inherited,
-        AceField::Inherited | AceField::Sid => AceField::Sid,
     }
 }
 

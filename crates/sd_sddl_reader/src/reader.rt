@@ -16,10 +16,10 @@ ghost use Rattle.sd_sddl_builder.specs.FieldReading.{CanTake, HasReadFields};
 ghost use Rattle.sd_sddl_reader.specs.Inner.WholePart.{IsPlainText};
 ghost use Rattle.sd_sddl_reader.specs.Inner.Progress.{ended_with, is_inside, is_seen, state_of, with_head};
 
-use crate::line::{State, blanks, head_of, in_field, next_field, plain_outside, state_of};
+use crate::line::{State, blanks, head_of, in_field, plain_outside, state_of};
 use sd_buffer::SdBuf;
 use sd_parts::Parts;
-use sd_sddl_builder::{AceField, FieldReader, Head, SddlFault, Slot, fault_of};
+use sd_sddl_builder::{AceField, FieldReader, Head, SddlFault, Slot, fault_of, next_field};
 use sd_sddl_fields::{FieldText, is_blank, plain_inside};
 use sd_sid::Sid;
 

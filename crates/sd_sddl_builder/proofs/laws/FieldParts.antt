@@ -27,7 +27,7 @@ use Rattle.sd_parts.specs.declared.part.SidPart.{SidPart}
 use Rattle.sd_parts.specs.declared.part.SidPart.TheVariants as sid_part
 use Rattle.sd_sddl_builder.specs.declared.slot.Slot.{Slot}
 use Rattle.sd_sddl_builder.specs.declared.slot.Slot.TheVariants as slot
-use Rattle.sd_sddl_builder.specs.declared.reading.AceFields.{AceFields}
+use Rattle.sd_ace.specs.declared.ace_parts.AceFields.{AceFields}
 use Rattle.sd_sddl_fields.specs.declared.field_texts.AclFront.{AclFront}
 use Rattle.sd_parts.specs.declared.part.Which.{Which}
 use Rattle.sd_parts.specs.declared.part.Which.TheVariants as which

@@ -31,7 +31,7 @@ use Rattle.sd_sddl_builder.specs.declared.fault.SddlFault.TheVariants as fault
 use Rattle.sd_sddl_builder.specs.declared.slot.Head.{Head}
 use Rattle.sd_sddl_builder.specs.declared.slot.Head.TheVariants as head
 use Rattle.sd_parts.specs.declared.part.SidPart.TheVariants as sid_part
-use Rattle.sd_sddl_builder.specs.declared.reading.AceFields.{AceFields}
+use Rattle.sd_ace.specs.declared.ace_parts.AceFields.{AceFields}
 use Rattle.sd_sddl_fields.specs.declared.field_texts.AclFront.{AclFront}
 use Rattle.sd_sddl_builder.proofs.laws.ControlFlags.{flags-stay}
 use Rattle.sd_sddl_fields.proofs.laws.FlagRuns.{or-none}

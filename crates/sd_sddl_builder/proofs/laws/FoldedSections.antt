@@ -36,7 +36,7 @@ use Rattle.sd_sddl_builder.specs.declared.slot.AceField.TheVariants as field
 use Rattle.sd_sddl_builder.specs.declared.slot.Head.{Head}
 use Rattle.sd_sddl_builder.specs.declared.slot.Head.TheVariants as head
 use Rattle.sd_sddl_builder.specs.declared.slot.Slot.TheVariants as slot
-use Rattle.sd_sddl_builder.specs.declared.reading.AceFields.{AceFields}
+use Rattle.sd_ace.specs.declared.ace_parts.AceFields.{AceFields}
 use Rattle.sd_sddl_fields.specs.declared.field_texts.AclFront.{AclFront}
 
 -- 1. One step after the other.

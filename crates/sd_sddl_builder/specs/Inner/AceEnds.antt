@@ -6,7 +6,7 @@ use Rattle.sd_sid.specs.SidText.{sid_reads}
 use Rattle.sd_sddl_builder.specs.FieldReading.{HasReadFields}
 use Rattle.sd_sddl_builder.specs.FoldedReading.{FieldsRead, with_trustee}
 use Rattle.sd_sddl_fields.specs.FieldFronts.{FieldAt, ObjectsAt}
-use Rattle.sd_sddl_builder.specs.declared.reading.AceFields.{AceFields}
+use Rattle.sd_ace.specs.declared.ace_parts.AceFields.{AceFields}
 use Rattle.sd_sddl_builder.specs.declared.reading.FieldReader.{FieldReader}
 
 -- a SID ends the ACE of these fields, which was read

@@ -25,8 +25,20 @@ pub returns-in-Check-clause-compared : goal.returns-in-Check-clause-compared
 returns-in-Check-clause-compared g c =
     rw c.in-Check.is c.check.ensures.bound
 
-pub returns-in-Derive-clause-printed : goal.returns-in-Derive-clause-printed
-returns-in-Derive-clause-printed g c = rw c.in-Derive.is c.print_derived.ensures
+pub returns-in-Ok-clause-printed : goal.returns-in-Ok-clause-printed
+returns-in-Ok-clause-printed g c =
+    rw (c.in-Derive.is, ← c.as_ref.ensures.value, c.in-Ok.ensures.fault) (
+      prints_then (c.print_written.ensures _ c.in-Ok.ensures.shows c.in-Ok.ensures.laid_out)
+          c.print_end-in-Ok.ensures.0,
+      c.print_end-in-Ok.ensures.1,
+    )
 
-pub returns-in-Derive-clause-compared : goal.returns-in-Derive-clause-compared
-returns-in-Derive-clause-compared g c = rw c.in-Derive.is (Compares-none c.args.token.now _)
+pub returns-in-Ok-clause-compared : goal.returns-in-Ok-clause-compared
+returns-in-Ok-clause-compared g c = rw c.in-Derive.is (Compares-none c.args.token.now _)
+
+pub returns-in-Err-clause-printed : goal.returns-in-Err-clause-printed
+returns-in-Err-clause-printed g c =
+    rw (c.in-Derive.is, ← c.as_ref.ensures.value, c.in-Err.ensures.fault) c.print_error.ensures
+
+pub returns-in-Err-clause-compared : goal.returns-in-Err-clause-compared
+returns-in-Err-clause-compared g c = rw c.in-Derive.is (Compares-none c.args.token.now _)

@@ -13,6 +13,11 @@ returns-in-Some-clause-read c = λ t h. (
   rw (c.in-Kind.is, ← c.from_text.ensures.exact, c.in-Some.is, c.no_fields-self.ensures) refl,
 )
 
+pub returns-in_default-clause-read : goal.returns-in_default-clause-read
+unfolding take_ace_field kind_reads
+returns-in_default-clause-read c = λ t h.
+    rw (c.in-Kind.is, ← c.from_text.ensures.exact, c.in_default.is) refl
+
 pub returns-in-Some-flags_from_text-clause-read : goal.returns-in-Some-flags_from_text-clause-read
 unfolding take_ace_field
 returns-in-Some-flags_from_text-clause-read c = λ t h. (

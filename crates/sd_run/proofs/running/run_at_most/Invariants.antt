@@ -1,7 +1,8 @@
 use Rattle.std.proofs.Common.{◌≡◌, ◌≤◌, ◌*◌, length}
 use Rattle.sd_run.specs.Inner.Running.{BeforeRead}
+use Rattle.sd_answer.specs.Answer.{AnswersAreShort}
 use Rattle.sd_answer.specs.LineInHand.{IsReady}
-use Rattle.sd_run.proofs.running.run_task.Given as goal
+use Rattle.sd_run.proofs.running.run_at_most.Given as goal
 
 abbrev pub invariant-loop-turn : goal.invariant-loop-turn
 invariant-loop-turn g l = record {
@@ -18,4 +19,6 @@ invariant-loop-turn g l = record {
   ready : IsReady l.state.line;
   lines_within : l.state.report.lines ≤ 8192 * l.turn;
   faults_within : l.state.report.faults ≤ 8192 * l.turn;
+  same : l.task ≡ l.fn.engine;
+  short : AnswersAreShort l.fn.engine l.fn.token.holder;
 }
