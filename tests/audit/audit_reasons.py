@@ -478,7 +478,29 @@ def test_places_of_texts(place: Place) -> None:
                  f"a folder: {one}")
 
 
-TESTS = (test_random, test_many, test_rows, test_abilities, test_forms, test_places, test_places_of_texts)
+def test_delete(place: Place) -> None:
+    """A file goes by its own right or by its folder's right to delete what is in it, which gives nothing on a file."""
+    ann = f"{audit.DOMAIN}-1105"
+    own, bit, trusted = f"(A;;0x110000;;;{ann})", f"(A;;0x100040;;;{ann})", "(A;OICI;FA;;;BA)"
+    rows = [("C:\\", trusted), ("C:\\Data", f"(A;;0x1000c0;;;{ann})"), ("C:\\Data\\own", own), ("C:\\Data\\child", ""),
+            ("C:\\Data\\bit", bit), ("C:\\Data\\Sub", trusted), ("C:\\Data\\Sub\\bit", bit), ("C:\\Other\\none", ""),
+            ("C:\\Other\\own", own), ("C:\\Bad", "(XA;;FA;;;BA;(x))"), ("C:\\Bad\\none", "")]
+    by_folder = f"ACE 1 (A;;0x1000c0;;;{ann}) of C:\\Data"
+    wanted = ["nothing", "delete children", "delete", by_folder, by_folder, by_folder, "nothing",
+              "its folder isn't in the source", "delete", "the SDDL isn't supported", "its folder can't be read"]
+    source = place.table([(name, f"O:BAG:SYD:{aces}") for name, aces in rows])
+    told = place.objects("can", ann, "delete", source)
+    for one, said in zip(told, wanted):
+        causes = [cause["text"] if cause["text"] == by_folder else found["rights"]
+                  for found in one["findings"] for cause in found["because"]]
+        got = one["reason"] if one["answer"] == "unknown" else ", ".join(causes) or one["answer"]
+        place.expect(got.startswith(said) and len(told) == len(rows), True, f"can delete {one['name']}: {one}")
+    told = place.objects("can", ann, "delete", "-", stdin=(place.folder / source).read_bytes())
+    place.expect([one["name"] for one in told if one["answer"] != "unknown"], ["C:\\Data\\own", "C:\\Other\\own"],
+                 "can delete, of a pipe")
+
+
+TESTS = (test_delete, test_random, test_many, test_rows, test_abilities, test_forms, test_places, test_places_of_texts)
 
 
 def main(count: preload.Count) -> None:

@@ -1,6 +1,7 @@
 """The command line: sdtool-audit."""
 import functools
 import gc
+import os
 from typing import Any, List, Optional, Sequence, Tuple
 
 import click
@@ -8,6 +9,7 @@ import click
 import sdtool
 from sdtool.audit import files, inquiry, library, stopping
 from sdtool.audit.directory import forest
+from sdtool.audit.directory.folders import Folders
 from sdtool.audit.directory.groups import read_groups
 from sdtool.audit.directory.machines import Machines
 from sdtool.audit.directory.tokens import in_words, is_spelled, read_token
@@ -154,6 +156,7 @@ def can(common: Common, token: str, words: Sequence[str], level: Optional[int], 
 
     TOKEN is a file that 'whoami /all', 'id' or a directory's tokenGroups made, a file with a SID in each line, or SIDs
     with commas between them; '!' before one makes it deny-only. A user's SID brings Everyone and Authenticated Users.
+    'delete' asks the folder of a file too, whose right to delete what is in it is enough.
     """
     wanted, paths = _rights_first(words, common)
     check_files(common, paths, [files.Named("the token", token)])
@@ -169,7 +172,17 @@ def can(common: Common, token: str, words: Sequence[str], level: Optional[int], 
     common = common.saying(*holder.notes)
     named = token if is_spelled(token, holder, common.context.domain) else f"{token} ({in_full})"
     title = f"What {named} gets of: {wanted.words}"
-    return inquiry.ask(common, Inquiry(Can(common.context, holder, wanted), title, paths))
+    found = _folders(common, paths) if wanted.deletes else None
+    return inquiry.ask(common, Inquiry(Can(common.context, holder, wanted), title, paths, places=found))
+
+
+def _folders(common: Common, paths: Sequence[str]) -> Optional[Folders]:
+    """The objects of file systems among the sources, read a first time, if all can be read again."""
+    if not all(path != STANDARD_INPUT and (files.can_be_read_again(path) or os.path.isdir(path)) for path in paths):
+        return None
+    found = Folders()
+    found.read(inquiry.items_of(common, paths, Bar(paths, False), True))
+    return found
 
 
 def _sids(given: Sequence[str], domain: str) -> Tuple[str, ...]:

@@ -4,9 +4,10 @@ import functools
 import io
 import os
 import sys
-from typing import Any, Callable, Iterable, Iterator, List, NamedTuple, Optional, Sequence, TextIO
+from typing import Any, Callable, Iterable, Iterator, List, NamedTuple, Optional, Sequence, TextIO, Union
 
 from sdtool.audit import files, pool
+from sdtool.audit.directory.folders import Folders
 from sdtool.audit.directory.forest import Forest, Told
 from sdtool.audit.engine import Answered, Engine, Held
 from sdtool.audit.findings import Rule
@@ -35,7 +36,7 @@ class Inquiry(NamedTuple):
     title: str
     paths: Sequence[str]
     accepted: Optional[Accepted] = None
-    forest: Optional[Forest] = None
+    places: Union[Forest, Folders, None] = None
     baseline: Optional[Baseline] = None
     fail_on: Optional[str] = None
 
@@ -184,10 +185,10 @@ def ask(common: Common, inquiry: Inquiry) -> int:
 def _fill(common: Common, inquiry: Inquiry, report: Report, engine: Engine, workers: pool.Pool, bar: Bar) -> None:
     """Reports every object, in the way that is the fastest for the sources."""
     paths = inquiry.paths
-    if inquiry.baseline is not None or common.into or workers.jobs < 2 or inquiry.forest:
+    if inquiry.baseline is not None or common.into or workers.jobs < 2 or inquiry.places:
         with cache.kept(common.into) as keep:
             items: Iterable[Item] = keep(bar.count(items_of(common, paths, bar)))
-            items = inquiry.forest.placed(items) if inquiry.forest else items
+            items = inquiry.places.placed(items) if inquiry.places else items
             if inquiry.baseline is None:
                 report.answer(engine, items)
             else:

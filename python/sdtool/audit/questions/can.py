@@ -1,13 +1,15 @@
 """The question what a token gets of some rights."""
 import re
-from typing import Iterator, List, Optional, Sequence
+from typing import Iterator, List, Optional, Sequence, Tuple
 
 from sdtool.audit.checks import Checks, asked_of, kept_of, mark_of, of_allowed_types, refused, shares_of, without_owner
-from sdtool.audit.findings import Answer, Finding, Rule, answer_of, complete, unknown
+from sdtool.audit.findings import FOUND, UNKNOWN, Answer, Finding, Rule, answer_of, complete, unknown
 from sdtool.audit.library import Descriptor, Got, Token, answerable, explained
 from sdtool.audit.masks import WITHOUT_MAPPING
 from sdtool.audit.protocols import Context
+from sdtool.audit.sources.places import Above, above_of
 from sdtool.audit.windows import rights
+from sdtool.audit.windows.kinds import is_folder
 
 _MEDIUM = 8192
 
@@ -24,19 +26,29 @@ def _level_of(descriptor: Descriptor) -> int:
     return int(labels[0].rpartition("-")[2]) if labels else _MEDIUM
 
 
+def _without_folder(answer: Answer, why_not: str) -> Answer:
+    """An answer about an object whose folder may let it be deleted, and isn't known."""
+    why = f"{why_not}, and whoever may delete what is in it may delete this"
+    if answer.status != FOUND:
+        return answer if answer.status == UNKNOWN else unknown(why, "export the folder with what is in it")
+    return answer._replace(findings=tuple(one._replace(text=f"{one.text}; {why}") for one in answer.findings))
+
+
 class Can:
     """What a token gets of some rights."""
-
-    asks_places = "owners"
 
     rules = (Rule("can", "the token gets one of the rights"),
              Rule("stopped", "the token gets none of them, and an ACE of the object denies it some"))
 
     def __init__(self, context: Context, token: Token, wanted: rights.Wanted) -> None:
         self._context, self._token, self._wanted = context, token, wanted
+        self.asks_places = "all" if wanted.deletes else "owners"
 
     def answer(self, form: str, kind: str, texts: Sequence[str], place: str = "") -> List[Answer]:
         mask = self._wanted.all_of(kind)
+        place, above = above_of(place)
+        deletes = self._wanted.deletes and kind in rights.OF_FILES
+        by_folder, why_not = self._by_folder(above) if deletes else ([], "")
         descriptors = explained(form, texts, self._context.domain)
         answers: List[Optional[Answer]] = [refused(one, kind, mask) for one in descriptors]
         checks = Checks(*answerable(form, texts, descriptors, kind), kind, asked_of(mask, kind), self._context.domain)
@@ -46,10 +58,30 @@ class Can:
             checks.ask(at, self._token)
         checks.run()
         for at, descriptor in asked:
-            got = kept_of(checks.got(at, self._token, mask), self._wanted, kind)
-            answers[at] = self._why_unknown(got, descriptor, mask, kind, place) or answer_of(
-                self._findings(got, checks, at, kind, mask, descriptor))
+            own = mask
+            if deletes and not (above.is_folder or is_folder(descriptor, kind)):
+                own &= ~rights.DELETE_CHILD  # it gives nothing on a file
+            got = kept_of(checks.got(at, self._token, own), self._wanted, kind)
+            more = by_folder if not got.mask & rights.DELETE else []
+            answer = None if more and not got.all else self._why_unknown(got, descriptor, own, kind, place)
+            answer = answer or answer_of([*self._findings(got, checks, at, kind, own, descriptor), *more])
+            answers[at] = _without_folder(answer, why_not) if why_not and not got.mask & rights.DELETE else answer
         return complete(answers)
+
+    def _by_folder(self, above: Above) -> Tuple[List[Finding], str]:
+        """What lets the token delete an object: the right to delete what is in its folder. Or why that isn't known."""
+        descriptor = explained(above.form, [above.text], self._context.domain)[0] if above.form else None
+        if not isinstance(descriptor, Descriptor):
+            return [], "its folder can't be read" if descriptor else above.reason
+        checks = Checks(above.form, [above.text], "folder", asked_of(rights.DELETE_CHILD, "folder"),
+                        self._context.domain)
+        checks.ask(0, self._token)
+        checks.run()
+        right = checks.mask(0, self._token) & rights.DELETE_CHILD
+        because = [one._replace(number=0, text=f"{f'ACE {one.number} ' * bool(one.number)}{one.text} of {above.name}")
+                   for one in checks.because(0, self._token, right, descriptor.aces)]
+        text = f"by its folder {above.name}: {rights.text(right, 'folder')}"
+        return [Finding("can", "", "delete", text, mask=rights.DELETE, because=tuple(because))] if right else [], ""
 
     def _why_unknown(self, got: Got, descriptor: Descriptor, mask: int, kind: str, place: str) -> Optional[Answer]:
         """Why nothing that is found isn't nothing."""

@@ -14,13 +14,13 @@ from sdtool.audit.library import (ALLOWS, CONTAINER_INHERIT, DENIES, INHERIT_ONL
                                   mapped_below, spelled)
 from sdtool.audit.masks import WITHOUT_MAPPING
 from sdtool.audit.protocols import Context
-from sdtool.audit.sources.items import BY_PATH, UNTOLD
 from sdtool.audit.sources.places import Place, known_place
 from sdtool.audit.windows import names as sids
 from sdtool.audit.windows import rights
 from sdtool.audit.windows.abilities import Abilities, Gives, Where, class_names, is_harmless, is_own
 from sdtool.audit.windows.classes import Group, as_one_of, groups_of, here, of_any
 from sdtool.audit.windows.defaults import Default, Defaults
+from sdtool.audit.windows.kinds import is_folder
 
 _OF_ABILITIES = {one["name"]: (one["severity"], one["says"]) for one in reversed(ABILITIES)}
 RULES = (*(Rule(name, reason, severity) for name, severity, _, reason, *_ in _RULES),
@@ -310,7 +310,7 @@ class Risks:
                     if ace.flags & inheriting and (is_directory or has_more and sids.everybody_class(ace.sid)):
                         below.setdefault(sid, []).append(ace)
             kept.append(number)
-        adding = frozenset(asked.keys() - filing if _is_folder(descriptor, kind) else ())
+        adding = frozenset(asked.keys() - filing if is_folder(descriptor, kind) else ())
         case = _Case(place, groups, whole, whole, (), asked, below, self._asked_owner(descriptor, kind, place), adding)
         return self._asked(views, descriptor, kind, case, kept) if asked or below or case.owner else case
 
@@ -507,7 +507,6 @@ class Risks:
 
 
 _OWNER = "foreign-owner"
-_FILES = ("file", UNTOLD, BY_PATH)
 
 
 def severity_of(rule: str, kind: str, sid: str) -> str:
@@ -540,11 +539,6 @@ def _is_quiet(sid: str, kind: str) -> bool:
         return True
     # The accounts that services share aren't trusted where a right runs code as another account.
     return who == sids.SERVICE and not (rights.runs_code(kind) and sid in SIDS)
-
-
-def _is_folder(descriptor: Descriptor, kind: str) -> bool:
-    """Whether an object is a folder: files hand nothing on."""
-    return kind == "folder" or kind in _FILES and any(ace.flags & rights.inherits(kind) for ace in descriptor.aces)
 
 
 def _joined(*texts: str) -> str:

@@ -5,6 +5,7 @@ from sdtool._windows import DEFAULTS, PROTECTING
 from sdtool.audit.sources.items import WITHOUT_OWNER
 
 _PART = "\1"  # between the parts of a place; no name of a class has it
+_ABOVE = "\2"  # before what is above an object
 _PROTECTING, _PROTECTED = PROTECTING
 
 
@@ -24,6 +25,31 @@ class Place(NamedTuple):
                            *([",".join(self.makers)] if self.makers else [])])
 
 
+class Above(NamedTuple):
+    """What a source says of the folder of an object: its name and descriptor, or why nothing is known of it. Nothing is
+    above a root."""
+
+    is_folder: bool  # whether the object is one itself
+    name: str = ""
+    form: str = ""
+    text: str = ""
+    reason: str = ""
+
+    def with_place(self, place: str) -> str:
+        """The text of a place that has this too."""
+        names = (one.replace(_ABOVE, " ") for one in (self.reason, self.name))
+        return _ABOVE.join([place, "1" * self.is_folder, *names, self.form, self.text])
+
+
+def above_of(text: str) -> Tuple[str, Above]:
+    """The text of a place without what is above, and that."""
+    place, *parts = text.split(_ABOVE, 5)
+    if not parts:
+        return place, Above(False, reason="its folder wasn't looked for, since the source can be read only once")
+    is_folder, reason, name, form, descriptor = parts
+    return place, Above(bool(is_folder), name, form, descriptor, reason)
+
+
 def place_of(text: str) -> Place:
     """The place of its text."""
     if not text:
@@ -39,6 +65,7 @@ def _words(text: str) -> Tuple[str, ...]:
 
 def classes_of(text: str) -> Tuple[str, ...]:
     """The classes of the object that the text of a place is of."""
+    text = text.partition(_ABOVE)[0]
     return place_of("" if text == WITHOUT_OWNER else text).classes
 
 

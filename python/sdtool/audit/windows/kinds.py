@@ -51,3 +51,9 @@ def fitting(descriptor: Descriptor) -> List[str]:
     """The kinds that have all rights of a descriptor."""
     mask = _all(_telling(descriptor))
     return [kind for kind, known in _KNOWN.items() if not mask & ~known and kind not in rights.RULE_OF]
+
+
+def is_folder(descriptor: Descriptor, kind: str) -> bool:
+    """Whether an object is a folder: files hand nothing on."""
+    return kind == "folder" or kind in rights.OF_FILES and any(ace.flags & rights.inherits(kind)
+                                                               for ace in descriptor.aces)

@@ -4,15 +4,18 @@ from typing import Dict, List, NamedTuple, Sequence, Tuple
 
 from sdtool._windows import KINDS as _OF_WINDOWS
 from sdtool.audit.masks import GENERIC, ROWS, SYSTEM_SECURITY
+from sdtool.audit.sources.items import BY_PATH, UNTOLD
 
 _MOST_TEXTS = 10_000  # of masks that are kept
 KINDS = tuple(_OF_WINDOWS)
+OF_FILES = frozenset(("file", "folder", UNTOLD, BY_PATH))
 DIRECTORY = frozenset(kind for kind, row in ROWS.items() if row["library"] == "ds")
 # Attributes whose values are descriptors: their kinds have one right, and the rule that finds it.
 RULE_OF: Dict[str, str] = {kind: row["rule"] for kind, row in ROWS.items() if row["rule"]}
 FULL: Dict[str, int] = {kind: row["mapping"][3] for kind, row in ROWS.items()}
 
 DELETE, READ_CONTROL, WRITE_DAC, WRITE_OWNER = 0x10000, 0x20000, 0x40000, 0x80000
+DELETE_CHILD = 0x40  # of a folder
 TAKE_OVER = WRITE_DAC | WRITE_OWNER
 _RESERVED = 0x0e000000  # bits 25 to 27 are no rights of an object
 
@@ -46,6 +49,11 @@ class Wanted(NamedTuple):
     words: str
     masks: Dict[str, int]
     whole: Dict[str, int]
+
+    @property
+    def deletes(self) -> bool:
+        """Whether it is asked who may delete an object."""
+        return "delete" in self.words.lower().split()
 
     def all_of(self, kind: str) -> int:
         return self.masks[kind] | self.whole[kind]
