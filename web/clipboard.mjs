@@ -70,7 +70,7 @@ function looksLikeBytes(text) {
     return (head.charCodeAt(3) & 0x80) !== 0 && head.includes("\0");
 }
 
-const LOOKS_LIKE_SDDL = /^(?:[OG]:[A-Z0-9-]+)*[DS]:[A-Z_]*\(/i;
+const LOOKS_LIKE_SDDL = /^(?:[OG]:[A-Z0-9-]+)*[DS]:[A-Z_]*\([A-Z]{1,2};/i;
 
 // The descriptor that a line of an entry has, or null: that of the object, or one of another attribute. Where nothing
 // says what its rights mean the kind is empty.

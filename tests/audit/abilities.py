@@ -580,7 +580,7 @@ def mixed():
         + entry_text("CN=a,DC=x", (), f"O:BAG:BAD:(OA;;CR;{RESET};;{SOMEBODY})")
         + entry_text("CN=b,DC=x", CHAINS["computer"].split(","), "O:BAG:BAD:(A;;GA;;;BA)").rstrip("\n")
         + f"\nmsDS-AllowedToActOnBehalfOfOtherIdentity: {BESIDE}\n"
-        f"msExchMailboxSecurityDescriptor:: {in_bytes(BESIDE)}\nhomeDrive: D:\n\n"
+        f"msExchMailboxSecurityDescriptor:: {in_bytes(BESIDE)}\nhomeDrive: D:\ninfo: S:(x)\n\n"
         "dn: CN=User,CN=Schema,CN=Configuration,DC=x\nobjectClass: top\nobjectClass: classSchema\n"
         "nTSecurityDescriptor: O:BAG:BAD:(A;;GA;;;BA)\n"
         f"defaultSecurityDescriptor: D:(A;;GA;;;AO)(OA;;CR;{RESET};;{SOMEBODY})\nlDAPDisplayName: user\n\n")

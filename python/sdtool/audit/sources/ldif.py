@@ -354,7 +354,7 @@ def _described(name: str, value: bytes, shown: str, entry: Entry, label: str, ki
 
 _KIND_OF = {name.lower(): kind for name, kind in DESCRIPTORS.items()}
 _OF_THE_OBJECT = "ntsecuritydescriptor"
-_SDDL = re.compile(rb"(?:[OG]:[A-Z0-9-]+)*[DS]:[A-Z_]*\(", re.I)
+_SDDL = re.compile(rb"(?:[OG]:[A-Z0-9-]+)*[DS]:[A-Z_]*\([A-Z]{1,2};", re.I)
 
 
 def _attribute_items(entry: Entry, label: str) -> Iterator[Item]:
