@@ -66,9 +66,10 @@ pub fn check_each(job: &Job<'_, '_, '_>) -> io::Result<Digest> {
         }
         let descriptor = descriptors.get_mut(current).ok_or(invalid())?;
         descriptor.renew(&mut numbers);
-        let verdict = match token_held(&token, &request) {
-            Ok(mut held) => check_with_token(descriptor.bytes(), &mut held, &ask(&request)),
-            Err(fault) => told(Err(fault)),
+        // In place: a token that is moved out of its result is copied.
+        let verdict = match &mut token_held(&token, &request) {
+            Ok(held) => check_with_token(descriptor.bytes(), held, &ask(&request)),
+            Err(fault) => told(Err(*fault)),
         };
         add(&mut digest, &verdict);
         current = current.saturating_add(1);
