@@ -104,25 +104,6 @@ sofar-more settings now now_is input name cells failures mid name' cells' held' 
           ∙ sym (any-push (is_error settings.task settings.holder) sofar.front line);
     }
 
--- all lines are answered
-pub batched-all : (settings : Settings) (input : List ℕ) (name : ℕ) (cells : List ℕ) (failures name' : ℕ)
-    (cells' : List ℕ) (held' failures' : ℕ) (left : List ℕ) (batch : Batch)
-    → Sofar settings input (told_of name cells 0 failures) (told_of name' cells' held' failures') left batch
-    → lines left ≡ [] → batch.all ≡ true → Batched settings input cells' batch
-batched-all settings input name cells failures name' cells' held' failures' left batch sofar none all =
-    let took = (taken name cells failures name' cells' held' failures' _ sofar.put).0 in
-    record {
-      front = sofar.front;
-      others = [];
-      split = sofar.split ∙ ap (λ (l : List (List ℕ)). sofar.front ++ l) none;
-      count = sofar.count;
-      written = ap (λ (n : ℕ). take n cells') sofar.count
-          ∙ front-of held' cells' (answers_by settings sofar.front) []
-          (took ∙ sym (append-nil (answers_by settings sofar.front)));
-      faulty = sofar.faulty;
-      stops = all;
-    }
-
 -- what cells had before, and a part of a text
 had : (name : ℕ) (cells : List ℕ) (held failures name' : ℕ) (cells' : List ℕ) (held' failures' : ℕ) (text : List ℕ)
     → (some : PutSome (told_of name cells held failures) (told_of name' cells' held' failures') text)

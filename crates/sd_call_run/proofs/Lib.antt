@@ -1,4 +1,3 @@
 pub mod BatchLemmas
 mod Rows
-pub mod RunLemmas
 pub mod WordsLemmas

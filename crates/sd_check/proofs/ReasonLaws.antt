@@ -104,14 +104,6 @@ AreGiven old new rights left given =
     (right : ℕ) (other : Reason) → slice_get old right ≡ Some other
     → slice_get new right ≡ Some (cond (carries rights right && not (carries left right)) given other)
 
-pub given_none : (xs : List Reason) (rights : ℕ) (given : Reason) → AreGiven xs xs rights rights given
-given_none xs rights given right other e =
-    e ∙ ap (λ (r : Reason). Some r) (neither (carries rights right))
-  where
-    neither : (b : Bool) → other ≡ cond (b && not b) given other
-    neither true = refl
-    neither false = refl
-
 pub given_step : (old xs : List Reason) (rights left i : ℕ) (given : Reason) → length xs ≡ 25 → left < 2 ^ 25 → i < 25
     → carries rights i ≡ true → AreGiven old xs rights left given
     → AreGiven old (set xs i given) rights (bit_and left (2 ^ 32 - 1 - 2 ^ i)) given

@@ -106,14 +106,6 @@ all_below_at (suc n) test h i below =
     ⊎_elim (λ (less : i < n). all_below_at n test p.1 i less)
     (λ (more : n ≤ i). let here : i ≡ n = omega arith in ap test here ∙ p.0) (cases_lt i n)
 
-pub all_below_same : (n : ℕ) (f g : ℕ → Bool) → ((i : ℕ) → i < n → f i ≡ g i) → all_below n f ≡ all_below n g
-unfolding all_below
-all_below_same zero f g h = refl
-all_below_same (suc n) f g h =
-    let here = h n (omega arith) in
-    let rest = all_below_same n f g (λ i below. h i (omega arith)) in
-    cc
-
 blocked : (q l : Bool) → (not q || l) ≡ true → (q && not l) ≡ false
 blocked false l h = refl
 blocked true true h = refl
@@ -162,14 +154,6 @@ least_mono (suc limit) f g h =
     by true b h le = omega arith
     by false true h le = absurd (let e = h refl in cc)
     by false false h le = omega arith
-
-pub least_same : (limit : ℕ) (f g : ℕ → Bool) → ((k : ℕ) → f k ≡ g k) → least f limit ≡ least g limit
-unfolding least
-least_same zero f g h = refl
-least_same (suc limit) f g h =
-    let here = h 0 in
-    let rest = least_same limit (λ k. f (suc k)) (λ k. g (suc k)) (λ k. h (suc k)) in
-    cc
 
 -- 4. The ACEs so far.
 
