@@ -28,7 +28,6 @@ const TESTS = {
     text: isText,
     count: isCount,
     flag: isFlag,
-    answer: (value) => value === null || isFlag(value),
     texts: (value) => isListOf(value, isText),
     counts: (value) => isListOf(value, isCount),
 };

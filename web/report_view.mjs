@@ -13,7 +13,7 @@ const MOST_TEXT = 2000;   // characters of a name or a text
 const FORMS = ["sddl", "hex", "base64"];
 
 // The kind of object that the page has words for, or null.
-const kindOf = ({kind, isFolder}) => (kind === "file" && isFolder ? "folder" : tableOf(kind) ? kind : null);
+const kindOf = ({kind}) => (tableOf(kind) ? kind : null);
 
 const cut = (text) => visible(shortened(text, MOST_TEXT));
 

@@ -1241,12 +1241,11 @@ export const HINTS = [
     {"kind": "folder", "text": "(?:^|[\\s\"'=])[A-Z]:\\\\(?!\\w+:)"},
 ];
 export const REPORT = {
-    "version": "sdtool-audit report 4",
+    "version": "sdtool-audit report 5",
     "rows": {
         "object": {
             "name": "text", "source": "text", "line": "count", "answer": "text", "form": "text", "descriptor": "text",
-            "kind": "text", "isFolder": "answer", "reason": "text", "help": "text", "classes": "texts",
-            "findings": "finding",
+            "kind": "text", "reason": "text", "help": "text", "classes": "texts", "findings": "finding",
         },
         "finding": {
             "rule": "text", "trustee": "text", "rights": "text", "text": "text", "accepted": "text", "severity": "text",

@@ -26,7 +26,7 @@ RISKS = ("takeover", "everybody", "adding", "anyone", "anonymous")
 WHO = ("anyone", "logged-on", "application", "package", "service", "trusted", "stand-in", "other")
 SEVERITIES = ("high", "medium", "low", "note")
 TYPES = ("right", "write", "set", "class", "attribute")
-COLUMNS = ("text", "count", "flag", "answer", "texts", "counts")
+COLUMNS = ("text", "count", "flag", "texts", "counts")
 # What an ACE may grant for each type: MS-ADTS 5.1.3.3.
 BITS_OF_TYPE = {"right": 0x100, "write": 0x8, "set": 0x30, "class": 0x3, "attribute": 0x30}
 # Attributes that --schema alone names: LAPS adds them with GUIDs of the forest, and the last one came with Windows

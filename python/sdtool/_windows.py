@@ -1521,12 +1521,11 @@ HINTS: Tuple[Dict[str, Any], ...] = (
 )
 # The report in the page: its version, and of each row the columns with their types.
 REPORT: Dict[str, Any] = {
-    "version": "sdtool-audit report 4",
+    "version": "sdtool-audit report 5",
     "rows": {
         "object": {
             "name": "text", "source": "text", "line": "count", "answer": "text", "form": "text", "descriptor": "text",
-            "kind": "text", "isFolder": "answer", "reason": "text", "help": "text", "classes": "texts",
-            "findings": "finding",
+            "kind": "text", "reason": "text", "help": "text", "classes": "texts", "findings": "finding",
         },
         "finding": {
             "rule": "text", "trustee": "text", "rights": "text", "text": "text", "accepted": "text", "severity": "text",

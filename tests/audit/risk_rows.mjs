@@ -32,14 +32,8 @@ function linked(state) {
 
 const chosen = ({kind, sddl, domain}) => ({text: sddl, kind, isKindChosen: true, domain});
 
-const ofReport = ({descriptor, form, kind, isFolder, classes, name}) => told({
-    text: descriptor,
-    form,
-    kind: kind === "file" && isFolder ? "folder" : kind,
-    isKindChosen: true,
-    classes: classes.join(","),
-    name
-});
+const ofReport = ({descriptor, form, kind, classes, name}) =>
+    told({text: descriptor, form, kind, isKindChosen: true, classes: classes.join(","), name});
 
 const read = new Report(report);
 await read.read(() => {});

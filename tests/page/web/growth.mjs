@@ -66,7 +66,6 @@ const VALUES = {
     text: "x",
     count: 1,
     flag: true,
-    answer: null,
     texts: ["x"],
     counts: [1]
 };

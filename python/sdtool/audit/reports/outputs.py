@@ -315,7 +315,7 @@ class HtmlOutput(Output):
             "name": item.name, "source": item.source, "line": item.line, "answer": answer.status, "form": item.form,
             "descriptor": item.text if item.form else "",  # of an object that can't be read, it is the answer's reason
             "kind": "file" if item.kind in (UNTOLD, BY_PATH) else item.kind,  # as the answers have it
-            "isFolder": item.is_folder, "reason": answer.said, "help": answer.help, "classes": classes_of(item.place),
+            "reason": answer.said, "help": answer.help, "classes": classes_of(item.place),
             "findings": [_finding_row(finding) for finding in answer.findings]}))
 
     def end(self, summary: Summary, ended: Ended) -> None:
