@@ -214,10 +214,11 @@ function about(library, given, question, ofRefused = (found, _) => found) {
 }
 
 // What is asked for a verdict about a descriptor of a kind. The meanings of its masks depend on it.
-function verdictAs(library, descriptor, model, {kind, place, isKindOpen = false}, domain, known = null) {
+function verdictAs(
+    library, descriptor, model, {kind, place, isKindOpen = false, isGuess = false}, domain, known = null) {
     const meant = known ? model : withMeanings(library, structuredClone(model), kind);
     const options = {kind, domain: domain.trusted, place, isKindOpen};
-    const findings = known ?? findingsOf(library, meant, {kind, domain: domain.trusted, ...place});
+    const findings = known ?? findingsOf(library, meant, {kind, domain: domain.trusted, isGuess, ...place});
     return verdictOf(
         library, {descriptor: asked(library, descriptor, meant, kind), model: meant, findings, ...options});
 }
@@ -226,7 +227,8 @@ function verdictAs(library, descriptor, model, {kind, place, isKindOpen = false}
 const verdictOfAny = (library, descriptor, model, state, domain, kinds) => (kinds ?
         verdictOfKinds(model, kinds,
             (kind) => verdictAs(library, descriptor, model, {kind, place: state.place, isKindOpen: true}, domain)) :
-        verdictAs(library, descriptor, model, {kind: state.kind, place: state.place}, domain));
+        verdictAs(
+            library, descriptor, model, {kind: state.kind, place: state.place, isGuess: !state.isKindChosen}, domain));
 
 // The verdict about a text that is refused: of one with conditions that of both, if they hold and if they don't.
 function verdictOfRefused(library, given, found, domain) {
@@ -267,12 +269,13 @@ const look = (library, given) => about(library, given, ({state, descriptor, foun
     const question = asked(library, descriptor, model, state.kind);
     const grid = gridOf(library, question, model, options);
     const sddl = library.toSddl(descriptor, domain.option);
-    const findings = findingsOf(library, model, {kind: state.kind, domain: domain.trusted, ...state.place});
+    const {kind, isKindChosen, place} = state;
+    const findings = findingsOf(library, model, {kind, domain: domain.trusted, isGuess: !isKindChosen, ...place});
     const warnings = warningsOf(library, question, model, grid, findings, options);
     const {dacl, sacl} = writtenIn(library, model, domain);
     return {
         ...found,
-        judged: verdictAs(library, descriptor, model, {kind: state.kind, place: state.place}, domain, findings),
+        judged: verdictAs(library, descriptor, model, {kind, place}, domain, findings),
         model: {...model, dacl: packedList(marked(model, options), dacl), sacl: packedList(model.sacl, sacl)},
         grid,
         sddl: sddl.slice(0, MOST_SHOWN),

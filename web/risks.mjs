@@ -185,9 +185,9 @@ function without(got, less) {
     };
 }
 
-// Whether an object is a folder: files hand nothing on.
-const isFolder = (kind, aces) => kind === "folder" ||
-    (kind === "file" && aces.some(({flags}) => inheritedBy(kind).some((flag) => flags.includes(flag))));
+// Whether an object is a folder: files hand nothing on. Where nobody chose the kind it may be a file.
+const isFolder = ({kind, isGuess}, aces) => (kind === "folder" && !isGuess) || (["file",
+    "folder"].includes(kind) && aces.some(({flags}) => inheritedBy(kind).some((flag) => flags.includes(flag))));
 
 // What is asked about a descriptor: the trustees here and below, those of a folder who get no right to change its files
 // by what counts here, and what is left of the list without Windows' own ACEs.
@@ -220,7 +220,8 @@ export function caseOf(model, options) {
         }
         kept.push({ace, mask, ofChildren});
     }
-    const adding = isFolder(kind, model.dacl.aces) ? new Set([...here].filter((sid) => !filing.has(sid))) : new Set();
+    const adding =
+        isFolder(options, model.dacl.aces) ? new Set([...here].filter((sid) => !filing.has(sid))) : new Set();
     return {here, adding, below, kept};
 }
 
@@ -296,7 +297,7 @@ function ofDirectory(sid, view, wanted, got, where, answers, {kind, domain}, mor
 // The findings about a descriptor, with the numbers of their ACEs: {rule, severity, who, mask, whole, object, says,
 // isBelow, numbers}, and the kind that the mask is one of, if it is another. CLASSES are those of a directory object,
 // if they are known.
-export function risksOf(library, model, {kind, domain, classes = [], named = "", hasAccounts = true}) {
+export function risksOf(library, model, {kind, domain, classes = [], named = "", hasAccounts = true, isGuess = false}) {
     if (kind === "authority" && model.dacl.aces.some(({object}) => object)) {
         // The object of the authority in the directory.
         const options = {kind: "ds", domain, classes: ["pKIEnrollmentService"], hasAccounts};
@@ -310,7 +311,7 @@ export function risksOf(library, model, {kind, domain, classes = [], named = "",
     const ofKind = kind === "template" && classes.length === 0 ? ["pKICertificateTemplate"] : classes;
     return [
         ...(aces.length ? [] : [finding("empty-dacl", kind, null, [], {})]),
-        ...asked(() => ofList(library, model, {kind, domain, classes: ofKind, named, hasAccounts})),
+        ...asked(() => ofList(library, model, {kind, domain, classes: ofKind, named, hasAccounts, isGuess})),
     ];
 }
 

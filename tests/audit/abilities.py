@@ -606,6 +606,17 @@ def test_entries(place):
         place.expect(otherwise_on_page(one["findings"], got["warnings"], kind), {}, f"{one['name']}, by audit and page")
 
 
+def test_untold(place):
+    """What may be a file or a folder is as grave on the page as in the audit: a file hands nothing on."""
+    rows = [(f"C:\\x{at}", f"O:BAG:SYD:(A;{flags};0x100006;;;{SIGNED_IN})")
+            for at, flags in enumerate(("", "CI", "OI"))]
+    told = place.objects("risks", place.table(rows, "untold.csv", ("Path", "Sddl")))
+    place.expect([each["severity"] for one in told for each in one["findings"]], ["high", "medium", "high"], "untold")
+    looked = on_page(place, [f'"{name}","{text}"' for name, text in rows])
+    place.expect([LEVELS[each["level"]] for got in looked or () for each in got["warnings"] if each.get("rule")],
+                 ["high", "medium", "high"] if looked else [], "untold, on the page")
+
+
 def run_tests(count, tests):
     """Runs the tests that are chosen."""
     python = audit.python_with_packages()
@@ -620,4 +631,5 @@ def run_tests(count, tests):
 
 def main(count: preload.Count) -> None:
     run_tests(count, (test_named, test_design, test_reasons, test_all_rules, test_page, test_conditions,
-                      test_conditions_of_defaults, test_places, test_said, test_conditions_on_page, test_entries))
+                      test_conditions_of_defaults, test_places, test_said, test_conditions_on_page, test_entries,
+                      test_untold))
