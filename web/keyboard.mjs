@@ -10,15 +10,18 @@ export function tabBehind(key, views, view) {
 
 // Marks the ACEs that something tells of, and what tells of an ACE.
 export function tie(target) {
+    /** @type {HTMLElement | null} */
     const about = target.closest?.("[data-aces], [data-ace]");
     document.querySelectorAll(".tied").forEach((one) => one.classList.remove("tied"));
     if (!about) {
         return;
     }
-    const numbers = (about.dataset.aces ?? about.dataset.ace).split(" ").filter(Boolean);
-    const others = about.dataset.ace ? numbers.map((number) => `[data-aces~="${number}"]`) :
-                                       numbers.map((number) => `[data-ace="${number}"]`);
-    if (others.length) {
-        [about, ...document.querySelectorAll(others.join(", "))].forEach((one) => one.classList.add("tied"));
+    const {ace, aces} = about.dataset;
+    const numbers = new Set((ace ?? aces).split(" ").filter(Boolean));
+    const others = ace ? document.querySelectorAll(`[data-aces~="${ace}"]`) :
+                         [.../** @type {NodeListOf<HTMLElement>} */ (document.querySelectorAll("[data-ace]"))].filter(
+                             (one) => numbers.has(one.dataset.ace));
+    if (numbers.size) {
+        [about, ...others].forEach((one) => one.classList.add("tied"));
     }
 }

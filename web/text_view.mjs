@@ -56,19 +56,27 @@ const aceLine = (ace, context) => make("tr", {
         make("span", {class: "unseen"}, valueIn(WORDS.aceKinds, ace.kind))),
     make("td", {}, make("code", {}, ace.text)));
 
+// What opens a folded line up to an ACE.
+const OPENERS = new WeakMap();
+
 function foldLine(group, context) {
     const {aces, fold} = group;
     const [first, last] = [aces[0], aces.at(-1)];
     const rights = fold === "alike" && context.kind ? commaed(rightsInWords(context.kind, first.meaning)) : "";
+    const openTo = (number) => {
+        const count = Math.max(STEP, number - first.number + 1);
+        row.replaceWith(...aces.slice(0, count).map((ace) => aceLine(ace, context)),
+            ...(aces.length > count ? [foldLine({aces: aces.slice(count), fold}, context)] : []));
+    };
     const open = () => {
-        row.replaceWith(...aces.slice(0, STEP).map((ace) => aceLine(ace, context)),
-            ...(aces.length > STEP ? [foldLine({aces: aces.slice(STEP), fold}, context)] : []));
+        openTo(first.number);
         byId(`${first.list}-${first.number}`).focus();
     };
     const row = make("tr", {class: "fold", "data-list": first.list, "data-from": first.number, "data-to": last.number},
         make("th", {scope: "row"}, `${first.number}\u2013${last.number}`), make("td"),
         make("td", {},
             button(say(valueIn(words, fold), {count: aces.length, rights}), open, {"aria-expanded": "false"})));
+    OPENERS.set(row, openTo);
     return row;
 }
 
@@ -184,12 +192,13 @@ export function markAce(list, number) {
     document.querySelectorAll("tr.ace.found").forEach((row) => row.classList.remove("found"));
     const isIn = (fold) =>
         fold.dataset.list === list && Number(fold.dataset.from) <= number && number <= Number(fold.dataset.to);
-    /** @returns {HTMLElement | undefined} */
-    const hidden = () => [...document.querySelectorAll("tr.fold")].find(isIn)?.querySelector("button") ??
-        document.querySelector("#lines .more button");
-    while (!byId(`${list}-${number}`) && hidden()) {
-        hidden().click();
+    const fold = () => [...document.querySelectorAll("tr.fold")].find(isIn);
+    /** @returns {HTMLElement | null} */
+    const more = () => document.querySelector("#lines .more button");
+    while (!byId(`${list}-${number}`) && !fold() && more()) {
+        more().click();
     }
+    OPENERS.get(fold())?.(number);
     const row = byId(`${list}-${number}`);
     if (row) {
         row.classList.add("found");

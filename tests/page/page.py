@@ -109,7 +109,7 @@ TESTS = [
     page_limits.test_stopped,
     page_limits.test_broken,
     page_limits.test_working,
-    page_limits.test_keys_in_many_rows,
+    page_limits.test_many_rows,
     page_limits.test_links,
     page_limits.test_long_links,
     page_limits.test_long_fields_are_told,

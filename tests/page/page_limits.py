@@ -226,22 +226,46 @@ def test_links(count, page, _):
     count.add(got == [False, True], f"an object type that begins to apply is not shown: {got}")
 
 
-def test_keys_in_many_rows(count, page, _):
-    """A key in a grid takes time in proportion to the rows: for four times as many at most eight times as long."""
+# Shows all rows of a grid, and measures a key in it, the pointer over the trustees, and a jump to the last ACE.
+MEASURE_ROWS = """
+byId("grid-all").click();
+await until(isIdle);
+const more = () => first("table.grid").closest("section").querySelector(".more button");
+while (more()) { more().click(); await pause(1); }
+const timed = async (act) => {
+    const began = performance.now();
+    act();
+    const time = performance.now() - began;
+    await pause(5);
+    return time;
+};
+const [keys, overs] = [[], []];
+for (let at = 0; at < 5; at += 1) {
+    first("button.cell").focus();
+    keys.push(await timed(() => document.activeElement.dispatchEvent(
+        new window.KeyboardEvent("keydown", {key: "ArrowDown", bubbles: true}))));
+    overs.push(await timed(() => first("tr.trustee").dispatchEvent(new window.Event("pointerover", {bubbles: true}))));
+}
+const [sid, tied] = [document.activeElement.dataset.sid, each(".tied").length];
+each("table.grid tbody tr").at(-1).querySelector("button.cell").click();
+const jump = await timed(() => first("#why button.jump").click());
+return [sid, tied, first("tr.ace.found").id, Math.min(...keys), Math.min(...overs), jump];
+"""
+
+
+def test_many_rows(count, page, _):
+    """Of many trustees, a key, the pointer and a jump take time in proportion: for four times as many at most eight
+    times as long."""
     page.open()
     least = []
     for rows in (ROWS // 4, ROWS):
         page.see("D:" + "".join(f"(A;;FR;;;S-1-5-21-1-2-3-{number})" for number in range(1000, 1000 + rows)))
-        *times, sid, shown = page.do(
-            "byId('grid-all').click(); await until(isIdle); const more = () => first('table.grid').closest('section')."
-            "querySelector('.more button'); while (more()) { more().click(); await pause(1); } const found = []; "
-            "for (let at = 0; at < 7; at += 1) { first('button.cell').focus(); const began = performance.now(); "
-            "document.activeElement.dispatchEvent(new window.KeyboardEvent('keydown', {key: 'ArrowDown', bubbles: "
-            "true})); found.push(performance.now() - began); await pause(5); } "
-            "return [...found, document.activeElement.dataset.sid, each('table.grid tbody tr').length];")
-        count.add((sid, shown) == ("S-1-5-21-1-2-3-1001", rows), f"the next of {shown} rows: {sid}")
-        least.append(min(times))
-    count.add(least[1] <= 8 * max(least[0], 5), f"a key in {ROWS // 4} and {ROWS} rows: {least} milliseconds")
+        sid, tied, found, *times = page.do(MEASURE_ROWS)
+        count.add((sid, found) == ("S-1-5-21-1-2-3-1001", f"dacl-{rows}") and tied > 0,
+                  f"{rows} rows: {sid}, {found}, {tied} tied")
+        least.append(times)
+    for what, few, many in zip(("a key", "the pointer", "a jump"), *least):
+        count.add(many <= 8 * max(few, 10), f"{what} with {ROWS // 4} and {ROWS} rows: {few}, {many} milliseconds")
 
 
 MOST_WORD, MOST_LIST = 1000, 400_000  # characters of a SID, a GUID or rights, and of a token or names
