@@ -4,10 +4,11 @@ import {linesOf} from "./desk.mjs";
 import {button, byId, make, moveByArrows, show, showParts, someRows} from "./dom.mjs";
 import {doing as maskDoing, isTrusted} from "./meanings.mjs";
 import {guidInWords, labelInWords, rightName, rightsInWords, rightsOf, shortened, visible} from "./naming.mjs";
-import {commaed, faultBox, plainName, who} from "./parts_view.mjs";
+import {faultBox, plainName, who} from "./parts_view.mjs";
+import {verbsOf} from "./sentences.mjs";
 import {valueIn} from "./tables.mjs";
 import {markAce} from "./text_view.mjs";
-import {say, WORDS} from "./words.mjs";
+import {commaed, say, WORDS} from "./words.mjs";
 
 const EXTENDED = 0x100; // a right that says nothing without its object type
 const MOST_ROWS = 40;   // of the grid, until more are asked for
@@ -181,6 +182,7 @@ function warningText(warning, kind, names) {
 function plainText(warning, kind, names) {
     const {key, numbers = []} = warning;
     return say(valueIn(WORDS.warnings, key), {
+        ...(warning.who ? verbsOf([warning.who]) : {}),
         who: warning.who ? plainName(warning.who, names) : "",
         rights: warning.mask ? commaed(rightsInWords(warning.kind ?? kind, warning.mask)) : "",
         says: warning.says ?? "",
@@ -286,7 +288,7 @@ const REASON_KEYS = {
 export const reasonKey = (by) => valueIn(REASON_KEYS, by) ?? by;
 
 // In a sentence what decided about a right.
-export function reasonInWords(reason, name, kind, texts) {
+function reasonInWords(reason, name, kind, texts) {
     const {reasons} = WORDS;
     return say(valueIn(reasons, reasonKey(reason.by)), {
         who: name,

@@ -1,6 +1,6 @@
 // What the tables of windows.mjs say of a SID and of the rights of a kind: names, who has a SID, what is a risk.
 import {valueIn} from "./tables.mjs";
-import {FAMILIES, KINDS, OF_A_DOMAIN, RULE_OF, SIDS, USUAL} from "./windows.mjs";
+import {FAMILIES, KINDS, OF_A_DOMAIN, PLURAL, RULE_OF, SIDS, USUAL} from "./windows.mjs";
 
 const RELATIVE = /^(S-1-5-21-\d+-\d+-\d+)-(\d+)$/;
 const BUILT_IN_BELOW = 1000; // numbers from here on are those of accounts that somebody made
@@ -31,6 +31,12 @@ export function meaningOfSid(sid) {
     const family = FAMILIES.find(([begins]) => sid.startsWith(begins));
     return family ? {name: null, who: family[2], also: family[3] ?? USUAL, family: family[1]} :
                     {name: null, who: "other", also: USUAL, family: null};
+}
+
+// Whether the name of a SID is plural.
+export function isPluralName(sid) {
+    const relative = relativeOf(sid);
+    return PLURAL.includes(relative && !Object.hasOwn(SIDS, sid) ? String(relative.number) : sid);
 }
 
 // Which class of everybody has a SID, or null.

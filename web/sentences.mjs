@@ -1,6 +1,6 @@
 // The words of a verdict: the sentence that comes first, and what is said below it.
 import {has} from "./access.mjs";
-import {doing as ofWord, everybodyClass, tableOf} from "./meanings.mjs";
+import {doing as ofWord, everybodyClass, isPluralName, tableOf} from "./meanings.mjs";
 import {faultInWords, nameOf, placeInWords, refusedKind, rightsInWords, shortened, visible} from "./naming.mjs";
 import {valueIn} from "./tables.mjs";
 import {say, WORDS} from "./words.mjs";
@@ -36,12 +36,8 @@ function trustedInWords(trusted, names) {
     ]);
 }
 
-// Whether a name is plural, of those that Windows has.
-const isPluralName = (name) => words.isPlural.test(name) && !words.isSingular.test(name);
-const isPlural = (sids) => sids.length > 1 || isPluralName(nameOf(sids[0], new Map()));
-
 // The forms of verbs for whoever does something.
-const verbsOf = (sids) => (isPlural(sids) ? words.many : words.one);
+export const verbsOf = (sids) => (sids.length > 1 || isPluralName(sids[0]) ? words.many : words.one);
 
 const theseOf = (kind) => valueIn(words.these, kind) ?? words.these[""];
 

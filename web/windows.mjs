@@ -141,6 +141,14 @@ export const FAMILIES = [
     ["S-1-22-1-", "A Unix user", "other", null],
     ["S-1-22-2-", "A Unix group", "other", null],
 ];
+export const PLURAL = [
+    "S-1-3-4", "S-1-5-9", "S-1-5-11", "S-1-5-13", "S-1-5-80-0", "S-1-5-84-0-0-0-0-0", "S-1-5-32-544", "S-1-5-32-545",
+    "S-1-5-32-546", "S-1-5-32-547", "S-1-5-32-548", "S-1-5-32-549", "S-1-5-32-550", "S-1-5-32-551", "S-1-5-32-555",
+    "S-1-5-32-556", "S-1-5-32-557", "S-1-5-32-558", "S-1-5-32-559", "S-1-5-32-561", "S-1-5-32-562", "S-1-5-32-568",
+    "S-1-5-32-569", "S-1-5-32-573", "S-1-5-32-575", "S-1-5-32-576", "S-1-5-32-577", "S-1-5-32-578", "S-1-5-32-579",
+    "S-1-5-32-580", "S-1-5-32-582", "S-1-5-32-583", "S-1-5-32-584", "S-1-5-32-585", "S-1-15-2-1", "S-1-15-2-2", "498",
+    "512", "513", "514", "515", "516", "517", "518", "519", "520", "521", "522", "525", "526", "527", "553",
+];
 export const USUAL = ["S-1-1-0", "S-1-5-11"];
 export const KINDS = {
     "file": {
@@ -1171,7 +1179,7 @@ export const RULES = [
     ["children-change", "medium", "{who} can {rights} in what is made below, though not here.", "medium", "medium"],
     ["takeover", "medium", "{who} can {rights}. That is no administrator who is trusted.", "high", "medium"],
     [
-        "foreign-owner", "medium", "{who} owns it, and so can {rights}. That is no administrator who is trusted.",
+        "foreign-owner", "medium", "{who} {owns} it, and so can {rights}. That is no administrator who is trusted.",
         "high", "medium",
     ],
     ["acts-for-others", "high", "{who} can {rights}. That is no administrator who is trusted.", "high", "high"],

@@ -184,8 +184,6 @@ export const WORDS = {
         },
         one: {has: "has", owns: "owns"},
         many: {has: "have", owns: "own"},
-        isPlural: /s$/,
-        isSingular: /(?:Access|Anonymous)$/,
         made: "what is made in {these}",
         reach: {
             here: "",
@@ -292,7 +290,6 @@ export const WORDS = {
         },
         cut: "Only the first {count} are told.",
         columns: {verdict: "Verdict", name: "Name", kind: "Kind", sentence: "What"},
-        alike: "{name} and {count} that are alike",
         noName: "Number {number}",
         all: "All {count}",
         compare: "Compare the two",
@@ -373,11 +370,8 @@ export const WORDS = {
         none: "none",
         control: "Control bits",
         manager: "Resource manager byte",
-        absent: "absent",
-        null: "null",
         list: "{count} ACEs",
         one: "1 ACE",
-        empty: "empty",
         more: "Show {count} more lines",
     },
     codes: {
@@ -606,7 +600,6 @@ export const WORDS = {
             IU: "Interactive",
             NU: "Network"
         },
-        owner: "the owner",
         rights: "Wanted rights",
         want: "or by name or number",
         wantHint: "such as FR, FW, WD or 0x1200a9",
@@ -695,7 +688,6 @@ export const WORDS = {
         gained: "gains {rights}",
         lost: "loses {rights}",
         waiting: "Paste a second descriptor.",
-        aces: "{list}",
         part: "{part}: {one} \u2192 {other}",
         noFlags: "no flags",
         control: "Control bits",
@@ -804,3 +796,7 @@ export const WORDS = {
 export function say(text, values = {}) {
     return text.replace(/\{(\w+)\}/g, (whole, name) => (Object.hasOwn(values, name) ? String(values[name]) : whole));
 }
+
+export const formatted = (number) => new Intl.NumberFormat(WORDS.language).format(number);
+
+export const commaed = (words) => words.join(", ");

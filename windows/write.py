@@ -64,7 +64,8 @@ def read_sids():
     expect(set(given) == {"usual", "sid", "relative", "family"}, "sids.toml has another table")
     for row in given["sid"] + given["relative"] + given["family"]:
         expect(row["who"] in WHO, f"{row}: no such class")
-        expect(set(row) <= {"sid", "number", "begins", "alias", "name", "who", "also", "of"}, f"{row}: another key")
+        expect(set(row) <= {"sid", "number", "begins", "alias", "name", "plural", "who", "also", "of"},
+               f"{row}: another key")
         expect(all(SID.fullmatch(sid) for sid in row.get("also", ())), f"{row}: no SID")
     expect(all(SID.fullmatch(row["sid"]) for row in given["sid"]), "a row has no SID")
     distinct((row["sid"] for row in given["sid"]), "a SID")
@@ -77,7 +78,9 @@ def read_sids():
     sids = {row["sid"]: told(row) for row in given["sid"]}
     relative = {row["number"]: (*told(row), row["of"]) for row in given["relative"]}
     families = tuple((row["begins"], row["name"], row["who"], tuple(row.get("also", usual))) for row in given["family"])
-    return {"SIDS": sids, "OF_A_DOMAIN": relative, "FAMILIES": families, "USUAL": usual}
+    plural = tuple(str(row.get("sid", row.get("number"))) for row in given["sid"] + given["relative"]
+                   if row.get("plural"))
+    return {"SIDS": sids, "OF_A_DOMAIN": relative, "FAMILIES": families, "PLURAL": plural, "USUAL": usual}
 
 
 def mapping_of(row):
@@ -453,7 +456,7 @@ def script_type(*values):
 def script_text(tables, schema):
     lines = ["// What Windows means by SIDs, rights, kinds of objects and types, and what errors mean, by "
              "windows/write.py."]
-    for name in ("SIDS", "OF_A_DOMAIN", "FAMILIES", "USUAL", "KINDS", "ABILITIES", "HARMLESS", "DESCRIPTORS",
+    for name in ("SIDS", "OF_A_DOMAIN", "FAMILIES", "PLURAL", "USUAL", "KINDS", "ABILITIES", "HARMLESS", "DESCRIPTORS",
                  "PROTECTING", "CONDITION", "DEFAULTS", "CONTAINERS", "SEVERITIES", "RULES", "RULE_OF", "RISKS_OF",
                  "QUIET", "ATTRIBUTES", "PRIVILEGES", "HINTS", "REPORT", "ERRORS"):
         value = plain(of_page(name, tables))

@@ -1429,7 +1429,7 @@ RULES: Tuple[Tuple[str, str, bool, str, str, str, str], ...] = (
     ),
     (
         "foreign-owner", "medium", False, "The owner isn't trusted, and can change permissions.",
-        "{who} owns it, and so can {rights}. That is no administrator who is trusted.", "high", "medium",
+        "{who} {owns} it, and so can {rights}. That is no administrator who is trusted.", "high", "medium",
     ),
     (
         "acts-for-others", "high", False,

@@ -1,0 +1,82 @@
+// The first line: what a verdict says, and the verdict where the kind or a condition is open.
+import assert from "node:assert/strict";
+import {test} from "node:test";
+
+import {reasonsOf, sentenceOf} from "../../../web/sentences.mjs";
+import {verdictOfConditions, verdictOfKinds} from "../../../web/verdict.mjs";
+import {KINDS, OF_A_DOMAIN, PLURAL, SIDS} from "../../../web/windows.mjs";
+import {WORDS} from "../../../web/words.mjs";
+
+const FULL = 0x1f01ff;
+const EVERYONE = "S-1-1-0";
+const ANN = "S-1-5-21-1-2-3-1105";
+const finding = (who, more = {}) => ({
+    verdict: "act",
+    key: "finding",
+    kind: "folder",
+    who: [].concat(who),
+    granted: FULL,
+    mask: FULL,
+    numbers: [1],
+    reach: "here",
+    ...more
+});
+const said = (judged, result = {}) => sentenceOf(judged, new Map(), result);
+
+test("verbs follow the name: Everyone has, Users have", () => {
+    const has = (sid) => said(finding(sid)).replace(/ full control.*/, "");
+    assert.deepEqual([EVERYONE, "S-1-5-32-545", "S-1-5-7", "S-1-5-32-554", "S-1-5-21-1-2-3-513", ANN].map(has), [
+        "Everyone has", "Users have", "Anonymous has", "Pre-Windows 2000 Compatible Access has", "Domain Users have",
+        "Account 1105 has"
+    ]);
+    assert.equal(has([EVERYONE, ANN]), "Everyone and Account 1105 have");
+    // A SID below a domain of its own is not that of each domain with this number.
+    assert.equal(has("S-1-5-21-0-0-0-497"), "Claims Valid has");
+    assert.equal(said(finding("S-1-5-32-547", {isOwner: true})).split(" this")[0], "Power Users own");
+    const known = PLURAL.map((key) => SIDS[key] ?? OF_A_DOMAIN[key]);
+    assert.ok(known.every((row) => row && /s$/.test(row[1])), "no name that is plural");
+});
+
+test("each kind of object has a sentence for each verdict", () => {
+    for (const kind of Object.keys(KINDS)) {
+        const all = KINDS[kind].mapping[3];
+        for (const reach of ["here", "all", "below"]) {
+            const one = said(finding(EVERYONE, {kind, granted: all, mask: all, reach}));
+            assert.match(one, /^Everyone (?:has|can) [^{}]*$/, kind);
+        }
+        for (const who of [[], [ANN], [ANN, EVERYONE]]) {
+            for (const trusted of [[], ["S-1-5-32-544", "S-1-5-18", "S-1-5-9"]]) {
+                const judged = {verdict: "named", key: "changers", kind, who, trusted, granted: all, mask: all};
+                assert.doesNotMatch(said({...judged, numbers: [1], reach: "here"}), /[{}]|undefined/, kind);
+            }
+        }
+    }
+});
+
+test("of each text that is no descriptor the page says what prints one", () => {
+    for (const other of Object.keys(WORDS.verdict.texts)) {
+        const judged = {verdict: "unknown", key: "none"};
+        assert.doesNotMatch(said(judged, {other}), /[{}]|undefined/);
+        assert.match(reasonsOf(judged, new Map(), {other}).join(" "), /PowerShell: \S/);
+    }
+});
+
+test("kinds that agree have a verdict, and others say whom it depends on", () => {
+    const model = {dacl: {aces: [{sid: EVERYONE, kind: "A", mask: FULL, flags: []}]}};
+    const same = verdictOfKinds(model, ["folder", "share"], (kind) => finding(EVERYONE, {kind}));
+    assert.deepEqual([same.verdict, said(same)], ["act", "Everyone has full control"]);
+    const differ = verdictOfKinds(model, ["folder", "key"], (kind) => (kind === "key" ?
+        {verdict: "fine", key: "changers", kind, who: [], trusted: []} :
+        finding(ANN, {kind})));
+    assert.deepEqual([differ.verdict, said(differ)],
+        ["unknown", "Depends on what this is: Account 1105 may be able to change it"]);
+});
+
+test("a condition counts where the verdict hangs on it", () => {
+    const ace = {kind: "A", sid: EVERYONE, meaning: 0x1200a9};
+    const [run, none] = [finding(EVERYONE), {verdict: "fine", key: "changers", kind: "folder", who: [], trusted: []}];
+    assert.deepEqual(verdictOfConditions(run, run, [1], ace).verdict, "act");
+    const open = verdictOfConditions(run, none, [2], ace);
+    assert.equal(open.verdict, "unknown");
+    assert.match(said(open), /^Depends on the condition of ACE 2: if it holds, Everyone can /);
+});
