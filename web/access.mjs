@@ -121,7 +121,7 @@ function namedRights(model) {
 export const tokenOf = (library, sids) => sids.map((sid) => ({sid, bytes: sidBytes(library, sid), denyOnly: false}));
 
 // The rights that the kind of object has, by what check answers to a descriptor that grants everything.
-export const rightsOfMapping = (library, mapping) =>
+const rightsOfMapping = (library, mapping) =>
     maximumOf(library, library.fromSddl("D:NO_ACCESS_CONTROL"), tokenOf(library, ["WD"]), {mapping});
 
 // Trustees down, rights across. A cell is 'granted', 'rule' (granted whatever the ACEs say: the owner's, or there is

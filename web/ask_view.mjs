@@ -3,11 +3,11 @@ import {box, button, byId, input, labelled, make, select, show} from "./dom.mjs"
 import {maskText} from "./library.mjs";
 import {reasonKey} from "./look_view.mjs";
 import {faultInWords, rightName, rightsInWords, rightsOf, shownName, visible} from "./naming.mjs";
-import {commaed, longField, plainName} from "./parts_view.mjs";
+import {longField, plainName} from "./parts_view.mjs";
 import {MOST_LIST} from "./state.mjs";
 import {valueIn} from "./tables.mjs";
 import {PRIVILEGES} from "./windows.mjs";
-import {say, WORDS} from "./words.mjs";
+import {commaed, say, WORDS} from "./words.mjs";
 
 function tokenButtons(asked, put, refresh) {
     const add = (text) => () => {

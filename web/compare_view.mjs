@@ -5,9 +5,9 @@ import {kindQuestion} from "./kind_view.mjs";
 import {maskText} from "./library.mjs";
 import {foundText} from "./look_view.mjs";
 import {faultInWords, guidInWords, rightsInWords, whereOf} from "./naming.mjs";
-import {aceRights, commaed, faultBox, formatted, kindClass, longField, who} from "./parts_view.mjs";
+import {aceRights, faultBox, kindClass, longField, who} from "./parts_view.mjs";
 import {valueIn} from "./tables.mjs";
-import {say, WORDS} from "./words.mjs";
+import {commaed, formatted, say, WORDS} from "./words.mjs";
 
 // The parts of the view, and what puts a text into its field.
 export function makeCompare(other, refresh) {
@@ -47,7 +47,7 @@ function aceRow(row, kind, names) {
 }
 
 function aceTable(list, rows, kind, names, later) {
-    const title = say(WORDS.compare.aces, {list: valueIn(WORDS.parts, list)});
+    const title = valueIn(WORDS.parts, list);
     if (!rows) {
         return null;
     }

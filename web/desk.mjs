@@ -27,6 +27,8 @@ import {findingsOf, warningsOf} from "./warnings.mjs";
 const MOST_SHOWN = 20_000;   // characters of a descriptor as a whole
 const MOST_OF_KIND = 10_000; // characters of a text that tell of the kind of object
 const GENERIC = 0xf0000000;
+const MOST_TEXTS = 2;                            // that are kept
+const MOST_NAMED = 1000;                         // descriptors of a text in a list
 const MOST_PIECE = 60;                           // characters of a text that is refused, for a sentence
 const MOST_DESCRIPTORS = 10_000;                 // of a text, whose verdicts are told together
 const MILLISECONDS_OF_MANY = 150;                // of one question about many
@@ -86,25 +88,33 @@ function asked(library, descriptor, model, kind) {
     return library.build({...parts, dacl: parts.dacl.aces.map((ace, at) => ({...ace, mask: aces[at].meaning}))});
 }
 
-// What was found in the last text, so that a text with many descriptors is read once.
-let last = {text: "", form: "", found: []};
+const kindTold = (text) => kindIn(text.slice(0, MOST_OF_KIND));
 
-function foundIn(text, form) {
-    if (last.text !== text || last.form !== form || !last.found.length) {
-        last = {text, form, found: descriptorsIn(text, form)};
-    }
-    return last.found;
+// What was found in the last two texts, of which a comparison has as many: each text is read once.
+const texts = [];
+
+function textOf(text, form) {
+    const at = texts.findIndex((one) => one.text === text && one.form === form);
+    const found = at < 0 ? descriptorsIn(text, form) : null;
+    const [one] = at < 0 ?
+        [{text, form, found, names: found.slice(0, MOST_NAMED).map(({name}) => name), kind: kindTold(text)}] :
+        texts.splice(at, 1);
+    texts.unshift(one);
+    texts.splice(MOST_TEXTS);
+    return one;
 }
 
 // A descriptor of a text: what was found in it, and either the descriptor or its fault with the place.
 function read(library, {text, form, chosen}, domain) {
-    const found = foundIn(text, form);
-    const one = found[Math.min(chosen ?? 0, found.length - 1)];
+    const {found, names, kind} = textOf(text, form);
+    const at = Math.min(chosen ?? 0, found.length - 1);
+    const one = found[at];
     const about = {
         found: found.length,
-        names: found.slice(0, 1000).map(({name}) => name),
+        names,
+        told: kind,
         entry: {name: one.name, classes: one.classes, kind: one.kind},
-        chosen: Math.min(chosen ?? 0, found.length - 1),
+        chosen: at,
         form: one.form,
         line: one.line,
         dropped: one.dropped,
@@ -160,18 +170,16 @@ function optionsOf(library, state, domain) {
     };
 }
 
-const kindTold = (text) => kindIn(text.slice(0, MOST_OF_KIND));
-
 // The kind that the user has chosen, or that an entry of LDIF, the name of one of several, the text or the rights tell
 // of, or else a folder; and whether it is certain, or nothing tells it. icacls lists files alone.
-function kindOf({kind, isKindChosen, text}, {found, names, chosen, dropped, entry}, model) {
+function kindOf({kind, isKindChosen}, {found, dropped, entry, told: ofText}, model) {
     if (isKindChosen || dropped.some(({what}) => what === "listing")) {
         return {kind: isKindChosen ? kind : "folder", isKindSure: true};
     }
     if (entry.kind === "") {
         return {kind: "folder", isKindOpen: true, isKindSure: false};
     }
-    const told = entry.kind ?? kindTold((found > 1 && names[chosen]) || "") ?? kindTold(text);
+    const told = entry.kind ?? kindTold(found > 1 ? entry.name : "") ?? ofText;
     const byRights = told ?? kindByRights(acesIn(model));
     return {kind: byRights ?? "folder", isKindOpen: !byRights, isKindSure: (told ?? "folder") !== "folder"};
 }
@@ -317,7 +325,7 @@ const shortFault = ({fault, place, other}) => ({
 function many(library, {state: given, from}) {
     const end = performance.now() + MILLISECONDS_OF_MANY;
     const rows = [];
-    const all = foundIn(given.text, given.form).length;
+    const all = textOf(given.text, given.form).found.length;
     const most = Math.min(all, MOST_DESCRIPTORS);
     for (let chosen = from; chosen < most && (chosen === from || performance.now() < end); chosen += 1) {
         const one = {...given, chosen};

@@ -122,7 +122,7 @@ function hasNoDacl(output, from, to) {
 
 const noDaclTest = (words) => ({words, flag: FLAGS.noDacl, isExplained: true, isHit: hasNoDacl});
 
-export const testsOf = ({change,
+const testsOf = ({change,
     changeMask,
     explain}) => [change && changeTest(change, changeMask), explain && noDaclTest(explain)].filter(Boolean);
 

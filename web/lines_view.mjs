@@ -2,10 +2,10 @@
 import {box, button, byId, input, labelled, make, select, show} from "./dom.mjs";
 import {FLAGS} from "./lines.mjs";
 import {shownName, visible} from "./naming.mjs";
-import {formatted, pagesBar} from "./parts_view.mjs";
+import {pagesBar} from "./parts_view.mjs";
 import {valueIn} from "./tables.mjs";
 import {changing} from "./warnings.mjs";
-import {say, WORDS} from "./words.mjs";
+import {formatted, say, WORDS} from "./words.mjs";
 
 const FORMS = ["hex", "base64", "sddl"];
 const TYPES = ["file", "key", "ds"];

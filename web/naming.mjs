@@ -76,9 +76,6 @@ const RIGHTS = Object.fromEntries(Object.entries(WORDS.rights).map(([kind, right
 // The named rights of a kind of object, in the order of the grid: {bit, name, short, group}.
 export const rightsOf = (kind) => valueIn(RIGHTS, kind);
 
-export const groupMask = (kind, group) =>
-    rightsOf(kind).filter((right) => right.group === group).reduce((mask, right) => (mask | right.bit) >>> 0, 0);
-
 export function rightName(kind, bit) {
     if (bit === 0x1000000) {
         return WORDS.systemSecurity;

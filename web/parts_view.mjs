@@ -13,7 +13,7 @@ import {
 } from "./naming.mjs";
 import {MOST_TEXT} from "./state.mjs";
 import {valueIn} from "./tables.mjs";
-import {say, WORDS} from "./words.mjs";
+import {commaed, formatted, say, WORDS} from "./words.mjs";
 
 const LARGE = 20_000; // characters; a longer text is kept beside its field
 
@@ -53,8 +53,6 @@ export function longField(id, text, take, {most = MOST_TEXT, clear = null, ...at
 
 export const isLarge = (text) => text.length > LARGE;
 
-export const formatted = (number) => new Intl.NumberFormat(WORDS.language).format(number);
-
 // Which rows of a long table are shown, and buttons to others. GO gets a page and the id of its button.
 export function pagesBar(name, {page, rows, count}, go) {
     const {lines: words} = WORDS;
@@ -86,8 +84,6 @@ export function who(sid, alias, names) {
 
 export const plainName = (sid, names) => nameOf(sid, names);
 
-export const commaed = (words) => words.join(", ");
-
 // What an ACE does, and whether it audits success or failure.
 export function wordOfKind(ace) {
     const audits = ace.flags.map((flag) => valueIn(WORDS.audits, flag)).filter(Boolean);
@@ -108,7 +104,7 @@ export function aceRights(ace, kind) {
 const AROUND = 60;
 const MOST_MARKED = 400;
 
-export function markedText({text, start, end}) {
+function markedText({text, start, end}) {
     const from = Math.max(0, start - AROUND);
     const marked = text.slice(start, Math.min(end, start + MOST_MARKED));
     const after = text.slice(end, end + AROUND);

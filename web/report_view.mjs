@@ -2,9 +2,9 @@
 import {button, byId, input, labelled, make, select, show} from "./dom.mjs";
 import {tableOf} from "./meanings.mjs";
 import {shortened, visible} from "./naming.mjs";
-import {formatted, pagesBar} from "./parts_view.mjs";
+import {pagesBar} from "./parts_view.mjs";
 import {Report} from "./report.mjs";
-import {say, WORDS} from "./words.mjs";
+import {formatted, say, WORDS} from "./words.mjs";
 
 const ROWS = 100;         // of a page of the table
 const MOST_FINDINGS = 20; // of an object in the table

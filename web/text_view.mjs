@@ -3,9 +3,9 @@
 import {linesOf} from "./desk.mjs";
 import {button, byId, make, moveByArrows, show, someRows} from "./dom.mjs";
 import {rightsInWords, shortened, whereOf} from "./naming.mjs";
-import {aceRights, commaed, kindClass, who, wordOfKind} from "./parts_view.mjs";
+import {aceRights, kindClass, who, wordOfKind} from "./parts_view.mjs";
 import {valueIn} from "./tables.mjs";
-import {say, WORDS} from "./words.mjs";
+import {commaed, say, WORDS} from "./words.mjs";
 
 const FEW = 12;  // ACEs that are shown one by one
 const ALIKE = 4; // ACEs that are folded

@@ -13,7 +13,7 @@ const module = await import(pathToFileURL(place).href);
 const library = module.library ?? await module.load();
 const {questionOf} = await import(new URL("web/desk.mjs", TOP).href);
 const {freshState} = await import(new URL("web/state.mjs", TOP).href);
-const {addressOf, takeAddress} = await import(new URL("web/sharing.mjs", TOP).href);
+const {addressOf, takeAddress} = await import(new URL("web/address.mjs", TOP).href);
 const {Report} = await import(new URL("web/report.mjs", TOP).href);
 const {rows, report} = JSON.parse(fs.readFileSync(0, "utf8"));
 

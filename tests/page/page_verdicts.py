@@ -198,8 +198,8 @@ def main(count: preload.Count, chosen: preload.Given) -> None:
         print(f"skipped: no Node, or no {chosen.library}")
         return
     examples = risk_rows.rows()
-    of_text = lambda text: text if isinstance(text, dict) else {"text": text}  # noqa: E731
-    states = [*(of_text(row[0]) for row in (*ROWS, *REASONS)), *map(state_of, examples),
+    texts = (row[0] for row in (*ROWS, *REASONS))
+    states = [*(text if isinstance(text, dict) else {"text": text} for text in texts), *map(state_of, examples),
               *({"text": row["sddl"]} for row in examples)]
     answers = asked(chosen.library, states)
     count.add(answers is not None, "the page gave no answers")

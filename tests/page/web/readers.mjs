@@ -7,7 +7,8 @@ import {kindIn} from "../../../web/kinds.mjs";
 import {namesOfReport, ownNames, visible} from "../../../web/naming.mjs";
 import {Report} from "../../../web/report.mjs";
 import {writtenAces} from "../../../web/scanning.mjs";
-import {addressOf, commandLine, takeAddress} from "../../../web/sharing.mjs";
+import {addressOf, takeAddress} from "../../../web/address.mjs";
+import {commandLine} from "../../../web/command.mjs";
 import {freshState} from "../../../web/state.mjs";
 
 const MOST_OF_FIELD = 20_000; // characters that a field of the page takes

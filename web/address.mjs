@@ -1,19 +1,17 @@
-// The state of the page as a link, behind '#', which no browser sends; and the command line with the same answer.
+// The state of the page as a link, behind '#', which no browser sends.
 import {bitsOf} from "./access.mjs";
-import {wordsOf} from "./lines_view.mjs";
-import {hasOwnMapping, mappingOf, rightsOfKind} from "./meanings.mjs";
-import {HIDDEN, rightsOf} from "./naming.mjs";
-import {between} from "./scanning.mjs";
+import {rightsOf, visible} from "./naming.mjs";
 import {MOST_LIST, MOST_TEXT, MOST_WORD} from "./state.mjs";
-import {valueIn} from "./tables.mjs";
 import {KINDS as TABLE_OF_KINDS} from "./windows.mjs";
+import {commaed, formatted, say, WORDS} from "./words.mjs";
 
-const MOST_ADDRESS = 30_000; // characters; some browsers and most programs take no longer link
+const MOST_ADDRESS = 30_000;  // characters; some browsers and most programs take no longer link
+const MOST_UNREAD = 8;        // words of an address that are named
+const MOST_UNREAD_TEXT = 100; // characters of each
 const VIEWS = ["look", "ask", "inherit", "compare", "lines"]; // a report is not in an address, and so its view isn't
 const KINDS = Object.keys(TABLE_OF_KINDS);
 const FORMS = ["auto", "sddl", "hex", "base64"];
 const MOST_LEVEL = 0xffffffff;
-const MAXIMUM_ALLOWED = 0x2000000;
 
 /** @typedef {(state: import("./state.mjs").State) => object} Holder */
 
@@ -152,89 +150,13 @@ export function takeAddress(state, text) {
         .map(([name, value]) => `${name}=${value}`);
 }
 
-const octal =
-    (text) => [...new TextEncoder().encode(text)].map((byte) => `\\0${byte.toString(8).padStart(3, "0")}`).join("");
-
-const plainQuoted = (text) => `'${text.replace(/'/g, "'\\''")}'`;
-
-// A text with characters that don't show, such as the escape that ends a bracketed paste: printf makes it of numbers.
-function spelledQuoted(text) {
-    const known = new Map();
-    const spell = (character) => {
-        if (!known.has(character)) {
-            known.set(character, octal(character));
-        }
-        return known.get(character);
-    };
-    return `"$(printf '%b' ${plainQuoted(text.replace(/\\/g, "\\\\").replace(HIDDEN, spell))})"`;
-}
-
-// A word as a POSIX shell reads it. Line ends at its end, which printf would lose, stay as they are inside the
-// quotation marks.
-function quoted(word) {
-    if (/^[A-Za-z0-9_,.:=@%+-]+$/.test(word)) {
-        return word;
-    }
-    const text = between(word, () => false, (character) => character === "\n");
-    const ends = word.slice(text.length);
-    return text.search(HIDDEN) < 0 ? plainQuoted(word) : spelledQuoted(text) + (ends && plainQuoted(ends));
-}
-
-const domainWords = (state) => (state.domain.trim() ? ["--domain", state.domain.trim()] : []);
-const formWords = (form) => (form === "hex" ? [] : ["--from", form]);
-const typeWords = (state) => (mappingOf(state.kind) === "file" ? [] : ["--type", mappingOf(state.kind)]);
-
-// What is wanted of a kind that the program has no mapping for: what was granted, or what was not.
-const ownWanted = ({verdict, wanted}, kind) =>
-    (verdict.granted ? verdict.mask : (wanted & ~MAXIMUM_ALLOWED) >>> 0 || rightsOfKind(kind));
-
-function askWords(state, result) {
-    const {ask, kind} = state;
-    const isOwn = result?.verdict && hasOwnMapping(kind);
-    const named = ask.rights.reduce((all, bit) => (all | bit) >>> 0, 0);
-    const mask = isOwn ? ownWanted(result, kind) : named && (result?.wanted ?? named);
-    const want = mask ? `0x${mask.toString(16)}` : ask.want.trim();
-    const token = result?.entries?.length ? result.entries.map((entry) => entry.text).join(",") : ask.token.trim();
-    const level = result?.level ?? (/^ \d+$/.test(ask.level) ? Number(ask.level) : null);
-    return [
-        "check",
-        "--token",
-        token,
-        ...(want ? ["--want", want] : []),
-        ...(ask.maximum && !isOwn ? ["--maximum"] : []),
-        ...typeWords(state),
-        ...(mappingOf(state.kind) === "ds" && state.object.trim() ? ["--object", state.object.trim()] : []),
-        ...(ask.self.trim() ? ["--self", ask.self.trim()] : []),
-        ...(result?.security ?? ask.security ? ["--security"] : []),
-        ...(result?.takeOwnership ?? ask.takeOwnership ? ["--take-ownership"] : []),
-        ...(level === null ? [] : ["--level", String(level)]),
-    ];
-}
-
-const inheritWords = ({made, ...state}) => ["derive", "--kind", made.kind, "--owner", made.owner.trim(), "--group",
-    made.group.trim(), ...(made.creator.trim() ? ["--creator", made.creator.trim()] : []), ...typeWords(state)];
-
-// The words after the program's name that answer the question of a view, and the lines that they read: of a kind that
-// the program has no mapping for, the descriptor that the library was asked about.
-export function commandOf(state, look, asked) {
-    const words = {
-        look: () => ["explain"],
-        report: () => ["explain"],
-        ask: () => askWords(state, asked),
-        inherit: () => inheritWords(state),
-        compare: () => ["convert", "--to", "hex"]
-    };
-    const {form, line} = asked?.line ? {form: "sddl", line: asked.line} : look;
-    return {
-        words: [...valueIn(words, state.view)(), ...formWords(form), ...domainWords(state)],
-        lines: asked?.other ? [line, asked.other.line] : [line]
-    };
-}
-
-export function commandLine(state, look, asked) {
-    if (state.view === "lines") {
-        return ["sdtool", ...wordsOf(state.lines).map(quoted), "< FILE"].join(" ");
-    }
-    const {words, lines} = commandOf(state, look, asked);
-    return `printf '%s\\n' ${lines.map(quoted).join(" ")} | ${["sdtool", ...words.map(quoted)].join(" ")}`;
+// What of an address can't be read, in words.
+export function unreadInWords(unread) {
+    const shown = unread.slice(0, MOST_UNREAD)
+                      .map((one) => (one.length > MOST_UNREAD_TEXT ?
+                                   say(WORDS.addressLong,
+                                       {text: visible(one.slice(0, MOST_UNREAD_TEXT)), count: formatted(one.length)}) :
+                                   visible(one)));
+    const left = unread.length - shown.length;
+    return say(WORDS.address, {what: commaed(left > 0 ? [...shown, say(WORDS.summary.left, {count: left})] : shown)});
 }
