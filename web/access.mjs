@@ -79,10 +79,20 @@ const decided = (reasons, rights) => ({
 // A browser copies one text from the worker faster than many objects.
 const packed = (reasons) => reasons.map(({by, number}) => (number === null ? by : `${by} ${number}`)).join(",");
 
-// What decided about a right of a row of the grid.
-export function reasonIn(row, bit) {
-    const [by, number] = row.reasons.split(",")[Math.log2(bit)].split(" ");
-    return {bit, isGranted: has(row.granted, bit), by, number: number === undefined ? null : Number(number)};
+// What decided about each right of a row of the grid.
+export const decidedOf = (row) => row.reasons.split(",").map((reason, place) => {
+    const [by, number] = reason.split(" ");
+    return {bit: 2 ** place, by, number: number === undefined ? null : Number(number)};
+});
+
+// What decided about one.
+export const reasonIn = (row, bit) => ({...decidedOf(row)[Math.log2(bit)], isGranted: has(row.granted, bit)});
+
+// What a trustee has by ACEs of its own, or by a rule. What wider groups have is told of these, unless an ACE denies
+// some of it.
+export function ownOf(row) {
+    const own = decidedOf(row).filter(({by, number}) => by !== "ace" || row.numbers.includes(number));
+    return row.denied ? row.granted : own.reduce((mask, {bit}) => (mask | (row.granted & bit)) >>> 0, 0);
 }
 
 // The trustees of a DACL, in the order in which they first occur, and the owner before them.

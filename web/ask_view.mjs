@@ -1,13 +1,16 @@
 // The second view: what a token gets, and what decided about each right.
+import {bitsOf} from "./access.mjs";
 import {box, button, byId, input, labelled, make, select, show} from "./dom.mjs";
 import {maskText} from "./library.mjs";
 import {reasonKey} from "./look_view.mjs";
-import {faultInWords, rightName, rightsInWords, rightsOf, shownName, visible} from "./naming.mjs";
+import {faultInWords, rightsInWords, rightsOf, shownName, visible} from "./naming.mjs";
 import {longField, plainName} from "./parts_view.mjs";
 import {MOST_LIST} from "./state.mjs";
 import {valueIn} from "./tables.mjs";
 import {PRIVILEGES} from "./windows.mjs";
 import {commaed, say, WORDS} from "./words.mjs";
+
+const MOST_FAULTS = 8; // of a token
 
 function tokenButtons(asked, put, refresh) {
     const add = (text) => () => {
@@ -47,7 +50,8 @@ export function makeAsk(asked, refresh) {
         longField("ask-token", asked.token, set("token"), {most: MOST_LIST, "aria-describedby": "ask-token-hint"});
     return [
         make("h2", {id: "ask-heading"}, WORDS.ask.heading),
-        make("div", {class: "split"}, make("div", {id: "ask-result"}),
+        make("div", {class: "split"},
+            make("div", {}, make("div", {id: "ask-result"}), make("div", {id: "ask-all", hidden: true})),
             make("div", {class: "form"}, labelled(WORDS.ask.token, token.field, WORDS.ask.tokenHint), token.note,
                 tokenButtons(asked, token.put, refresh), box("ask-exact", WORDS.ask.exact, asked.exact, set("exact")),
                 box("ask-maximum", WORDS.ask.maximum, asked.maximum, set("maximum")),
@@ -75,11 +79,12 @@ function levelsFor(chosen) {
         [...all, [chosen, say(WORDS.ask.levelOther, {level: chosen.trim()})]];
 }
 
-const faultsOf = (result) => [result.tokenFaults?.length ? say(WORDS.ask.tokenFault, {
-    what: commaed(result.tokenFaults.slice(0, 8).map(
-        ({text, number, faultName}) => `${visible(text.slice(0, 60))} (error ${number} ${faultName})`))
+export const faultsOf = (result) => [result.tokenFaults?.length ? say(WORDS.ask.tokenFault, {
+    what: commaed(result.tokenFaults.slice(0, MOST_FAULTS).map(({text,
+        number,
+        faultName}) => `${visible(text.slice(0, 60))} (error ${number} ${faultName})`))
 }) :
-                                                           null,
+                                                                  null,
     result.listing ?
         say(valueIn(WORDS.ask.listing, result.listing.why), {what: visible(result.listing.text.slice(0, 200))}) :
         null,
@@ -92,7 +97,7 @@ const faultsOf = (result) => [result.tokenFaults?.length ? say(WORDS.ask.tokenFa
     result.refused ? faultInWords({number: result.refused}) : null,
 ].filter(Boolean);
 
-function verdictText({verdict}, kind) {
+export function answerInWords({verdict}, kind) {
     const words = commaed(rightsInWords(kind, verdict.mask));
     if (verdict.granted) {
         return say(WORDS.ask.all, {rights: words});
@@ -100,23 +105,35 @@ function verdictText({verdict}, kind) {
     return verdict.mask === 0 ? WORDS.ask.nothing : say(WORDS.ask.missing, {rights: words});
 }
 
-function reasonRow(reason, kind, texts) {
+// The rights that the same ACE, or the same rule, decided alike: {reason, mask}.
+function decidedBy(reasons) {
+    const groups = new Map();
+    for (const reason of reasons) {
+        const {by, number, isGranted, isWanted, bit} = reason;
+        const key = [by, number, isGranted, isWanted].join(" ");
+        groups.set(key, {reason, mask: ((groups.get(key)?.mask ?? 0) | bit) >>> 0});
+    }
+    return [...groups.values()];
+}
+
+function reasonRow({reason, mask}, kind, texts, isSome) {
     const {columns} = WORDS.ask;
-    const state = reason.isGranted ? "granted" : "denied";
-    const short = say(valueIn(WORDS.reasons.short, reasonKey(reason.by)), {number: reason.number});
+    const {by, number, isGranted, isWanted} = reason;
+    const short = say(valueIn(WORDS.reasons.short, reasonKey(by)), {number});
     return make("tr", {
-        class: `reason ${reason.isGranted ? "allow" : "deny"}`,
-        "data-bit": reason.bit,
-        "data-by": reason.by,
-        "data-number": reason.number
+        class: `reason ${isGranted ? "allow" : "deny"}`,
+        "data-bits": bitsOf(mask).join(" "),
+        "data-by": by,
+        "data-number": number,
+        ...(number ? {"data-aces": number} : {})
     },
-        make("th", {scope: "row", "data-label": columns.right}, rightName(kind, reason.bit), " ",
-            make("code", {class: "mask"}, maskText(reason.bit)),
-            reason.isWanted ? make("span", {class: "tag"}, WORDS.ask.wanted) : null),
-        make("td", {"data-label": columns.state}, make("span", {class: "badge"}, valueIn(WORDS.ask, state))),
-        make("td", {"data-label": columns.reason}, short),
-        make(
-            "td", {"data-label": columns.text}, reason.number ? make("code", {}, texts[reason.number - 1] ?? "") : ""));
+        make("th", {scope: "row", "data-label": columns.reason}, short),
+        make("td", {"data-label": columns.state},
+            make("span", {class: "badge"}, valueIn(WORDS.ask, isGranted ? "granted" : "denied"))),
+        make("td", {"data-label": columns.rights}, commaed(rightsInWords(kind, mask)), " ",
+            make("code", {class: "mask"}, maskText(mask)),
+            isSome && isWanted ? make("span", {class: "tag"}, WORDS.ask.wanted) : null),
+        make("td", {"data-label": columns.text}, number ? make("code", {}, texts[number - 1] ?? "") : ""));
 }
 
 function tokenLine(result, names) {
@@ -135,8 +152,8 @@ function tokenLine(result, names) {
 
 // What the answer doesn't say of the real token.
 const beside = ({lacksUser, notes}) => [...(lacksUser ? [make("p", {class: "fault-name"}, WORDS.ask.lacksUser)] : []),
-    ...notes.map(
-        (name) => make("p", {class: "hint"}, say(WORDS.ask.beside, {name, lets: valueIn(PRIVILEGES, name)[1]}))),
+    ...notes.map((name) => make("p", {class: "hint"},
+                     say(WORDS.ask.beside, {name, lets: valueIn(WORDS.lets, valueIn(PRIVILEGES, name)[1])}))),
 ];
 
 // Shows it. Returns what a screen reader says of it.
@@ -149,7 +166,9 @@ export function showAsk(result, {kind, names, texts}) {
     }
     const {columns} = WORDS.ask;
     const isGranted = result.verdict.granted;
-    const said = isGranted ? verdictText(result, kind) : `${WORDS.ask.denied}. ${verdictText(result, kind)}`;
+    const isSome = result.reasons.some(({isWanted}) => !isWanted);
+    const answer = answerInWords(result, kind);
+    const said = isGranted ? answer : `${WORDS.ask.denied}. ${answer}`;
     show(place,
         make("p", {class: `verdict ${isGranted ? "allow" : "deny"}`}, make("strong", {}, said), " ",
             make("code", {}, `${isGranted ? "granted" : "denied"} ${maskText(result.verdict.mask)}`)),
@@ -159,6 +178,6 @@ export function showAsk(result, {kind, names, texts}) {
             make("table", {class: "reasons"},
                 make("thead", {},
                     make("tr", {}, Object.values(columns).map((text) => make("th", {scope: "col"}, text)))),
-                make("tbody", {}, result.reasons.map((reason) => reasonRow(reason, kind, texts))))));
+                make("tbody", {}, decidedBy(result.reasons).map((one) => reasonRow(one, kind, texts, isSome))))));
     return [said];
 }

@@ -22,6 +22,7 @@ const ENDS = new Map([
     ["\"", "\""], ["'", "'"], ["`", "`"], ["\u201c", "\u201d"], ["\u201e", "\u201c"], ["\u2018", "\u2019"],
     ["\u00ab", "\u00bb"], [">", "<"]
 ]);
+const MOST_STRAY = 100; // characters of a line
 const MOST_LEFT = 1000; // characters of what was left out, of which the page shows fewer
 const ORDER = "OGDS";   // of the parts
 const NONE = [];        // classes
@@ -274,11 +275,25 @@ function ofSddl(text) {
         one.name = BESIDE.has(one.name.toLowerCase()) ? [path, one.name].filter(Boolean).join(": ") :
                                                         path ?? (one.name || (others.at(-1) ?? ""));
         one.dropped.unshift(...leftOut("before", others.join(" ")));
+        const {name} = one;
+        found.push(Object.assign(one, {strays: found.length ? others.filter((line) => line !== name) : []}));
         others = [];
-        found.push(one);
     }
     found.at(-1)?.dropped.push(...leftOut("after", others.join(" ")));
+    found.at(-1)?.strays.push(...others);
     return found;
+}
+
+// A line that goes with what prints a list, and is none of its rows.
+const OF_PRINTING = /^(?:#|Successfully processed |[^\p{L}\d]*$|"?[\w ]{1,20}"?\s?:(?![\\/]))/u;
+
+/**
+ * The lines of a list of descriptors that are none, where most are. What comes before the first one is a heading.
+ * @param {Array<{strays?: string[]}>} found
+ */
+export function straysIn(found) {
+    const all = found.flatMap(({strays = []}) => strays).filter((line) => !OF_PRINTING.test(line));
+    return 2 * all.length <= found.length ? all.map((line) => line.slice(0, MOST_STRAY)) : [];
 }
 
 const LEAST_BYTES = 20; // of a list of numbers that is taken for a descriptor

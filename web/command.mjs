@@ -101,8 +101,5 @@ export function whyNoCommand(view, isKindShown, {asksKind, isLevelUnknown, isMap
         return valueIn(WORDS.kindAsked, asksKind ?? "rights");
     }
     const {mappingUnknown, noHeirs} = WORDS.inherit;
-    return isLevelUnknown ? WORDS.ask.levelUnknown :
-        isMappingUnknown  ? mappingUnknown :
-        hasNoHeirs        ? noHeirs :
-                            null;
+    return isLevelUnknown ? WORDS.ask.levelUnknown : isMappingUnknown ? mappingUnknown : hasNoHeirs ? noHeirs : null;
 }

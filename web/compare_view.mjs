@@ -62,18 +62,18 @@ function aceTable(list, rows, kind, names, later) {
     return [make("div", {class: "scroll", tabindex: "0", role: "region", "aria-label": title}, table), more];
 }
 
+const flagsInWords = (flags) => (flags === "absent" ? WORDS.parts.absent : flags || WORDS.compare.noFlags);
+
 function partLines(result, names) {
     const text = (found) => (found ? who(found.sid, found.alias, names) : WORDS.parts.none);
     const parts = result.parts.filter((part) => !part.isSame)
                       .map(({part, one, other}) => make("li", {class: "changed"}, valueIn(WORDS.parts, part), ": ",
                                text(one), " \u2192 ", text(other)));
-    const flags = result.flags.filter((part) => !part.isSame).map(({part,
-        one,
-        other}) => make("li", {class: "changed"}, say(WORDS.compare.part, {
-        part: valueIn(WORDS.parts, part),
-        one: one || WORDS.compare.noFlags,
-        other: other || WORDS.compare.noFlags
-    })));
+    const flags =
+        result.flags.filter((part) => !part.isSame)
+            .map(({part, one, other}) => make("li", {class: "changed"},
+                     say(WORDS.compare.part,
+                         {part: valueIn(WORDS.parts, part), one: flagsInWords(one), other: flagsInWords(other)})));
     const control = result.control.oneWord === result.control.otherWord ?
         null :
         make("li", {class: "changed"},

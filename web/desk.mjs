@@ -1,7 +1,7 @@
 // The questions of the page, each answered as plain data, so that a worker can send it. Nothing here knows the
 // document.
 import {ask, gridOf, isRefusedRequest, levelOfObject, meaningOf, typesOf} from "./access.mjs";
-import {descriptorsIn} from "./clipboard.mjs";
+import {descriptorsIn, straysIn} from "./clipboard.mjs";
 import {placeOf as placeOfObject} from "./classes.mjs";
 import {compare, compareRights} from "./comparing.mjs";
 import {asIf} from "./conditions.mjs";
@@ -96,9 +96,15 @@ const texts = [];
 function textOf(text, form) {
     const at = texts.findIndex((one) => one.text === text && one.form === form);
     const found = at < 0 ? descriptorsIn(text, form) : null;
-    const [one] = at < 0 ?
-        [{text, form, found, names: found.slice(0, MOST_NAMED).map(({name}) => name), kind: kindTold(text)}] :
-        texts.splice(at, 1);
+    const [one] = at < 0 ? [{
+        text,
+        form,
+        found,
+        names: found.slice(0, MOST_NAMED).map(({name}) => name),
+        kind: kindTold(text),
+        strays: straysIn(found)
+    }] :
+                           texts.splice(at, 1);
     texts.unshift(one);
     texts.splice(MOST_TEXTS);
     return one;
@@ -295,6 +301,13 @@ const look = (library, given) => about(library, given, ({state, descriptor, foun
     };
 }, (found, domain) => ({...found, ...verdictOfRefused(library, given, found, domain)}));
 
+// Who gets what of properties, rights and classes of a directory object, by their GUIDs: the rows of a grid for each.
+const find = (library, {state: given, objects}) => about(library, given, ({state, descriptor, model, domain}) => {
+    const options = optionsOf(library, state, domain);
+    const question = asked(library, descriptor, model, state.kind);
+    return {found: packed(objects.map((object) => gridOf(library, question, model, {...options, object}).rows))};
+});
+
 // The texts of the ACEs where nothing tells what their masks mean.
 function packedTexts(library, model, domain) {
     const {dacl, sacl} = writtenIn(library, model, domain);
@@ -321,30 +334,33 @@ const shortFault = ({fault, place, other}) => ({
         }
 });
 
-// The verdicts on descriptors of a text from one on, as many as there is time for, and the number of the next one.
-function many(library, {state: given, from}) {
+// Answers about the descriptors of a text from one on, as many as there is time for, with the number of the next one
+// and the lines that are none.
+function ofEach({state, from}, answer) {
     const end = performance.now() + MILLISECONDS_OF_MANY;
+    const {found, strays} = textOf(state.text, state.form);
     const rows = [];
-    const all = textOf(given.text, given.form).found.length;
-    const most = Math.min(all, MOST_DESCRIPTORS);
+    const most = Math.min(found.length, MOST_DESCRIPTORS);
     for (let chosen = from; chosen < most && (chosen === from || performance.now() < end); chosen += 1) {
-        const one = {...given, chosen};
-        const {kind, entry, asksKind, judged, ...found} =
-            about(library, one, ({state, descriptor, found: read, model, domain}) => {
-                const open = openKind(state, [model]);
-                const verdict = verdictOfAny(library, descriptor, model, state, domain, open?.kinds);
-                return {entry: read.entry, asksKind: open?.asksKind, judged: verdict};
-            }, (read, domain) => ({...read, ...verdictOfRefused(library, one, read, domain)}));
-        rows.push({
-            at: chosen,
-            name: entry.name,
-            kind: asksKind ? "" : kind,
-            judged,
-            ...(found.fault ? shortFault(found) : {})
-        });
+        rows.push({at: chosen, name: found[chosen].name, ...answer({...state, chosen})});
     }
-    return {rows: packed(rows), next: from + rows.length, most, all};
+    return {rows: packed(rows), next: from + rows.length, most, all: found.length, strays};
 }
+
+// The verdicts.
+const many = (library, asked) => ofEach(asked, (one) => {
+    const {kind, asksKind, judged, ...found} = about(library, one, ({state, descriptor, model, domain}) => {
+        const open = openKind(state, [model]);
+        return {asksKind: open?.asksKind, judged: verdictOfAny(library, descriptor, model, state, domain, open?.kinds)};
+    }, (read, domain) => ({...read, ...verdictOfRefused(library, one, read, domain)}));
+    return {kind: asksKind ? "" : kind, judged, ...(found.fault ? shortFault(found) : {})};
+});
+
+// What a token gets of each, without what decided.
+const askMany = (library, {state: given, from, asked: question}) => ofEach({state: given, from}, (state) => {
+    const {reasons, entries, notes, line, ...answer} = askAbout(library, {state, asked: question});
+    return answer;
+});
 
 // What is asked for, read by the library: names of rights, or a number.
 function wantedOf(library, asked, kind) {
@@ -535,8 +551,10 @@ const isBelow = ({state, one, other}, inherited) =>
 
 const QUESTIONS = {
     look,
+    find,
     many,
     ask: askAbout,
+    askMany,
     inherit: inheritFrom,
     compare: compareWith,
     version: (library) => library.version(),

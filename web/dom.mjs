@@ -126,7 +126,8 @@ export function someRows(body, items, makeRow, moreText, {step = 60, later = nul
         shown = Math.min(items.length, shown + count);
         const left = items.length - shown;
         const isButton = left > 0 && shown >= first;
-        place.replaceChildren(...(isButton ? [button(moreText(Math.min(step, left)), () => add(step))] : []));
+        const onPaper = make("span", {class: "on-paper"}, say(WORDS.summary.left, {count: left}));
+        place.replaceChildren(...(isButton ? [button(moreText(Math.min(step, left)), () => add(step)), onPaper] : []));
     };
     add(later ? turn : step);
     for (let at = turn; later && at < first; at += turn) {

@@ -17,7 +17,8 @@ import {say, WORDS} from "./words.mjs";
 const MOST_NAME = 60; // characters in the list of several descriptors
 
 export class InputView {
-    // ACTS are what the page does: 'type' and 'open' a text, 'set' an option, and what leaves it by the name of a button.
+    // ACTS are what the page does: 'type' and 'open' a text, 'set' an option, and what leaves it by the name of a
+    // button.
     constructor(store, acts) {
         this.store = store;
         this.acts = acts;
@@ -29,8 +30,8 @@ export class InputView {
         const {open, type} = this.acts;
         const setter = (name) => (value) => this.acts.set(name, value);
         this.chosenKey = null;
-        this.text = longField(
-            "text", state.text, type, {"aria-describedby": "text-hint found", clear: () => open("", "auto")});
+        this.text =
+            longField("text", state.text, type, {"aria-describedby": "text-hint found", clear: () => open("", "auto")});
         const names =
             longField("names", state.names, setter("names"), {most: MOST_LIST, "aria-describedby": "names-hint"});
         const openExample = (name) => {
@@ -42,22 +43,20 @@ export class InputView {
         show(byId("input"), make("h2", {id: "text-heading"}, WORDS.text.heading, " ", make("small", {id: "text-name"})),
             make("div", {id: "chosen-field", hidden: true}),
             make("div", {id: "field"}, labelled(WORDS.inputLabel, this.text.field, WORDS.inputHint), this.text.note,
-                make("p", {class: "adds"}, WORDS.examples, ": ", Object.entries(WORDS.examplesPlain).map(([name,
-                    label]) => [button(label, () => openExample(name), {class: "add", id: `example-${name}`}), " "]),
+                make("p", {class: "adds"}, WORDS.examples, ": ", Object.entries(WORDS.examplesPlain).map(([
+                    name, label
+                ]) => [button(label, () => openExample(name), {class: "add", id: `example-${name}`}), " "]),
                     button(WORDS.clear, () => open("", "auto"), {class: "add", id: "clear"}), " ",
                     button(WORDS.text.done, () => this.fold(true), {class: "add", id: "done"}))),
             make("div", {id: "lines", hidden: true}), make("div", {id: "ace-words", class: "ace-words", hidden: true}),
             make("p", {id: "found", class: "found"}, WORDS.waiting),
-            make("div", {id: "share", class: "share"},
-                Object.entries(WORDS.share)
-                    .map(([name, label]) => [button(label, valueIn(this.acts.share, name), {id: `share-${name}`}), " "])),
+            make("div", {id: "share", class: "share"}, Object.entries(WORDS.share).map(([name,
+                label]) => [button(label, valueIn(this.acts.share, name), {id: `share-${name}`}), " "])),
             make("div", {id: "copied", class: "copied", hidden: true}),
-            unread.length ?
-                make("p", {id: "unread", class: "warning caution", role: "status"}, unreadInWords(unread)) :
-                null,
-            make("details", {id: "more-options", open: this.store.hasOptions},
-                make("summary", {}, WORDS.moreOptions), this.options(setter),
-                box("common", WORDS.commonLabel, state.common, setter("common")),
+            unread.length ? make("p", {id: "unread", class: "warning caution", role: "status"}, unreadInWords(unread)) :
+                            null,
+            make("details", {id: "more-options", open: this.store.hasOptions}, make("summary", {}, WORDS.moreOptions),
+                this.options(setter), box("common", WORDS.commonLabel, state.common, setter("common")),
                 labelled(WORDS.namesLabel, names.field, WORDS.namesHint), names.note));
         this.fold(state.text !== "");
     }
@@ -72,7 +71,8 @@ export class InputView {
             make("div", {id: "object-field", hidden: !isDirectory(state.kind)},
                 field("object", WORDS.objectLabel, WORDS.objectHint, {list: "guids"}),
                 make("datalist", {id: "guids"},
-                    knownGuids().map(({guid, name, type}) => make("option", {value: guid}, `${name} (${type})`))),
+                    knownGuids().map(
+                        ({guid, name, typeName}) => make("option", {value: guid}, `${name} (${typeName})`))),
                 field("classes", WORDS.classesLabel, WORDS.classesHint)));
     }
 
@@ -192,8 +192,9 @@ export class InputView {
             const take = (value) => set("chosen", Math.min(found, Math.max(1, Math.trunc(value) || 1)) - 1);
             return labelled(WORDS.chosenLabel, input("chosen", "", take, {inputmode: "numeric"}));
         }
-        const options = Object.fromEntries(names.map((name, index) => [index,
-            say(WORDS.chosenOption, {number: index + 1, count: found, name: visible(name.slice(0, MOST_NAME))})]));
+        const options = Object.fromEntries(names.map(
+            (name, index) => [index,
+                say(WORDS.chosenOption, {number: index + 1, count: found, name: visible(name.slice(0, MOST_NAME))})]));
         return labelled(WORDS.chosenLabel, select("chosen", options, "0", (value) => set("chosen", Number(value))));
     }
 }

@@ -1,8 +1,9 @@
 // The first view: who can do what, warnings, and a grid of rights.
-import {bitsOf, cellOf, has, reasonIn} from "./access.mjs";
+import {bitsOf, cellOf, decidedOf, has, ownOf, reasonIn} from "./access.mjs";
 import {linesOf} from "./desk.mjs";
 import {button, byId, make, moveByArrows, show, showParts, someRows} from "./dom.mjs";
-import {doing as maskDoing, isTrusted} from "./meanings.mjs";
+import {findSection} from "./find_view.mjs";
+import {doing as maskDoing, isDirectory, isTrusted} from "./meanings.mjs";
 import {guidInWords, labelInWords, rightName, rightsInWords, rightsOf, shortened, visible} from "./naming.mjs";
 import {faultBox, plainName, who} from "./parts_view.mjs";
 import {verbsOf} from "./sentences.mjs";
@@ -30,19 +31,6 @@ function firstOf(items, most, inWords) {
 }
 
 const shortOf = (rights) => firstOf(rights, MOST_RIGHTS, String);
-
-// What decided about each right of a row of the grid.
-const decidedOf = (row) => row.reasons.split(",").map((reason, place) => {
-    const [by, number] = reason.split(" ");
-    return {bit: 2 ** place, by, number: Number(number)};
-});
-
-// What a trustee has by ACEs of its own, or by a rule. What wider groups have is told of these, unless an ACE denies
-// some of it.
-function ownOf(row) {
-    const own = decidedOf(row).filter(({by, number}) => by !== "ace" || row.numbers.includes(number));
-    return row.denied ? row.granted : own.reduce((mask, {bit}) => (mask | (row.granted & bit)) >>> 0, 0);
-}
 
 // What a trustee can do: many rights together by their name, and those that an ACE denies of them.
 function canInWords(row, granted, kind, rights) {
@@ -185,7 +173,7 @@ function plainText(warning, kind, names) {
         ...(warning.who ? verbsOf([warning.who]) : {}),
         who: warning.who ? plainName(warning.who, names) : "",
         rights: warning.mask ? commaed(rightsInWords(warning.kind ?? kind, warning.mask)) : "",
-        says: warning.says ?? "",
+        says: warning.says ? valueIn(WORDS.lets, warning.says) : "",
         number: numbers[0],
         first: numbers[0],
         second: numbers[1],
@@ -364,7 +352,7 @@ export function showLook(place, result, context, isOver) {
     const count = rows.length * bitsOf(rights).length;
     const parts = [
         () => trustees(result, kind, names), () => warnings(result, kind, names),
-        (later) => gridSection(result, context, later)
+        ...(isDirectory(kind) ? [() => findSection(context)] : []), (later) => gridSection(result, context, later)
     ];
     return showParts(place, count, parts, isOver);
 }

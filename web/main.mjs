@@ -11,11 +11,12 @@ import {tabBehind, tie} from "./keyboard.mjs";
 import {kindQuestion} from "./kind_view.mjs";
 import {LinesView} from "./lines_view.mjs";
 import {foundText, showFault, showLook, showReason} from "./look_view.mjs";
-import {ManyView} from "./many_view.mjs";
+import {askAll, ManyView} from "./many_view.mjs";
 import {faultInWords, shownName} from "./naming.mjs";
+import {showPrintHead, unfold} from "./paper.mjs";
 import {isLarge} from "./parts_view.mjs";
 import {nameOfObject, objectWords, placeOfObject, ReportView} from "./report_view.mjs";
-import {copyCommand, copyLink, copyText, showPrintHead} from "./share_view.mjs";
+import {copyCommand, copyLink, copyText} from "./share_view.mjs";
 import {speak} from "./speech.mjs";
 import {Store} from "./store.mjs";
 import {valueIn} from "./tables.mjs";
@@ -39,6 +40,7 @@ class Page {
         this.version = version;
         this.result = null;
         this.asked = null;
+        this.found = {text: ""};
         this.turns = new Turns();
         // A report has a view of its own, before all others.
         this.views = Object.keys(WORDS.tabs).filter((view) => view !== "report" || report);
@@ -55,7 +57,7 @@ class Page {
             files: new FileDesk(source, bytes, isWorker),
             onOpen: (text, form, kind) => this.open(text, form, kind),
         });
-        this.many = new ManyView((from) => this.desk.ask("many", {state: this.store.shared, from}).catch(() => null), {
+        this.many = new ManyView((from) => this.desk.ask("many", {state: this.store.shared, from}), {
             onOpen: (at) => this.set("chosen", at),
             onCompare: (one, other) => this.compareTwo(one, other),
         });
@@ -96,6 +98,8 @@ class Page {
             onAce: (ace) => showAce(ace, this.context),
             onKind: (kind) => this.answerKind(kind),
             onAll: () => this.set("all", true),
+            found: this.found,
+            onFind: (objects) => this.desk.ask("find", {state: this.store.shared, objects}).catch(() => null),
         };
     }
 
@@ -129,6 +133,7 @@ class Page {
 
     listen() {
         byId("tabs").addEventListener("keydown", (event) => this.moveTab(event));
+        window.addEventListener("beforeprint", unfold);
         window.addEventListener("dragover", (event) => event.preventDefault());
         window.addEventListener("drop", (event) => this.drop(event));
         window.addEventListener("paste", (event) => this.input.paste(event));
@@ -368,6 +373,10 @@ class Page {
         const result = await this.desk.ask(view, about).catch((error) => ({error}));
         if (result && !turn.isOver(view)) {
             await this.showAnswer(view, result, showAnswer, () => turn.isOver(view));
+        }
+        if (view === "ask" && this.result?.found > 1 && !turn.isOver(view)) {
+            await askAll((from) => this.desk.ask("askMany", {...about, from}), () => turn.isOver(view),
+                (at) => this.set("chosen", at));
         }
     }
 

@@ -1,175 +1,252 @@
-// Several descriptors of a text: the verdict on all, and a table with that on each, those alike together.
+// Several descriptors of a text: the verdict on all, a table with that on each, those alike together, and what a token
+// gets of each.
+import {answerInWords, faultsOf} from "./ask_view.mjs";
 import {linesOf} from "./desk.mjs";
 import {button, byId, make, show, someRows} from "./dom.mjs";
 import {everybodyClass} from "./meanings.mjs";
-import {shownName} from "./naming.mjs";
+import {faultInWords, shownName} from "./naming.mjs";
 import {sentenceOf} from "./sentences.mjs";
 import {speak} from "./speech.mjs";
 import {valueIn} from "./tables.mjs";
 import {showSentence} from "./verdict_view.mjs";
 import {formatted, say, WORDS} from "./words.mjs";
 
-const ORDER = ["act", "unknown", "look", "named", "fine"]; // the worst first
 const MOST_ROWS = 20;
 const words = WORDS.many;
+// What comes first of verdicts and of answers, with their signs and words.
+const VERDICTS = {
+    order: ["act", "unknown", "look", "named", "fine"],
+    ...WORDS.verdict
+};
+const ANSWERS = {
+    order: ["granted", "unknown", "denied"],
+    ...words.answers
+};
 
-const nameOf = ({name, at}) => shownName(name) || say(words.noName, {number: at + 1});
-
-// Rows with the same verdict, sentence and kind together: {rows, verdict, kind, sentence}.
-function groupsOf(rows, names) {
-    const groups = new Map();
-    for (const row of rows) {
-        const sentence = sentenceOf(row.judged, names, row);
-        const {verdict} = row.judged;
-        const key = `${verdict} ${row.kind} ${sentence}`;
-        groups.set(key, groups.get(key) ?? {rows: [], verdict, kind: row.kind, sentence});
-        groups.get(key).rows.push(row);
+// All rows of a question about some at a time, which ASK gives from a number on, with how many descriptors there are;
+// null if there is no answer, or it is over.
+async function gathered(ask, isOver) {
+    const all = {rows: [], next: 0, most: 1, all: 0, strays: []};
+    while (all.next < all.most) {
+        const got = await ask(all.next).catch(() => null);
+        if (!got || isOver()) {
+            return null;
+        }
+        all.rows.push(...linesOf(got.rows).map((text) => JSON.parse(text)));
+        Object.assign(all, {...got, rows: all.rows});
     }
-    return [...groups.values()].sort((one, other) => ORDER.indexOf(one.verdict) - ORDER.indexOf(other.verdict));
+    return all;
+}
+
+// A table of rows {at, name, kind, verdict, sentence}, of which those alike are one, with filters by their verdicts.
+// AT is the number of a descriptor, or null of a line that is none. ACTS are to open one, and to compare two.
+class TableOfMany {
+    constructor(id, told, heading, acts) {
+        this.id = id;
+        this.told = told;
+        this.heading = heading;
+        this.acts = acts;
+        this.forget();
+    }
+
+    forget() {
+        this.rows = [];
+        this.filter = "";
+        this.chosen = [];
+        show(byId(this.id));
+    }
+
+    setFilter(verdict) {
+        this.filter = verdict;
+        this.show(this.rows);
+        byId(`${this.id}-${verdict || "all"}`).focus();
+    }
+
+    // Chooses one of two to compare, in the place of the older one.
+    choose(at, isChosen) {
+        this.chosen = [...this.chosen.filter((one) => one !== at), ...(isChosen ? [at] : [])].slice(-2);
+        this.show(this.rows);
+        byId(`${this.id}-choose-${at}`)?.focus();
+    }
+
+    // Rows with the same verdict, sentence and kind together.
+    groups() {
+        const groups = new Map();
+        for (const row of this.rows.filter(({verdict}) => !this.filter || verdict === this.filter)) {
+            const key = `${row.verdict} ${row.kind} ${row.sentence}`;
+            groups.set(key, groups.get(key) ?? []);
+            groups.get(key).push(row);
+        }
+        const {order} = this.told;
+        return [...groups.values()].sort(([one], [other]) => order.indexOf(one.verdict) - order.indexOf(other.verdict));
+    }
+
+    filters() {
+        const {told, rows, filter, id} = this;
+        const count = (verdict) => rows.filter((row) => row.verdict === verdict).length;
+        const all = [
+            ["", say(words.all, {count: formatted(rows.length)})],
+            ...told.order.filter(count).map(
+                (verdict) => [verdict, `${valueIn(told.signs, verdict)} ${formatted(count(verdict))}`])
+        ];
+        return all.map(([verdict, text]) => [button(text, () => this.setFilter(verdict), {
+            class: "add",
+            "aria-pressed": String(verdict === filter),
+            id: `${id}-${verdict || "all"}`,
+            "aria-label": verdict ? `${valueIn(told.words, verdict)} ${count(verdict)}` : text
+        }),
+                           " "]);
+    }
+
+    // The button that compares two, of which more than two have to be chosen.
+    compare() {
+        const descriptors = this.rows.filter(({at}) => at !== null);
+        const two = descriptors.length === 2 ? descriptors.map(({at}) => at) :
+                                               [...this.chosen].sort((one, other) => one - other);
+        return two.length === 2 && this.acts.onCompare ?
+            button(words.compare, () => this.acts.onCompare(...two), {class: "add", id: `${this.id}-compare`}) :
+            null;
+    }
+
+    nameOf({at, name}) {
+        const shown = shownName(name) || say(words.noName, {number: at + 1});
+        if (at === null) {
+            return make("bdi", {}, shown);
+        }
+        const box = this.acts.onCompare && make("input", {
+            type: "checkbox",
+            id: `${this.id}-choose-${at}`,
+            checked: this.chosen.includes(at),
+            "aria-label": say(words.choose, {name: shown}),
+            title: words.chooseTwo,
+            onchange: (event) => this.choose(at, event.target.checked)
+        });
+        return [make("bdi", {}, button(shown, () => this.acts.onOpen(at), {class: "open"})), box];
+    }
+
+    listOf(rows) {
+        const list = make("ul", {class: "names"});
+        const more = someRows(list, rows, (row) => make("li", {}, this.nameOf(row)),
+            (count) => say(WORDS.grid.more, {count}), {step: MOST_ROWS});
+        return [list, more];
+    }
+
+    groupRow([first, ...others]) {
+        const {verdict, kind, sentence} = first;
+        return make("tr", {"data-verdict": verdict},
+            make("td", {}, make("span", {class: "sign", "aria-hidden": "true"}, valueIn(this.told.signs, verdict)),
+                make("span", {class: "unseen"}, valueIn(this.told.words, verdict))),
+            make("th", {scope: "row"}, this.nameOf(first),
+                others.length ? make("details", {class: "others"},
+                                    make("summary", {}, say(WORDS.summary.left, {count: formatted(others.length)})),
+                                    this.listOf(others)) :
+                                null),
+            make("td", {}, kind ? valueIn(WORDS.kinds, kind) : ""), make("td", {}, sentence));
+    }
+
+    show(rows) {
+        this.rows = rows;
+        const {id, heading} = this;
+        const body = make("tbody");
+        const more = someRows(body, this.groups(), (group) => this.groupRow(group),
+            (some) => say(WORDS.grid.more, {count: some}), {step: MOST_ROWS});
+        const columns = Object.values(words.columns).map((text) => make("th", {scope: "col"}, text));
+        const about = {"aria-labelledby": `${id}-heading`};
+        show(byId(id),
+            make("section", about, make("h2", {id: `${id}-heading`}, heading),
+                make("p", {class: "adds"}, this.filters(), this.compare()),
+                make("div", {class: "scroll", tabindex: "0", role: "region", ...about},
+                    make("table", {class: "many", ...about}, make("thead", {}, make("tr", {}, columns)), body)),
+                more));
+    }
 }
 
 const isBroad = ({judged}) => judged.who?.some((sid) => everybodyClass(sid));
 
 // Shows the verdict on all in the first line, and gives it in words.
-function showVerdictOfMany(rows, {all, most}) {
-    const counts = ORDER.map((verdict) => [verdict, countOf(rows, verdict)]).filter(([, count]) => count > 0);
+function showVerdictOfMany({rows, all, most, strays}) {
+    const of = (verdict) => rows.filter(({judged}) => judged.verdict === verdict);
+    const counts = VERDICTS.order.map((verdict) => [verdict, of(verdict).length]).filter(([, count]) => count > 0);
     const [[worst, count]] = counts;
-    const isBroadAct = rows.every((row) => row.judged.verdict !== "act" || isBroad(row));
-    const key = worst === "act" && isBroadAct ? "broad" : worst;
+    const key = worst === "act" && of("act").every(isBroad) ? "broad" : worst;
     const sentence = say(valueIn(words, key), {count: formatted(count), all: formatted(all)});
     const others =
         counts.slice(1).map(([verdict, some]) => say(valueIn(words.counts, verdict), {count: formatted(some)}));
     const reasons = [
-        ...(others.length ? [`${others.join(", ")}.`] : []),
-        ...(most < all ? [say(words.cut, {count: formatted(most)})] : [])
-    ];
+        others.length ? `${others.join(", ")}.` : "", most < all ? say(words.cut, {count: formatted(most)}) : "",
+        strays.length > 1 ? say(words.strays, {count: strays.length}) :
+            strays.length ? words.oneStray :
+                            ""
+    ].filter(Boolean);
     showSentence(worst, sentence, reasons);
     return [sentence, ...reasons].join(". ");
 }
 
-function groupRow(group, {onOpen}) {
-    const {rows, verdict, kind, sentence} = group;
-    const [first, ...others] = rows;
-    const row = make("tr", {"data-verdict": verdict},
-        make("td", {}, make("span", {class: "sign", "aria-hidden": "true"}, valueIn(WORDS.verdict.signs, verdict)),
-            make("span", {class: "unseen"}, valueIn(WORDS.verdict.words, verdict))),
-        make("th", {scope: "row"}, make("bdi", {}, button(nameOf(first), () => onOpen(first.at), {class: "open"})),
-            others.length ? make("details", {class: "others"},
-                                make("summary", {}, say(WORDS.summary.left, {count: formatted(others.length)})),
-                                listOf(others, onOpen)) :
-                            null),
-        make("td", {}, kind ? valueIn(WORDS.kinds, kind) : ""), make("td", {}, sentence));
-    return row;
-}
-
-function listOf(rows, onOpen) {
-    const list = make("ul", {class: "names"});
-    const more =
-        someRows(list, rows, (row) => make("li", {}, button(nameOf(row), () => onOpen(row.at), {class: "open"})),
-            (count) => say(WORDS.grid.more, {count}), {step: MOST_ROWS});
-    return [list, more];
-}
-
-// The verdict on one of them, above what is shown of it.
-const oneOfMany = (row, names) => say(words.one, {name: nameOf(row), sentence: sentenceOf(row.judged, names, row)});
-
-const countOf = (rows, verdict) => rows.filter(({judged}) => judged.verdict === verdict).length;
-
 // Asks for the verdicts on all descriptors of a text, some at a time, and shows them when all have come.
 export class ManyView {
-    // ASK gives those from a number on, or null. ACTS are to open one by its number, and to compare two.
+    // ASK gives those from a number on. ACTS are to open one by its number, and to compare two.
     constructor(ask, acts) {
         this.askFrom = ask;
-        this.acts = acts;
-        this.forget("");
-    }
-
-    forget(about) {
-        this.about = about;
-        this.rows = null;
-        this.filter = "";
-        this.all = this.most = 0;
+        this.about = "";
+        this.told = null;
+        this.table = new TableOfMany("many", VERDICTS, words.heading, acts);
     }
 
     async ask(found, store, isOver) {
         this.store = store;
         const about = JSON.stringify(store.aboutMany);
-        if (this.about === about) {
-            this.show();
-            return;
-        }
-        [byId("many"), byId("one")].forEach((place) => show(place));
-        this.forget(about);
-        if (found < 2) {
-            return;
-        }
-        const rows = [];
-        let [next, most] = [0, 0];
-        do {
-            const got = await this.askFrom(next);
-            if (!got || this.about !== about) {
+        if (this.about !== about) {
+            this.about = about;
+            this.told = null;
+            this.table.forget();
+            show(byId("one"));
+            const told = found < 2 ? null : await gathered(this.askFrom, () => this.about !== about);
+            if (!told) {
                 return;
             }
-            rows.push(...linesOf(got.rows).map((text) => JSON.parse(text)));
-            ({next, most} = got);
-        } while (next < most);
-        Object.assign(this, {rows, all: found, most});
+            this.told = told;
+        }
         if (!isOver()) {
             this.show();
         }
     }
 
     show() {
-        if (!this.rows) {
+        if (!this.told) {
             return;
         }
-        speak(showVerdictOfMany(this.rows, this));
-        const one = this.rows[this.store.state.chosen];
-        show(byId("one"), one && oneOfMany(one, this.store.names));
-        this.showTable();
+        const {names, state} = this.store;
+        speak(showVerdictOfMany(this.told));
+        const rows = this.told.rows.map(
+            (row) => ({...row, verdict: row.judged.verdict, sentence: sentenceOf(row.judged, names, row)}));
+        const strays =
+            this.told.strays.map((name) => ({at: null, name, kind: "", verdict: "unknown", sentence: words.stray}));
+        const one = rows[state.chosen];
+        show(byId("one"),
+            one &&
+                say(words.one,
+                    {name: shownName(one.name) || say(words.noName, {number: one.at + 1}), sentence: one.sentence}));
+        this.table.show([...rows, ...strays]);
     }
+}
 
-    setFilter(verdict) {
-        this.filter = verdict;
-        this.showTable();
-        byId(`many-${verdict || "all"}`).focus();
-    }
+/**
+ * What a token gets of a descriptor, as a row.
+ * @param {any} told
+ */
+function rowOfAnswer(told) {
+    const {at, name, kind, asksKind, descriptorFault, ...answer} = told;
+    const [fault] = descriptorFault ? [faultInWords(descriptorFault)] :
+        asksKind                    ? [WORDS.verdict.kindOpen] :
+                                      faultsOf(answer);
+    const verdict = fault ? "unknown" : answer.verdict.granted ? "granted" : "denied";
+    return {at, name, kind: kind ?? "", verdict, sentence: fault ?? answerInWords(answer, kind)};
+}
 
-    filters() {
-        const {rows} = this;
-        const all = [
-            ["", say(words.all, {count: formatted(rows.length)})],
-            ...ORDER.filter((verdict) => countOf(rows, verdict))
-                .map((verdict) => [verdict,
-                         `${valueIn(WORDS.verdict.signs, verdict)} ${formatted(countOf(rows, verdict))}`])
-        ];
-        return all.map(([verdict, text]) => [button(text, () => this.setFilter(verdict), {
-            class: "add",
-            "aria-pressed": String(verdict === this.filter),
-            id: `many-${verdict || "all"}`,
-            "aria-label": verdict ? `${valueIn(WORDS.verdict.words, verdict)} ${countOf(rows, verdict)}` : text
-        }),
-                           " "]);
-    }
-
-    showTable() {
-        const {rows, filter, acts} = this;
-        const body = make("tbody");
-        const groups = groupsOf(rows.filter(({judged}) => !filter || judged.verdict === filter), this.store.names);
-        const more = someRows(body, groups, (group) => groupRow(group, acts),
-            (some) => say(WORDS.grid.more, {count: some}), {step: MOST_ROWS});
-        show(byId("many"),
-            make("section", {"aria-labelledby": "many-heading"}, make("h2", {id: "many-heading"}, words.heading),
-                make("p", {class: "adds"}, this.filters(),
-                    rows.length === 2 ?
-                        button(words.compare, () => acts.onCompare(0, 1), {class: "add", id: "many-compare"}) :
-                        null),
-                make("div", {class: "scroll", tabindex: "0", role: "region", "aria-labelledby": "many-heading"},
-                    make("table", {class: "many", "aria-labelledby": "many-heading"},
-                        make("thead", {},
-                            make("tr", {},
-                                Object.values(words.columns).map((text) => make("th", {scope: "col"}, text)))),
-                        body)),
-                more));
+// Asks what a token gets of each descriptor of a text, and shows it.
+export async function askAll(ask, isOver, onOpen) {
+    const told = await gathered(ask, isOver);
+    if (told) {
+        new TableOfMany("ask-all", ANSWERS, words.askHeading, {onOpen}).show(told.rows.map(rowOfAnswer));
     }
 }

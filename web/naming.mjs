@@ -5,6 +5,7 @@ import {isForNothing, relativeOf} from "./meanings.mjs";
 import {afterBlanks} from "./scanning.mjs";
 import {guidNames} from "./schema.mjs";
 import {valueIn} from "./tables.mjs";
+import {KINDS} from "./windows.mjs";
 import {say, WORDS} from "./words.mjs";
 
 const GROUPS = ["read", "change", "control", "other"];
@@ -66,12 +67,17 @@ export const namesOfReport = (names) => new Map(names.filter(([sid]) => !nameOfW
 // The name of a SID: the user's own or a report's, a well-known one, or what kind of SID it is.
 export const nameOf = (sid, names) => names.get(sid) ?? nameOfWindows(sid) ?? familyName(sid);
 
-function rightsInOrder(rights) {
-    const all = Object.entries(rights).map(([bit, [name, short, group]]) => ({bit: Number(bit), name, short, group}));
+function rightsInOrder(words, rights) {
+    const named = rights.filter(([bit]) => Object.hasOwn(words, bit));
+    const all = named.map(([bit, , , group]) => {
+        const [name, short] = valueIn(words, bit);
+        return {bit, name, short, group};
+    });
     return all.sort((one, other) => GROUPS.indexOf(one.group) - GROUPS.indexOf(other.group) || one.bit - other.bit);
 }
 
-const RIGHTS = Object.fromEntries(Object.entries(WORDS.rights).map(([kind, rights]) => [kind, rightsInOrder(rights)]));
+const RIGHTS = Object.fromEntries(
+    Object.entries(KINDS).map(([kind, {rights}]) => [kind, rightsInOrder(valueIn(WORDS.rights, kind), rights)]));
 
 // The named rights of a kind of object, in the order of the grid: {bit, name, short, group}.
 export const rightsOf = (kind) => valueIn(RIGHTS, kind);
@@ -123,7 +129,8 @@ export function labelInWords(mask) {
 // What a GUID stands for in an ACE with a mask, or in any.
 export function guidInWords(guid, mask) {
     const known = guidNames(guid, mask);
-    return known.length ? known.map(({name, type}) => `${name} (${type})`).join(", ") : say(WORDS.unknownGuid, {guid});
+    return known.length ? known.map(({name, typeName}) => `${name} (${typeName})`).join(", ") :
+                          say(WORDS.unknownGuid, {guid});
 }
 
 // Where an ACE applies, by its flags.
@@ -158,6 +165,6 @@ export function placeInWords(place) {
 export function refusedKind(fault, place) {
     const name = place.type === undefined ? valueIn(WORDS.refusedKinds, place.kind) :
                                             valueIn(WORDS.refusedTypes, place.type) ?? WORDS.unknownKind;
-    const kind = place.type === undefined ? place.kind : `type ${place.type}`;
+    const kind = place.type === undefined ? place.kind : say(WORDS.error.type, {type: place.type});
     return name && [12, 20, 29].includes(fault.number) ? {kind: visible(kind), name} : null;
 }

@@ -1,15 +1,7 @@
 // What GUIDs of a directory are, by the tables of windows.mjs. A GUID that is not there is shown as it is.
 import {valueIn} from "./tables.mjs";
 import {BITS_OF_TYPE, TYPES} from "./windows.mjs";
-
-// What the page calls each type.
-const TYPE_NAMES = {
-    right: "right",
-    write: "validated write",
-    set: "property set",
-    class: "class",
-    attribute: "property"
-};
+import {WORDS} from "./words.mjs";
 
 const NAMES = new Map();
 
@@ -24,13 +16,13 @@ for (const [type, words] of Object.entries(TYPES)) {
         const guid = all[at] + end;
         NAMES.set(guid, [
             ...(NAMES.get(guid) ?? []),
-            {guid, name: all[at + 1], type: valueIn(TYPE_NAMES, type), bits: valueIn(BITS_OF_TYPE, type)}
+            {guid, type, name: all[at + 1], typeName: valueIn(WORDS.types, type), bits: valueIn(BITS_OF_TYPE, type)}
         ]);
     }
 }
 
-// What a GUID is: a list of {name, type}. A few are a property and a validated write; the mask of an ACE says which of
-// them it grants.
+// What a GUID is: a list of {name, type, typeName}. A few are a property and a validated write; the mask of an ACE says
+// which of them it grants.
 export function guidNames(guid, mask) {
     const all = NAMES.get(guid) ?? [];
     const meant = all.filter(({bits}) => mask === undefined || (mask & bits) !== 0);

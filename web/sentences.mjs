@@ -47,7 +47,7 @@ function doing({kind, granted = 0, mask = 0, says, does, rule, isOwner, isPart, 
         return [does === "full" && kind === "" ? "all" : does];
     }
     if (says) {
-        return ["says", says];
+        return ["says", valueIn(WORDS.lets, says)];
     }
     if (rule === "foreign-owner" || isOwner) {
         return ["owns"];
@@ -100,7 +100,7 @@ function doesInWords(judged) {
     const [does, rights] = doing(judged);
     const own = theseOf(kind);
     const these = reach === "below" ? say(words.made, {these: own}) : own;
-    return say(valueIn(words.does, does), {...verbsOf(who), these, rights});
+    return say(valueIn(words.does, does), {...verbsOf(who), these, rights, reach: reachInWords(judged)});
 }
 
 function reachInWords(judged) {
@@ -111,8 +111,7 @@ function reachInWords(judged) {
 
 const whoInWords = (sids, names) => together(sids.map((sid) => nameOf(sid, names)));
 
-const changeInWords = (kind) =>
-    say(valueIn(words.change, kind) ?? words.does.change, {these: theseOf(kind)}).replace(/^can /, "");
+const changeInWords = (kind) => say(valueIn(words.change, kind) ?? words.change[""], {these: theseOf(kind)});
 
 function ofChangers(judged, names) {
     const {who, trusted, kind} = judged;
@@ -120,13 +119,14 @@ function ofChangers(judged, names) {
     if (!who.length) {
         return say(others ? words.only : words.none, {trusted: others, change: changeInWords(kind)});
     }
-    const does =
-        who.length === 1 || judged.isPart ? doesInWords(judged) : say(words.does.change, {these: theseOf(kind)});
-    return say(others ? words.named : words.onlyNamed,
-        {who: whoInWords(who, names), does, reach: who.length === 1 ? reachInWords(judged) : "", trusted: others});
+    const does = who.length === 1 ? doesInWords(judged) :
+        judged.isPart             ? doesInWords({...judged, reach: "here"}) :
+                                    say(words.does.change, {...verbsOf(who), these: theseOf(kind), reach: ""});
+    return say(others ? words.named : words.onlyNamed, {who: whoInWords(who, names), does, trusted: others});
 }
 
-const ofFinding = (judged, names) => `${whoInWords(judged.who, names)} ${doesInWords(judged)}${reachInWords(judged)}`;
+const ofFinding = (judged, names) =>
+    say(words.finding, {who: whoInWords(judged.who, names), does: doesInWords(judged)});
 
 function ofClass(judged, names) {
     const {onlyOf, exceptOf} = judged;

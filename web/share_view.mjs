@@ -1,15 +1,12 @@
-// What leaves the page: a text, a link or a command to the clipboard, and what paper says of an answer.
+// What goes to the clipboard: a text, a link or a command.
 import {addressOf} from "./address.mjs";
 import {commandLine, whyNoCommand} from "./command.mjs";
 import {STAND_IN_DOMAIN} from "./desk.mjs";
 import {area, button, byId, make, show} from "./dom.mjs";
-import {shownName, visible} from "./naming.mjs";
 import {freshState} from "./state.mjs";
-import {valueIn} from "./tables.mjs";
 import {formatted, say, WORDS} from "./words.mjs";
 
 const MOST_COPIED = 200_000; // characters that are shown at once of what is copied
-const MOST_PRINTED = 3000;   // characters of a text
 
 const status = (text) => make("p", {role: "status"}, text);
 
@@ -62,24 +59,4 @@ export function copyCommand(state, {result, asked, isKindShown}) {
     const look = {form: result?.form ?? "sddl", line: result?.line ?? ""};
     const domain = result?.isStandIn ? STAND_IN_DOMAIN : state.domain;
     copy(commandLine({...state, domain}, look, asked), WORDS.share.command);
-}
-
-// Of what the answers are, on paper: the name, the kind, and options that differ from those of a new page.
-function optionsInWords(result, {domain, object, classes, common}, kind) {
-    const {kinds, kindLabel, domainLabel, objectLabel, classesLabel, print} = WORDS;
-    const options = [
-        [print.name, shownName(result.entry?.name ?? "")], [kindLabel, valueIn(kinds, kind) ?? ""],
-        [domainLabel, domain], [objectLabel, object], [classesLabel, classes]
-    ];
-    const told = options.filter(([, value]) => value).map(([name, value]) => `${name}: ${visible(value)}`);
-    return [...told, ...(common ? [] : [print.alone])].join("; ");
-}
-
-export function showPrintHead(result, state, kind, version) {
-    show(byId("print-head"), make("h1", {}, WORDS.print.heading),
-        make(
-            "p", {}, say(WORDS.print.made, {version, date: new Date().toLocaleDateString(WORDS.language)})),
-        make("p", {}, optionsInWords(result, state, kind)),
-        make("p", {}, `${WORDS.print.text}: `, make("code", {}, visible((result.line ?? "").slice(0, MOST_PRINTED)))));
-    byId("print-head").hidden = false;
 }

@@ -21,6 +21,9 @@ export class Turns {
             this.newest.set(view, turn);
             placeOf(view).classList.add(OLDER);
         }
+        if (views.includes("ask")) {
+            show(byId("ask-all"));
+        }
         if (views.includes("look")) {
             OF_TEXT.forEach((id) => byId(id).classList.add(OLDER));
             hush();

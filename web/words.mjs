@@ -1,13 +1,13 @@
 // Every word that the page shows, so that it can be translated: change this file, and windows/, which has the names of
 // rights, of SIDs and of kinds of objects, and what the rules of risk and errors say. '{name}' is replaced by a value.
-import {ABILITIES, CONDITION, ERRORS, FAMILIES, KINDS, OF_A_DOMAIN, RULES, SIDS} from "./windows.mjs";
+import {ABILITIES, CONDITION, ERRORS, FAMILIES, KINDS, OF_A_DOMAIN, PRIVILEGES, RULES, SIDS} from "./windows.mjs";
 
 const mapped = (table, valueOf) => Object.fromEntries(Object.entries(table).map(([key, row]) => [key, valueOf(row)]));
 
-// Of each right that a kind has: the name behind "can", the name over a column, and the group that it belongs to.
+// Of each right that a kind has: the name behind "can", and the name over a column.
 function rightsOfKind({rights, mapping}) {
     const named = rights.filter(([bit]) => bit < 0x100000 || (mapping[3] & bit) !== 0);
-    return Object.fromEntries(named.map(([bit, short, says, column]) => [bit, [says, short, column]]));
+    return Object.fromEntries(named.map(([bit, short, says]) => [bit, [says, short]]));
 }
 
 const capital = (text) => text[0].toUpperCase() + text.slice(1);
@@ -165,25 +165,30 @@ export const WORDS = {
             delegation: "this account",
             "managed-password": "this account",
         },
-        // What is done with a kind of object by whoever changes it, if that is another word.
-        change: {delegation: "act for others on {these}", "managed-password": "read the password of {these}"},
-        does: {
-            full: "{has} full control of {these}",
-            all: "{has} full control",
-            permissions: "can change the permissions of {these}",
-            owner: "can take ownership of {these}",
-            owns: "{owns} {these}, and so can change its permissions",
-            rights: "can {rights} {these}",
-            delete: "can delete {these}",
-            here: "can {rights} here",
-            says: "can {rights}",
-            change: "can change {these}",
-            parts: "can change parts of {these}",
-            read: "can read {these}",
-            run: "can run {these}",
+        // What is done with a kind of object by whoever changes it.
+        change: {
+            "": "change {these}",
+            delegation: "act for others on {these}",
+            "managed-password": "read the password of {these}",
         },
-        one: {has: "has", owns: "owns"},
-        many: {has: "have", owns: "own"},
+        does: {
+            full: "{has} full control of {these}{reach}",
+            all: "{has} full control",
+            permissions: "{can} change the permissions of {these}{reach}",
+            owner: "{can} take ownership of {these}{reach}",
+            owns: "{owns} {these}, and so can change its permissions{reach}",
+            rights: "{can} {rights} {these}{reach}",
+            delete: "{can} delete {these}{reach}",
+            here: "{can} {rights} here{reach}",
+            says: "{can} {rights}{reach}",
+            change: "{can} change {these}{reach}",
+            parts: "{can} change parts of {these}{reach}",
+            read: "{can} read {these}{reach}",
+            run: "{can} run {these}{reach}",
+        },
+        finding: "{who} {does}",
+        one: {can: "can", has: "has", owns: "owns"},
+        many: {can: "can", has: "have", owns: "own"},
         made: "what is made in {these}",
         reach: {
             here: "",
@@ -205,8 +210,8 @@ export const WORDS = {
         },
         nobodyWhy: "{who} can still change that, as owner.",
         nobodyEver: "It has no owner who could change that.",
-        named: "{who} {does}{reach}, beside {trusted}",
-        onlyNamed: "Only {who} {does}{reach}",
+        named: "{who} {does}, beside {trusted}",
+        onlyNamed: "Only {who} {does}",
         only: "Only {trusted} can {change}",
         none: "Nobody can {change}",
         trusted: {administrators: "administrators", system: "the system"},
@@ -293,6 +298,16 @@ export const WORDS = {
         noName: "Number {number}",
         all: "All {count}",
         compare: "Compare the two",
+        choose: "Compare {name}",
+        chooseTwo: "Choose two to compare",
+        stray: "This line is no descriptor",
+        oneStray: "1 line is no descriptor.",
+        strays: "{count} lines are no descriptors.",
+        askHeading: "What it gets of each",
+        answers: {
+            signs: {granted: "\u2713", denied: "\u2715", unknown: "?"},
+            words: {granted: "Granted:", denied: "Denied:", unknown: "Unknown:"},
+        },
         one: "{name}: {sentence}",
     },
     summary: {
@@ -312,6 +327,15 @@ export const WORDS = {
         denies: "{aces} denies",
         deny: "{aces} deny",
         left: "and {count} more",
+    },
+    find: {
+        heading: "One property, right or class",
+        label: "Find by name",
+        hint: "such as password; what a property set gives is told of the set alone",
+        columns: {name: "Name", who: "Who: what", because: "ACE"},
+        nobody: "nobody",
+        none: "No property, right or class that this page knows has such a name.",
+        count: "The first {count} of {all}",
     },
     text: {
         heading: "The text",
@@ -370,6 +394,7 @@ export const WORDS = {
         none: "none",
         control: "Control bits",
         manager: "Resource manager byte",
+        absent: "absent",
         list: "{count} ACEs",
         one: "1 ACE",
         more: "Show {count} more lines",
@@ -452,6 +477,7 @@ export const WORDS = {
         ofClass: "of class {name}",
     },
     object: "for {name}",
+    types: {right: "right", write: "validated write", set: "property set", class: "class", attribute: "property"},
     unknownGuid: "unknown GUID {guid}",
     masks: mapped(KINDS, ({masks}) => masks),
     generic: {
@@ -544,6 +570,7 @@ export const WORDS = {
             type: "the type",
             size: "the size",
         },
+        type: "type {type}",
         unplaced: "The whole text is marked, since the error has no place in it.",
         go: "Select it in the field",
         suggestion: "What to do: {text}",
@@ -635,7 +662,7 @@ export const WORDS = {
         wantFault: "These are no rights. Write names such as FRFX, or one number.",
         whole: "This is about the object as a whole. Some ACEs are for one property, right or class: give it as " +
             "object type (options above) to ask for that.",
-        columns: {right: "Right", state: "Answer", reason: "Decided by", text: "Exact text"},
+        columns: {reason: "Decided by", state: "Answer", rights: "Rights", text: "Exact text"},
         wanted: "wanted",
         exact: "These SIDs alone, without what their holders have besides",
         listing: {
@@ -784,6 +811,10 @@ export const WORDS = {
         text: "Descriptor",
     },
 
+    // What abilities and privileges let somebody do, by what windows/ says of them.
+    lets: Object.fromEntries(
+        [...ABILITIES.map(({says}) => says), ...Object.values(PRIVILEGES).map(([, lets]) => lets)].map(
+            (text) => [text, text])),
     names: mapped(SIDS, ([, name]) => name),
     relativeNames: mapped(OF_A_DOMAIN, ([, name]) => name),
     families: /** @type {[RegExp, string][]} */ ([

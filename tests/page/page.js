@@ -129,8 +129,9 @@ async function ask(...given) {
     return {
         verdict: first("#ask-result .verdict code")?.textContent ?? byId("ask-result").textContent,
         reasons: each("#ask-result tr.reason",
-            (row) => [Number(row.dataset.bit), row.dataset.by, row.dataset.number ?? "",
-                row.classList.contains("allow")])
+            (row) => row.dataset.bits.split(" ").map(
+                (bit) => [Number(bit), row.dataset.by, row.dataset.number ?? "", row.classList.contains("allow")]))
+                     .flat()
     };
 }
 
@@ -158,6 +159,23 @@ async function compare(...given) {
         rights: each("#compare-result li[data-sid]",
             (item) => [item.dataset.sid, Number(item.dataset.gained), Number(item.dataset.lost)])
     };
+}
+
+// Words with letters of English in what is shown or said, beside those that are allowed, in the order of the page.
+function foreignWords(allowed) {
+    const known = new Set(allowed);
+    const walker = document.createTreeWalker(document.body, window.NodeFilter.SHOW_TEXT);
+    const texts = [];
+    while (walker.nextNode()) {
+        if (!walker.currentNode.parentElement.closest("script, noscript, code, pre, textarea")) {
+            texts.push(walker.currentNode.textContent);
+        }
+    }
+    for (const name of ["aria-label", "title", "placeholder"]) {
+        texts.push(...each(`[${name}]`, (one) => one.getAttribute(name)));
+    }
+    const words = texts.flatMap((text) => text.match(/[A-Za-z][A-Za-z-]{2,}/g) ?? []);
+    return [...new Set(words)].filter((word) => !known.has(word));
 }
 
 async function triesToSend(...given) {

@@ -1,6 +1,8 @@
 """Tests of the page: keys alone, screen readers, contrast, narrow windows, buttons and links."""
 import collections
 import os
+import re
+import shutil
 import subprocess
 import tempfile
 
@@ -149,10 +151,30 @@ def test_several_verdicts(count, page, _):
     count.add(got == wanted, f"the verdicts on several: {got}")
     got = page.do(f"byId('many-fine').click(); {rows}")
     count.add(got == wanted[3:], f"a filter: {got}")
-    got = page.do("byId('many-all').click(); document.querySelector('tr[data-verdict=named] .open').click(); "
+    got = page.do("byId('many-all').click(); for (const at of [3, 0, 1]) byId(`many-choose-${at}`).click(); "
+                  "byId('many-compare').click(); await until(isIdle); return [byId('chosen').value, "
+                  "document.body.dataset.view, document.querySelector('#compare-result .verdict').textContent];")
+    count.add(got == ["0", "compare", "The two differ."], f"two of them: {got}")
+    page.do("byId('tab-look').click();")
+    got = page.do("document.querySelector('tr[data-verdict=named] .open').click(); "
                   "await until(isIdle); return [byId('one').textContent, byId('chosen').value];")
     sentence = "C:\\Ann: Account 1105 can modify this folder, beside administrators"
     count.add(got == [sentence, "4"], f"one of them: {got}")
+    answers = ("await until(() => isIdle() && byId('ask-all-heading')); return each('#ask-all tbody tr', (row) => "
+               "[row.dataset.verdict, row.querySelectorAll('.open').length, row.querySelector('.open').textContent, "
+               "row.cells[3].textContent]);")
+    got = page.do(
+        f"byId('tab-ask').click(); put('ask-token', 'S-1-5-21-1-2-3-1105'); put('ask-exact', true); {answers}")
+    wanted = [["granted", 1, "C:\\Ann", "Granted: modify"],
+              ["unknown", 1, "C:\\Wrong", "This is no SID. (error 25 sid-form)"],
+              ["denied", 3, "C:\\Fine", "Nothing is granted."]]
+    count.add(got == wanted, f"what a token gets of each: {got}")
+    page.do("byId('tab-look').click();")
+    page.do(f"{PASTE} await until(() => byId('many-heading'));", pasted + "C:\\Gone: access is denied\n")
+    got = page.do("return [byId('sentence-why').textContent, each('table.many tbody tr', (row) => "
+                  "row.cells[1].textContent)];")
+    is_told = "1 line is no descriptor." in got[0] and "C:\\Gone: access is denied" in got[1]
+    count.add(is_told, f"a line that is none: {got}")
 
 
 def test_many_trustees(count, page, _):
@@ -171,6 +193,69 @@ def test_many_trustees(count, page, _):
     )
     count.add(rows == [*sids, "S-1-1-0"], f"all trustees: {len(rows)} {rows[:3]}")
     count.add(page.do("return byId('grid-all') === null;"), "nothing is left to ask about")
+
+
+RESET, MEMBER = "00299570-246d-11d0-a768-00aa006e0529", "bf9679c0-0de6-11d0-a285-00aa003049e2"
+
+
+def test_find(count, page, _):
+    """A field finds a property, a right or a class by its name, or by what it lets somebody do, and stays as it is."""
+    page.open()
+    page.do("put('kind', 'ds');")
+    text = f"O:BAD:(A;;GA;;;BA)(OA;;CR;{RESET};;S-1-5-21-1-2-3-1130)(OA;;WP;{MEMBER};;S-1-5-21-1-2-3-1131)"
+    page.see(text)
+    rows = ("await until(() => first('#found-rows tr[data-name]') && isIdle()); return each('#found-rows tbody tr', "
+            "(row) => [row.dataset.name, row.dataset.aces, Array.from(row.querySelectorAll('.name'), (one) => "
+            "one.textContent)]);")
+    got = page.do(f"put('find', 'set NEW password'); {rows}")
+    wanted = ["User-Force-Change-Password", "1 2", ["Account 1130", "Administrators"]]
+    count.add(wanted in got, f"what is found of a new password: {got}")
+    got = page.do(f"byId('find').value = ''; byId('first').click(); put('find', '{MEMBER[:8]}'); "
+                  f"await until(() => first('#found-rows tr[data-name]').dataset.name !== '{wanted[0]}'); {rows}")
+    is_both = ["member", "1 3", ["Account 1131", "Administrators"]] in got
+    count.add(is_both, f"what is found of a GUID: {got}")
+    page.see(text + "(A;;FA;;;SY)")
+    got = page.do(f"{rows}")
+    count.add(page.do("return byId('find').value;") == MEMBER[:8] and got, f"after another text: {got}")
+
+
+def test_print(count, page, _):
+    """On paper is everything that a screen folds, or how much is left out, under the name, the kind, the options and
+    the date."""
+    page.open()
+    sids = [f"S-1-5-21-1-2-3-{number}" for number in range(1000, 1100)]
+    text = "C:\\Data D:" + "".join(f"(A;;{right};;;{sid})" for sid in sids for right in ("FR", "DC"))
+    page.see(text)
+    page.do("put('domain', 'S-1-5-21-1-2-3'); put('common', false); await until(isIdle); byId('share-text').focus();")
+    shown = page.do("return [new Date().toLocaleDateString('en'), byId('version').textContent];")
+    paper = on_paper(page.browser)
+    if paper is None:
+        print("skipped: pdftotext (Debian: poppler-utils) and gs (Debian: ghostscript)")
+        return
+    wanted = ["C:\\Data", "Folder", "S-1-5-21-1-2-3", "each trustee alone", shown[0], "Descriptor: D:(A;;FR;;;",
+              *(f"Account {number}" for number in range(1000, 1100)), *(f"(A;;DC;;;{sid})" for sid in sids)]
+    squeezed = re.sub(r"\s", "", paper)
+    missing = [one for one in wanted if re.sub(r"\s", "", one) not in squeezed]
+    count.add(not missing, f"not on paper: {missing[:5]} of {len(missing)}: {paper[:1500]}")
+    count.add("Show" not in paper and "Copy" not in paper and "Nothing leaves" not in paper, "controls on paper")
+    page.see("D:" + "(A;;FR;;;BU)" * 2500)
+    paper = on_paper(page.browser)
+    count.add(re.search(r"and \d,?\d{3} more|\d,?\d{3} ACEs", paper), f"what is left out: {paper[-1500:]}")
+    after = page.do("return each('details[open]:not(#more-options)', (one) => one.outerHTML.slice(0, 300));")
+    count.add(not after, f"stays open: {after}")
+
+
+def on_paper(browser):
+    """The text of a page on paper, or None where nothing reads it."""
+    with tempfile.TemporaryDirectory() as folder:
+        path = os.path.join(folder, "page.pdf")
+        for words in (["pdftotext", "-layout", path, "-"], ["gs", "-q", "-dNOPAUSE", "-dBATCH", "-sDEVICE=txtwrite",
+                                                            "-sOutputFile=-", path]):
+            if shutil.which(words[0]):
+                with open(path, "wb") as file:
+                    file.write(browser.paper())
+                return subprocess.run(words, capture_output=True, timeout=SECONDS).stdout.decode()
+    return None
 
 
 def test_share(count, page, given):

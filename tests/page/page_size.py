@@ -8,6 +8,8 @@ from page_driver import MOST_TURN, TOP, TRIES, busy, in_time, line_of, run
 MOST_WAITED = 1.0  # seconds, for a line of a megabyte, on an idle machine
 MOST_BLOCKED = 50  # milliseconds, that a key may wait, on an idle machine
 
+PASTES = 1000
+MOST_GROWN = 120e6  # bytes, of which each paste has a thousandth
 MOST_OF_A_LINE = 1_049_872  # bytes of SDDL, by docs/FORMAT.md
 
 
@@ -135,6 +137,24 @@ def counted_by_program(program, piece):
         "change": sum(mask & CHANGING != 0 for mask in granted),
         "noDacl": len(re.findall("^dacl (?:absent|null)$", explained, re.M)),
     }
+
+
+def test_many_pastes(count, page, _):
+    """A thousand pastes leave nothing behind: as many elements as one, and no more memory than some do."""
+    page.open()
+    paste = ("const aces = Array.from({length: 12}, (_, at) => `(A;;0x1200a9;;;S-1-5-21-1-2-${at % 7}-${1000 + at})`);"
+             "for (let at = 0; at < given[0]; at += 1) {"
+             "pasteOver(`C:\\\\Data${at} O:BAD:(A;;FA;;;WD)${aces.join('')}`); await until(isIdle); }"
+             "return document.querySelectorAll('*').length;")
+    few = page.do(paste, PASTES // 10)
+    before = page.browser.memory()
+    many = page.do(paste, PASTES)
+    count.add(many == few, f"after {PASTES} pastes the page has {many} elements, not {few}")
+    # Nobody can make every browser give memory back at once.
+    grown, _ = in_time(lambda: (page.browser.memory() - before, page.do("await pause(2000);")),
+                       lambda got: got[0] < MOST_GROWN)
+    print(f"{page.browser.name}: {PASTES:,} pastes take {grown / 1e6:.0f} MB")
+    count.add(grown < MOST_GROWN, f"{PASTES} pastes left {grown / 1e6:.0f} MB")
 
 
 def test_many_lines(count, page, given):

@@ -1,15 +1,51 @@
-"""Tests of the page: what it finds in a pasted text, places of errors, warnings, names of GUIDs."""
+"""Tests of the page: what it finds in a pasted text, places of errors, warnings, names of GUIDs, another language."""
 import base64
 import json
+import pathlib
 import random
 import re
+import subprocess
+import sys
+import tempfile
 import tomllib
 
 import compare
 import fault_places
 import sddl_texts
-from page_driver import TOP, line_of
+from page_driver import SECONDS, TOP, Page, each_view, line_of
 from reference.places import ACE_FIELDS, place_of_bytes
+
+
+LANGUAGE = TOP / "tests/page/web"
+NAMES_OF_WORDS = """import("%s/web/english.mjs").then(({WORDS}) => import("%s/web/german.mjs").then(
+    async ({GERMAN}) => {
+    const {knownGuids} = await import("%s/web/schema.mjs");
+    const texts = [...Object.values(GERMAN), ...Object.values(WORDS.names), ...Object.values(WORDS.relativeNames),
+        ...knownGuids().map(({name}) => name)];
+    console.log(JSON.stringify([...new Set(texts.flatMap((text) => text.match(/[A-Za-z][A-Za-z-]{2,}/g) ?? []))]));
+}));"""
+
+
+def test_language(count, page, given):
+    """With words of another language no text stays English but names: every text is one of the words."""
+    module = TOP / "out/systems/wasm/sdtool.wasm"
+    with tempfile.TemporaryDirectory() as folder:
+        subprocess.run(["node", LANGUAGE / "translating.mjs", folder], check=True, timeout=SECONDS)
+        built = pathlib.Path(folder, "sdtool.html")
+        subprocess.run([sys.executable, f"{folder}/web/build.py", module, built], check=True, timeout=SECONDS,
+                       stdout=subprocess.DEVNULL)
+        told = subprocess.run(["node", "-e", NAMES_OF_WORDS % (folder, folder, folder)], check=True, timeout=SECONDS,
+                              capture_output=True).stdout
+        german = Page(page.browser, page.site, built.as_uri())
+        # What the program calls its options and errors stays too.
+        allowed = [*json.loads(told), *"sdtool SACL hex base sddl file key error sid-form".split()]
+        for view in each_view(german):
+            left = german.call("foreignWords", allowed)
+            count.add(not left, f"{view}: not translated: {left[:20]}")
+        german.open()
+        german.do("pasteOver(given[0]); await until(isIdle);", "D:\\Data O:BAD:AI(A;OICIID;0x1301bf;;;BU)")
+        said = german.do("return [document.documentElement.lang, byId('sentence').lastChild.textContent];")
+        count.add(said == ["de", "Users d\u00fcrfen diesen Ordner und alles darin \u00e4ndern"], f"in German: {said}")
 
 
 def test_forms(count, page, given):

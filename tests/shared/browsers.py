@@ -109,6 +109,10 @@ class Chromium:
     def picture(self, path):
         pathlib.Path(path).write_bytes(self.driver.get_screenshot_as_png())
 
+    def paper(self):
+        """The page as a PDF."""
+        return base64.b64decode(self.driver.execute_cdp_cmd("Page.printToPDF", {})["data"])
+
     def tree(self):
         """The tree that a screen reader sees; nodes that it passes over are marked as ignored."""
         return self.driver.execute_cdp_cmd("Accessibility.getFullAXTree", {})["nodes"]
@@ -233,6 +237,9 @@ class Firefox:
     def picture(self, path):
         shown = self.ask("WebDriver:TakeScreenshot", {"full": False, "hash": False})["value"]
         pathlib.Path(path).write_bytes(base64.b64decode(shown))
+
+    def paper(self):
+        return base64.b64decode(self.ask("WebDriver:Print", {})["value"])
 
     def tree(self):
         return None  # its remote protocol has none

@@ -65,11 +65,11 @@ test("kinds that agree have a verdict, and others say whom it depends on", () =>
     const model = {dacl: {aces: [{sid: EVERYONE, kind: "A", mask: FULL, flags: []}]}};
     const same = verdictOfKinds(model, ["folder", "share"], (kind) => finding(EVERYONE, {kind}));
     assert.deepEqual([same.verdict, said(same)], ["act", "Everyone has full control"]);
-    const differ = verdictOfKinds(model, ["folder", "key"], (kind) => (kind === "key" ?
-        {verdict: "fine", key: "changers", kind, who: [], trusted: []} :
-        finding(ANN, {kind})));
-    assert.deepEqual([differ.verdict, said(differ)],
-        ["unknown", "Depends on what this is: Account 1105 may be able to change it"]);
+    const differ = verdictOfKinds(model, ["folder", "key"],
+        (kind) =>
+            (kind === "key" ? {verdict: "fine", key: "changers", kind, who: [], trusted: []} : finding(ANN, {kind})));
+    assert.deepEqual(
+        [differ.verdict, said(differ)], ["unknown", "Depends on what this is: Account 1105 may be able to change it"]);
 });
 
 test("a condition counts where the verdict hangs on it", () => {

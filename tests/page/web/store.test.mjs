@@ -55,8 +55,8 @@ test("an address sets all that it can, and keeps what is in none", () => {
     store.state.lines.command = "check";
     assert.deepEqual(store.begin("d=D:P&kind=key&x=1&d=twice"), ["x=1", "d=twice"]);
     const {text, kind, isKindChosen, names, lines, view} = store.state;
-    assert.deepEqual([text, kind, isKindChosen, names, lines.command, view],
-        ["D:P", "key", true, "S-1-1-0 All", "check", "report"]);
+    assert.deepEqual(
+        [text, kind, isKindChosen, names, lines.command, view], ["D:P", "key", true, "S-1-1-0 All", "check", "report"]);
     assert.equal(store.hasFormOfText && store.hasKindOfText, true);
     assert.deepEqual(store.begin(addressOf({...freshState(), text: "D:AI"}, freshState())), []);
     assert.deepEqual([store.state.text, store.state.isKindChosen], ["D:AI", false]);
@@ -85,7 +85,8 @@ test("options are open where one applies", () => {
 
 test("keys lead from tab to tab", () => {
     const views = ["look", "ask", "lines"];
-    const led = ["ArrowRight", "ArrowLeft", "Home", "End", "x", "constructor"].map((key) => tabBehind(key, views, "look"));
+    const led =
+        ["ArrowRight", "ArrowLeft", "Home", "End", "x", "constructor"].map((key) => tabBehind(key, views, "look"));
     assert.deepEqual(led, ["ask", "lines", "look", "lines", undefined, undefined]);
 });
 

@@ -4,7 +4,7 @@ import {execFileSync} from "node:child_process";
 import {test} from "node:test";
 
 import {readToken} from "../../../web/tokens.mjs";
-import {descriptorsIn} from "../../../web/clipboard.mjs";
+import {descriptorsIn, straysIn} from "../../../web/clipboard.mjs";
 import {placeOf} from "../../../web/faults.mjs";
 import {descriptorOf} from "../../../web/library.mjs";
 import {nameOf, namesOfReport, ownNames, whereOf} from "../../../web/naming.mjs";
@@ -313,4 +313,17 @@ test("an ACE for children applies to nothing where none inherits it", () => {
         assert.notEqual(where(kind, ...flags), WORDS.where.nothing, `${kind} ${flags}`);
         assert.ok(where(kind, ...flags), `${kind} ${flags}`);
     }
+});
+
+test("a line of a list that is no descriptor is told, but no heading and nothing that goes with a list", () => {
+    const list = ["C:\\A D:(A;;FA;;;BA)", "C:\\B: access is denied", "C:\\C D:(A;;FA;;;BA)", "D:(A;;FA;;;BA)", "x"];
+    const strays = (...lines) => straysIn(descriptorsIn(lines.join("\n"), "auto"));
+    assert.deepEqual(strays(...list), []);
+    assert.deepEqual(strays("D:(A;;FA;;;BA)", ...list), ["C:\\B: access is denied", "x"]);
+    assert.deepEqual(strays("Name,Sddl", "C:\\A,D:(A;;FA;;;BA)", "C:\\B,D:(A;;FA;;;BA)"), []);
+    assert.deepEqual(
+        strays("C:\\A", "D:(A;;FA;;;BA)", "C:\\B", "D:(A;;FA;;;BA)", "Successfully processed 2 files"), []);
+    const object = ["Path   : C:\\A", "Owner  : BUILTIN\\Administrators", "Sddl   : O:BAD:(A;;FA;;;BA)"];
+    assert.deepEqual(strays(...object, ...object, "PS C:\\>"), ["PS C:\\>"]);
+    assert.deepEqual(strays("D:(A;;FA;;;BA)", "x"), []);
 });

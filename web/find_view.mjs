@@ -1,0 +1,98 @@
+// One property, right or class of a directory object, which a field finds by its name: who gets what of it.
+import {bitsOf, ownOf, reasonIn} from "./access.mjs";
+import {linesOf} from "./desk.mjs";
+import {input, labelled, make, show} from "./dom.mjs";
+import {isTrusted} from "./meanings.mjs";
+import {rightsInWords} from "./naming.mjs";
+import {who} from "./parts_view.mjs";
+import {knownGuids} from "./schema.mjs";
+import {ABILITIES} from "./windows.mjs";
+import {commaed, say, WORDS} from "./words.mjs";
+
+const MOST_FOUND = 8;
+const MOST_NAMES = 6; // of those who get the same
+const words = WORDS.find;
+
+// What the abilities say that a property, right or class gives.
+const given = new Map();
+for (const {name, says, types} of ABILITIES) {
+    for (const [guid] of types) {
+        given.set(guid, `${given.get(guid) ?? ""} ${name} ${says}`);
+    }
+}
+
+// Whether each word is in the name, or in what it lets somebody do.
+function matching(text) {
+    const wanted = text.toLowerCase().split(/[\s-]+/).filter(Boolean);
+    const all = knownGuids().filter(({guid, name}) => {
+        const told = `${name} ${guid} ${given.get(guid) ?? ""}`.toLowerCase();
+        return wanted.every((word) => told.includes(word));
+    });
+    return wanted.length ? all : [];
+}
+
+// Who gets which rights of one: [mask, rows], those who aren't trusted first.
+function groupsOf(rows, bits) {
+    const groups = new Map();
+    const isUsual = ({sid}) => isTrusted(sid, "");
+    for (const row of [...rows].sort((one, other) => Number(isUsual(one)) - Number(isUsual(other)))) {
+        const mask = (ownOf(row) & bits) >>> 0;
+        groups.set(mask, groups.get(mask) ?? []);
+        groups.get(mask).push(row);
+    }
+    groups.delete(0);
+    return [...groups];
+}
+
+// The numbers of the ACEs that give some rights to trustees.
+const numbersOf =
+    (rows, mask) => [...new Set(rows.flatMap((row) => bitsOf(mask).map((bit) => reasonIn(row, bit).number)))]
+                        .filter((number) => number !== null)
+                        .sort((one, other) => one - other);
+
+function foundRow({name, typeName, bits}, rows, names) {
+    const groups = groupsOf(rows, bits);
+    const numbers =
+        [...new Set(groups.flatMap(([mask, some]) => numbersOf(some, mask)))].sort((one, other) => one - other);
+    const left = (some) =>
+        (some.length > MOST_NAMES ? ` ${say(WORDS.summary.left, {count: some.length - MOST_NAMES})}` : "");
+    const columns = words.columns;
+    return make("tr", {"data-aces": numbers.join(" "), "data-name": name},
+        make("th", {scope: "row", "data-label": columns.name}, `${name} (${typeName})`),
+        make("td", {"data-label": columns.who},
+            groups.length ?
+                groups.map(
+                    ([mask, some]) => make("div", {},
+                        some.slice(0, MOST_NAMES).map((row, at) => [at ? ", " : "", who(row.sid, row.alias, names)]),
+                        left(some), ": ", commaed(rightsInWords("ds", mask)))) :
+                words.nobody),
+        make("td", {"data-label": columns.because}, commaed(numbers)));
+}
+
+// The section, whose field keeps what FOUND has of it. ASK gives the answer about some GUIDs.
+export function findSection({names, found, onFind}) {
+    const place = make("div", {id: "found-rows"});
+    const search = async (text) => {
+        found.text = text;
+        const all = matching(text);
+        const some = all.slice(0, MOST_FOUND);
+        const answer = some.length ? await onFind(some.map(({guid}) => guid)) : null;
+        if (found.text !== text) {
+            return;
+        }
+        const told = all.length > some.length ? say(words.count, {count: some.length, all: all.length}) : "";
+        const rows = answer?.found ? linesOf(answer.found).map((line) => JSON.parse(line)) : [];
+        show(place, text.trim() && !all.length && make("p", {}, words.none), told && make("p", {class: "hint"}, told),
+            rows.length > 0 &&
+                make("table", {class: "trustees", "aria-labelledby": "find-heading"},
+                    make("thead", {},
+                        make("tr", {}, Object.values(words.columns).map((one) => make("th", {scope: "col"}, one)))),
+                    make("tbody", {}, rows.map((one, at) => foundRow(some[at], one, names)))));
+    };
+    const field = input("find", found.text, search, {"aria-describedby": "find-hint"});
+    if (found.text) {
+        search(found.text);
+    }
+    return make("section", {"aria-labelledby": "find-heading"}, make("h2", {id: "find-heading"}, words.heading),
+        labelled(words.label, field, words.hint), place);
+}
