@@ -1,7 +1,6 @@
 """Findings that somebody has accepted, in a file that is kept under version control."""
 import datetime
-import re
-from typing import Any, Dict, List, NamedTuple, Optional, Pattern, Sequence, Set, Tuple
+from typing import Any, Dict, List, NamedTuple, Optional, Sequence, Set, Tuple
 
 from sdtool.audit.findings import ACCEPTED, FOUND, Answer, Finding
 from sdtool.audit.sources.opening import OpeningFault
@@ -42,12 +41,18 @@ def _entry(path: str, number: int, given: Any, rules: Sequence[str]) -> Entry:
     return Entry(given["rule"], given["object"], given["reason"], given.get("trustee"), given.get("rights"), until)
 
 
-def _pattern(name: str) -> Optional[Pattern[str]]:
-    """What a name with * stands for; None for a name that is exact."""
-    if "*" not in name:
-        return None
-    # Brackets and question marks are letters of a name here.
-    return re.compile("(?s:" + ".*".join(map(re.escape, name.split("*"))) + r")\Z")
+def _fits(name: str, parts: Sequence[str]) -> bool:
+    """Whether a name has some parts one behind the other, from its begin to its end, with anything between them."""
+    first, *others, last = parts
+    at, end = len(first), len(name) - len(last)
+    if at > end or not name.startswith(first) or not name.endswith(last):
+        return False
+    for part in others:
+        found = name.find(part, at, end)
+        if found < 0:
+            return False
+        at = found + len(part)
+    return True
 
 
 class Accepted:
@@ -56,22 +61,22 @@ class Accepted:
     def __init__(self, entries: Sequence[Entry] = (), today: Optional[datetime.date] = None) -> None:
         today = today or datetime.date.today()
         self._exact: Dict[str, List[Entry]] = {}
-        self._patterns: List[Tuple[Pattern[str], Entry]] = []
+        self._patterns: List[Tuple[List[str], Entry]] = []  # what is between the stars of their names
         self.used: Set[Entry] = set()
         self.entries = entries
         self.expired = [entry for entry in entries if entry.until is not None and entry.until < today]
+        expired = set(self.expired)
         for entry in entries:
-            if entry in self.expired:
+            if entry in expired:
                 continue
-            pattern = _pattern(entry.name)
-            if pattern:
-                self._patterns.append((pattern, entry))
+            if "*" in entry.name:
+                self._patterns.append((entry.name.split("*"), entry))
             else:
                 self._exact.setdefault(entry.name, []).append(entry)
 
     def _reason(self, name: str, finding: Finding) -> str:
         covering = [entry for entry in self._exact.get(name, ()) if entry.covers(finding)]
-        covering += [entry for pattern, entry in self._patterns if entry.covers(finding) and pattern.match(name)]
+        covering += [entry for parts, entry in self._patterns if entry.covers(finding) and _fits(name, parts)]
         self.used.update(covering)
         return covering[0].reason if covering else ""
 
@@ -87,7 +92,8 @@ class Accepted:
         return Answer(FOUND if left else ACCEPTED, tuple(findings))
 
     def unused(self) -> List[Entry]:
-        return [entry for entry in self.entries if entry not in self.used and entry not in self.expired]
+        told = self.used.union(self.expired)
+        return [entry for entry in self.entries if entry not in told]
 
 
 def read_accepted(path: str, rules: Sequence[str]) -> Accepted:
