@@ -303,7 +303,8 @@ def items_of_element(value: Any, label: str, line: int, options: SourceOptions, 
         return [item for one in value for item in items_of_element(one, label, line, options)]
     if not isinstance(value, dict):
         return [unreadable(place, label, line, "the element is no object", "look at the source")]
-    of_attributes = {} if options.descriptor_column else _of_attributes(value)
+    has_attributes = not options.descriptor_column and any(map(is_attribute, value))
+    of_attributes = _of_attributes(value) if has_attributes else {}
     parts = _parts({key: one for key, one in value.items() if key not in of_attributes} if of_attributes else value,
                    place, options)
     is_named = parts.name != f"{label}:{line}"

@@ -1,5 +1,6 @@
 """Titles of columns and members: which have descriptors, which have names, and what they and names tell of objects: the
 kind, and the classes of those of a directory."""
+import functools
 import re
 from typing import AbstractSet, Dict, Iterable, List, Sequence
 
@@ -75,6 +76,7 @@ def kind_of_name(name: str) -> str:
     return BY_PATH if kind == "folder" else kind
 
 
+@functools.lru_cache(maxsize=1_000)
 def is_attribute(title: str) -> bool:
     """Whether a title is of an attribute with a descriptor beside that of its object."""
     return plain_name(title) in _ATTRIBUTES
