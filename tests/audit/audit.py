@@ -864,8 +864,10 @@ def test_accepting(place: Place) -> None:
     place.expect(place.ask("risks", one, "--accept", "one.toml").status, 0, "status of what is accepted")
     # What looks for a place of each part anew for each place of the others takes hours.
     deep = place.table([("C:" + "\\temp" * 6000, "O:BAD:(A;;0x100002;;;WD)")], "deep.csv")
-    place.write("deep.toml", entry.format("*\\temp\\*\\temp\\*\\temp\\*\\cache\\*"))
+    parts = "*\\temp\\*\\temp\\*\\temp\\*\\cache\\*"
+    place.write("deep.toml", entry.format(parts))
     place.expect(place.ask("risks", deep, "--accept", "deep.toml").status, 1, "a long name, and an entry of many parts")
+    place.expect(place.ask("show", deep, "--name", parts).status, 3, "a long name, and one of many parts")
     for wrong in ("[[accept]]\nrule = 'everyone-changes'\nobject = 'x'\n",
                   "[[accept]]\nrule = 'unknown'\nobject='x'\nreason='y'\n", entry.format("x") + "untill = 2020-01-01\n",
                   "accept = 1\n", "[[accept\n"):

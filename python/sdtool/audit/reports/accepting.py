@@ -1,6 +1,6 @@
 """Findings that somebody has accepted, in a file that is kept under version control."""
 import datetime
-from typing import Any, Dict, List, NamedTuple, Optional, Sequence, Set, Tuple
+from typing import Any, Dict, List, NamedTuple, Optional, Sequence, Set
 
 from sdtool.audit.findings import ACCEPTED, FOUND, Answer, Finding
 from sdtool.audit.sources.opening import OpeningFault
@@ -41,9 +41,12 @@ def _entry(path: str, number: int, given: Any, rules: Sequence[str]) -> Entry:
     return Entry(given["rule"], given["object"], given["reason"], given.get("trustee"), given.get("rights"), until)
 
 
-def _fits(name: str, parts: Sequence[str]) -> bool:
-    """Whether a name has some parts one behind the other, from its begin to its end, with anything between them."""
-    first, *others, last = parts
+def is_called(name: str, wanted: str) -> bool:
+    """Whether a name is the wanted one, in which * stands for any text."""
+    first, *others = wanted.split("*")
+    if not others:
+        return name == wanted
+    last = others.pop()
     at, end = len(first), len(name) - len(last)
     if at > end or not name.startswith(first) or not name.endswith(last):
         return False
@@ -61,7 +64,7 @@ class Accepted:
     def __init__(self, entries: Sequence[Entry] = (), today: Optional[datetime.date] = None) -> None:
         today = today or datetime.date.today()
         self._exact: Dict[str, List[Entry]] = {}
-        self._patterns: List[Tuple[List[str], Entry]] = []  # what is between the stars of their names
+        self._patterns: List[Entry] = []
         self.used: Set[Entry] = set()
         self.entries = entries
         self.expired = [entry for entry in entries if entry.until is not None and entry.until < today]
@@ -70,13 +73,13 @@ class Accepted:
             if entry in expired:
                 continue
             if "*" in entry.name:
-                self._patterns.append((entry.name.split("*"), entry))
+                self._patterns.append(entry)
             else:
                 self._exact.setdefault(entry.name, []).append(entry)
 
     def _reason(self, name: str, finding: Finding) -> str:
         covering = [entry for entry in self._exact.get(name, ()) if entry.covers(finding)]
-        covering += [entry for parts, entry in self._patterns if entry.covers(finding) and _fits(name, parts)]
+        covering += [entry for entry in self._patterns if entry.covers(finding) and is_called(name, entry.name)]
         self.used.update(covering)
         return covering[0].reason if covering else ""
 

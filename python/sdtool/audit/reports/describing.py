@@ -1,11 +1,11 @@
 """One object in words."""
-import re
 from typing import Iterable, Iterator, Optional, TextIO
 
 from sdtool.audit.checks import why_unanswerable
 from sdtool.audit.findings import unknown, unknown_of
 from sdtool.audit.library import PROTECTED, Ace, Descriptor, Refusal, explained
 from sdtool.audit.protocols import Context
+from sdtool.audit.reports.accepting import is_called
 from sdtool.audit.reports.shown import note_of, tell
 from sdtool.audit.sources.items import UNREADABLE, Item
 from sdtool.audit.windows.aces import ace_in_words
@@ -41,11 +41,10 @@ def lines_of(descriptor: Descriptor, kind: str, names: Names) -> Iterator[str]:
 
 def show(items: Iterable[Item], name: Optional[str], context: Context, file: TextIO) -> int:
     """Shows the objects of a name, and gives the exit status."""
-    pattern = re.compile("(?s:" + ".*".join(map(re.escape, name.split("*"))) + r")\Z") if name is not None else None
     is_unknown = False
     count = 0
     for item in items:
-        if pattern is not None and not pattern.match(item.name):
+        if name is not None and not is_called(item.name, name):
             continue
         count += 1
         place = f"{item.source}, line {item.line}" if item.line else item.source
