@@ -207,7 +207,7 @@ if "${MAKE:-make}" --no-print-directory program; then
         start_lane audit audit_sources audit_directory audit_reports audit_stopping audit_reasons audit_inherited \
             audit_package
         start_lane audit_forms hostile_lists audit_terminal audit_growth risk_rows abilities severities many_types
-        start_lane distributed distributed_faults
+        start_lane distributed distributed_faults distributed_scale
         start_lane page page_kinds page_questions page_verdicts page_units "risk_rows --page" lowering systems
     else
         echo "the library is not built, so its tests have not run"

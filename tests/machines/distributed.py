@@ -430,6 +430,9 @@ def test_remote(count, place):
     served, environment = place.folder / "served", {"HOME": str(place.folder / "home")}
     name = place.write("served/in/below/one", LINE * 300 + b"zz\n")
     wanted, _ = place.wanted(["convert"], name)
+    small = {str(number): LINE * (number + 1) for number in range(30)}
+    for number, data in small.items():
+        place.write(f"served/small/{number}", data)
     _, address = place.start_scheduler()
     for _ in range(2):
         place.start_worker(address, environment)
@@ -461,6 +464,10 @@ def test_remote(count, place):
             answers = {"below/one": place.wanted(["convert"], name)[0]}
             is_right = got.status == int(turn < 2) and answers_in(served / kind) == answers
             count.add(is_right, f"{kind}, turn {turn}: {answers_in(served / kind).keys()} {got}")
+        got = run(f"{url}/{kind}-small", f"{url}/small", "small files")
+        answers = {number: place.wanted(["convert"], f"served/small/{number}")[0] for number in small}
+        is_right = got.status == 0 and answers_in(served / f"{kind}-small") == answers
+        count.add(is_right and "another one gets it" not in got.stderr, f"{kind}, small files: {got}")
         place.write("served/in/below/one", LINE * 300 + b"zz\n")
         got = run(f"{url}/{kind}-parts", f"{url}/in/below/*", "parts", ["--parts"])
         parts = answers_in(served / f"{kind}-parts")
@@ -545,7 +552,8 @@ def test_object_store(count, place):
 
 
 def test_requests(count, place, store):
-    """How often driver and worker ask an object store: for small objects, and for the blocks of a large one."""
+    """How often driver and worker ask an object store: for small objects, and for the blocks of a large one. The driver
+    asks once for each object, and some times for all."""
     _, address = place.start_scheduler()
     place.start_worker(address, {**store.environment, "S3_LOG": str(place.folder / "worker log"), "S3_SECONDS": "0.02"})
     place.wait_for_workers(address, 1)
@@ -555,7 +563,7 @@ def test_requests(count, place, store):
     store.ask(f"""for number in map(str, range({SMALL_OBJECTS})):
     fs.pipe_file("bucket/small/" + number, open("small/" + number, "rb").read())""")
     store.put("bucket/blocks", "blocks", LINE * 40_000)
-    for given, block, made, most in (("small", 64_000_000, SMALL_OBJECTS, (2, 9)), ("blocks", 260_000, 10, (3, 13))):
+    for given, block, made, most in (("small", 64_000_000, SMALL_OBJECTS, (1.4, 8)), ("blocks", 260_000, 10, (1.4, 8))):
         for log in "worker log", "driver log":
             (place.folder / log).unlink(missing_ok=True)
         got = place.run(f"s3://bucket/asked {given}", ["convert"], [f"s3://bucket/{given}"],
@@ -780,10 +788,10 @@ def test_resumed(count, place):
     changed("blocks have another length", ["--block", "700"])
     (out / first).write_bytes((out / first).read_bytes())
     manifest = out / "_sdtool/inputs/first/_sdtool.json"
-    library = json.loads(manifest.read_bytes())["blocks"][0]["library"]
+    library = json.loads(manifest.read_bytes())["library"]
     changed("the library is another one", environment=place.other_library())
-    others = {block["library"] for block in json.loads(manifest.read_bytes())["blocks"]}
-    count.add(len(others) == 1 and library not in others, f"another library: {others} {library}")
+    other = json.loads(manifest.read_bytes())["library"]
+    count.add(other != library, f"another library: {other} {library}")
     got = place.run(out, ["convert", "--to", "hex"], names)
     is_kept = answers_in(out)[first] == place.wanted(words, first)[0]
     count.add(got.status == 2 and "has answers of 'sdtool convert'" in got.stderr and is_kept, f"other words: {got}")

@@ -49,17 +49,15 @@ PAUSES = """if not next(numbers):
             from distributed.core import Status
             get_worker().loop.add_callback(setattr, get_worker(), 'status', Status.paused)
             time.sleep(0.3)"""
-# Behind the stub of a worker: it is stopped while it looks at the parts of an input, where the file `stop` says so.
+# Behind the stub of a worker: it is stopped before it removes a part of an input, where the file `stop` says so.
 STOPS = """
-from fsspec.implementations.local import LocalFileSystem
-right_info = LocalFileSystem.info
-def info(self, path, **named):
-    found = right_info(self, path, **named)
-    if isinstance(path, os.DirEntry) and path.name == 'part-000010' and os.path.exists({folder!r} + '/stop'):
+replace_before = os.replace
+def replace_or_stop(old, new):
+    if str(old).endswith('/part-000010') and os.path.exists({folder!r} + '/stop'):
         os.rename({folder!r} + '/stop', {folder!r} + '/stopped')
         os.kill(os.getpid(), signal.SIGSTOP)
-    return found
-LocalFileSystem.info = info
+    replace_before(old, new)
+os.replace = replace_or_stop
 """
 # Behind the stub of a driver: two of them own the output at once, the one that has LATER half a second later. Both then
 # wait.
@@ -280,6 +278,10 @@ def test_names_of_runs(count, place):
     shutil.rmtree(place.folder / "tree/deep")
     got = place.run(place.out(), ["convert", "--to", "hex"], [first])
     count.add(got.status == 1 and got.stdout.count("lines") == 1, f"an earlier output as input: {got}")
+    (first / "_sdtool/mine").write_bytes(LINE)
+    got = place.run(place.out(), ["convert", "--to", "hex"], [first])
+    count.add(got.status == 3 and got.stdout.count("lines") == 1 and "_sdtool/mine has no answers" in got.stderr,
+              f"a user's file beside the records of a run: {got}")
     for pattern in "*", "**":
         got = place.run(place.out(), ["convert", "--to", "hex"], [f"{first}/{pattern}"])
         count.add(got.status == 1 and got.stdout.count("lines") == 1,
@@ -598,20 +600,22 @@ def test_scheduler_of_dask(count, place):
 
 # What a driver does for an input of many parts, without a cluster: blocks that are answered, compared and put together.
 PARTS = """
-import argparse, time
+import argparse, gc, time
+gc.disable()  # which looks at all that Dask has, now and then
 from sdtool.distributed.engine import Engine
 from sdtool.distributed.work import Given
 
 def seconds(blocks):
     given = Given(None, "/x", None, "/out/x", "/out/x", {"size": blocks, "ino": 1})
     wanted = argparse.Namespace(block=1, retries=0, wait=60, slowest=1)
-    made, methods = Engine(argparse.Namespace(is_parts=True), [given], wanted, print), []
+    work = argparse.Namespace(is_parts=True, write_record=lambda *record: None)
+    made, methods = Engine(work, [given], wanted, print), []
     made.begin(made.jobs[0])
     began = time.process_time()
     while made.fresh:
         task = made.fresh.popleft()
         methods.append(task.method)
-        made.finished(task, {"bytes": 1})
+        made.finished(task, {"start": 0, "end": 1, "bytes": 1})
     assert methods == ["answer"] * blocks + ["compare"] * blocks + ["finish"], methods[-5:]
     return time.process_time() - began
 
@@ -647,6 +651,7 @@ def engine(retries, **others):
     given = Given(None, "/x", None, "/out/x", "/out/_sdtool/inputs/x", {"size": 1})
     given.__class__.url = "x"
     made = Engine(None, [given], argparse.Namespace(block=9, retries=retries, wait=60, slowest=1), lambda line: None)
+    made.unbegun = iter(())
     made.workers = {"one": Worker("one"), **{name: Worker(name, **has) for name, has in others.items()}}
     made.was_retired = lambda address: address == "retired"
     return made, Task(made.jobs[0], "answer_whole", (), 1)
@@ -663,7 +668,7 @@ def hung(made, task, name="one"):
     return is_open(made)
 
 def died(made, name, *tasks):
-    made.bury(Sent(None, list(tasks)), name)
+    made.bury(Sent(None, list(tasks), {name, "next"}), "next")
     return is_open(made)
 
 LEFT_OUT = {"unfit_at": time.monotonic(), "delay": 30}
@@ -678,7 +683,7 @@ told = {
 }
 made, task = engine(0, two={})
 failed(made, task)
-made.leave_out(made.workers["two"], "it is no good")
+made.leave_out("two", "it is no good")
 told["one that is found unfit since"] = failed(made, task)
 made, task = engine(0, two={})
 failed(made, task)
@@ -706,7 +711,7 @@ made.later = [Task(made.jobs[0], "answer", (), 1, turn=-1) for _ in range(5000)]
 told["a task behind many that ended"] = made.next_tasks() == [task]
 made, task = engine(0, two={})
 made.take_outcome(task, "two", "done", {"lines": 1})
-for what in "failed", "done", "unfit", "touched", "hung":
+for what in "failed", "done", "unfit", "anew", "hung":
     made.work, made.require_ownership = None, lambda: None
     made.take_outcome(task, "one", what, 30)
 died(made, "one", task)
@@ -1044,41 +1049,6 @@ print(status, fsspec.filesystem("memory").cat_file("/o[1]*/x"))
     count.add(wanted in got.stdout, f"--out with a bracket in memory: {got}")
 
 
-# The scheduler looks ten times a second how long it has worked since, by processor time, which other programs do not
-# take.
-WATCH = """
-def watch(dask_scheduler):
-    import asyncio, time
-    dask_scheduler.worst = 0.0
-    async def look():
-        while True:
-            began = time.process_time()
-            await asyncio.sleep(0.1)
-            dask_scheduler.worst = max(dask_scheduler.worst, time.process_time() - began)
-    dask_scheduler.looking = asyncio.ensure_future(look())
-client.run_on_scheduler(watch)
-"""
-
-
-def test_many(count, place):
-    """Thousands of tasks and of small files: the scheduler stays awake."""
-    place.write("tasks", LINE * 1500)
-    place.tree({f"files/{number}": LINE * 16 for number in range(1500)})
-    address, _ = place.cluster({}, {})
-    place.asked(address, WATCH)
-    for given, block in ("tasks", str(len(LINE))), ("files", "64000000"):
-        out = place.out()
-        got = place.run(out, ["convert"], [given], ["--scheduler", address, "--block", block])
-        files = ({"tasks": "tasks"} if given == "tasks"
-                 else {str(number): f"files/{number}" for number in range(0, 1500, 100)})
-        answers = runs.answers_in(out)
-        is_right = got.status == 0 and len(answers) == (1 if given == "tasks" else 1500)
-        count.add(is_right and all(answers[name] == place.wanted(["convert"], file)[0] for name, file in files.items()),
-                  f"many {given}: {got}")
-    worst = float(place.asked(address, "print(client.run_on_scheduler(lambda dask_scheduler: dask_scheduler.worst))"))
-    count.add(0 < worst < 2, f"the scheduler worked for {worst} seconds without a look at anything else")
-
-
 GROUPS = {
     "inputs": (test_no_inputs, test_files_that_go, test_without_versions, test_closed_folders, test_names_of_runs,
                test_packed, test_words),
@@ -1087,7 +1057,7 @@ GROUPS = {
     "workers": (test_other_modules, test_failing_worker, test_failed_read, test_retired, test_scheduler_of_dask,
                 test_killed_worker, test_hopes, test_many_parts, test_file_limit, test_deadly_input, test_restart,
                 test_adaptive),
-    "lost": (test_hanging, test_hanging_calls, test_long_packed, test_gone_output, test_many),
+    "lost": (test_hanging, test_hanging_calls, test_long_packed, test_gone_output),
     "waiting": (test_waiting, test_paused, test_paused_with_task),
 }
 

@@ -1,11 +1,13 @@
 """Calls that end: file systems and schedulers may hang for ever."""
+import concurrent.futures
 import math
 import queue
 import threading
 import time
-from typing import Any, Callable, Optional, Tuple
+from typing import Any, Callable
 
 MOST_HUNG = 3
+LOCAL = threading.local()
 
 
 class Overdue(TimeoutError):
@@ -15,51 +17,41 @@ class Overdue(TimeoutError):
 class Helper:
     """A thread that makes the calls of another one, which can stop waiting for them. fsspec opens a connection for each
     thread, so the helper stays until a call hangs."""
-    of = threading.local()
 
     def __init__(self) -> None:
         self.calls: "queue.SimpleQueue[Any]" = queue.SimpleQueue()
-        threading.Thread(target=self.run, args=(self.calls,), daemon=True).start()
+        threading.Thread(target=serve, args=(self.calls,), daemon=True).start()
 
     def __del__(self) -> None:
         self.calls.put(None)
 
-    @staticmethod
-    def run(calls: "queue.SimpleQueue[Any]") -> None:
-        while True:
-            given = calls.get()
-            if given is None:
-                return
-            call, arguments, came = given
-            try:
-                came.put((call(*arguments), None))
-            except BaseException as error:
-                came.put((None, error))
-            del given, call, arguments, came  # which may be large
+
+def serve(calls: "queue.SimpleQueue[Any]") -> None:
+    while (given := calls.get()) is not None:
+        came, call, arguments = given
+        try:
+            came.set_result(call(*arguments))
+        except BaseException as error:
+            came.set_exception(error)
+        del given, came, call, arguments  # which may be large
 
 
 def within(seconds: float, what: str, call: Callable[..., Any], *arguments: Any, each: float = math.inf,
            tell: Callable[[float], Any] = abs) -> Any:
-    """What a call gives, or Overdue: file systems may hang for ever. The call then goes on in its thread, and nothing
-    comes of it. Meanwhile, every few seconds, it tells how long the call has taken."""
-    helper = getattr(Helper.of, "thread", None) or Helper()
-    Helper.of.thread = helper
-    came: "queue.SimpleQueue[Tuple[Any, Optional[BaseException]]]" = queue.SimpleQueue()
-    helper.calls.put((call, arguments, came))
-    began = time.monotonic()
-    while True:
-        try:
-            value, error = came.get(timeout=max(0, min(each, began + seconds - time.monotonic())))
-        except queue.Empty:
-            taken = time.monotonic() - began
-            if taken >= seconds:
-                del Helper.of.thread
-                raise Overdue(f"{what} has taken more than {seconds:g} seconds") from None
-            tell(taken)
-            continue
-        if error is not None:
-            raise error
-        return value
+    """What a call gives, or Overdue: the call then goes on in its thread, and nothing comes of it. Meanwhile, every few
+    seconds, it tells how long the call has taken."""
+    if not hasattr(LOCAL, "helper"):
+        LOCAL.helper = Helper()
+    came: "concurrent.futures.Future[Any]" = concurrent.futures.Future()
+    LOCAL.helper.calls.put((came, call, arguments))
+    began, taken = time.monotonic(), 0.0
+    while not concurrent.futures.wait([came], min(each, seconds - taken)).done:
+        taken = time.monotonic() - began
+        if taken >= seconds:
+            del LOCAL.helper
+            raise Overdue(f"{what} has taken more than {seconds:g} seconds")
+        tell(taken)
+    return came.result()
 
 
 class Bounded:

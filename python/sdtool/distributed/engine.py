@@ -5,8 +5,8 @@ retired ones, and an adaptive cluster sees what waits. Here is what Dask lacks:
 
 - Who failed: each outcome has the worker's address. A task that failed is sent to the others, and a worker whose task
   another one does is left out for a while.
-- Who died: a worker marks what it begins. Dask sends the tasks of a dead worker to the next one, which sees the mark
-  and leaves such a task to the end, since it may be the cause.
+- Who died: an event of Dask marks what a worker has begun. The scheduler sends the tasks of a dead worker to the next
+  one, which leaves such a task to the end, since it may be the cause.
 - A limit of time: the worker gives up a task that hangs. Every few seconds it tells of one that goes on.
 - A worker that is silent or paused: what it has is sent to others too, and the first outcome counts. Dask waits for the
   time to live of workers, and for a paused one without an end.
@@ -17,19 +17,19 @@ import itertools
 import pickle
 import queue
 import time
-from typing import Any, Callable, Deque, Dict, List, Optional, Set, Tuple
+from typing import Any, Callable, Deque, Dict, List, Set, Tuple
 
 from distributed import Client, Future, as_completed
 
 from .bounded import Bounded, Overdue, within
-from .work import Given, Work, told_again
+from .work import MANIFEST, Anew, Given, Unfit, Work, look
 
 LEAST_WINDOW = 100  # tasks, besides two for each thread of the cluster
 SILENT_SECONDS = 15  # of a worker that says nothing, until others get what it has
 PAUSED_SECONDS = 10  # of one that begins nothing
 PATIENT_SECONDS = 10  # without progress, a line says what is waited for
 LOOK_SECONDS, REPORT_SECONDS, REST_SECONDS = 1, 10, 0.05
-LOST_SECONDS = 30  # for the outcome of a task that Dask says is done
+LOST_SECONDS = 30  # for the outcome of a task that Dask says is done: a worker that is stopped may have it
 FIRST_SECONDS = 30  # each task has these, besides those for its bytes
 LONG_SECONDS = 45  # of a task that takes so long a line tells, though it may have more
 MOST_LEFT_OUT = 30  # seconds until a worker that was left out is looked at again
@@ -38,8 +38,7 @@ BATCH, BATCH_BYTES = 50, 4 << 20  # small inputs in one task
 UNPACKED = 20  # how often as long as its file a compressed input may be, for the time that its task has
 TOPIC = "sdtool"  # of the events by which workers tell of long tasks
 SILENT_SCHEDULER = "the scheduler does not answer"
-RETIRED = ("retired", "closing_gracefully")  # how Dask's events call a worker that was to go
-Say = Callable[[str], None]
+RETIRED = {"retired", "closing_gracefully"}  # how Dask's events call a worker that was to go
 
 
 class Lost(OSError):
@@ -70,15 +69,14 @@ class Task:
 
     @property
     def words(self) -> str:
-        what = {"finish": "the answers", "answer_whole": "all"}.get(self.method, f"block {self.index}")
-        return f"{what} of {self.job.given.url}"
+        return f"{f'block {self.index}' if self.method in ('answer', 'compare') else 'all'} of {self.job.given.url}"
 
 
 @dataclasses.dataclass(eq=False)
 class Job:
     """An input, and what there is of its answers."""
     given: Given
-    cuts: List[Tuple[int, Optional[int]]]
+    count: int  # of blocks
     blocks: Dict[int, Dict[str, Any]] = dataclasses.field(default_factory=dict)
     compared: int = 0
     is_long: bool = False  # a line has told that a task takes long
@@ -91,8 +89,13 @@ class Sent:
     """What is one task for Dask: a task, or some small ones."""
     future: Future
     tasks: List[Task]
+    had_by: Set[str] = dataclasses.field(default_factory=set)  # the workers that Dask has given it to
     is_twin: bool = False  # its tasks were sent once more
     done_at: float = 0  # when Dask first said so
+
+    @property
+    def open(self) -> List[Task]:
+        return [task for task in self.tasks if not task.is_stale]
 
 
 @dataclasses.dataclass(eq=False)
@@ -103,7 +106,8 @@ class Worker:
     last_seen: Any = None  # by the scheduler's clock
     heard_at: float = 0  # when that has changed, by this one's
     idle_at: float = 0  # since when it begins nothing
-    is_stuck: bool = False
+    is_silent: bool = False
+    is_stuck: bool = False  # silent, or paused for long
     unfit_at: float = 0  # when it was last found not to be fit
     delay: float = 0  # for which it then gets nothing
 
@@ -121,10 +125,8 @@ class Worker:
         if told["last_seen"] != self.last_seen:
             self.last_seen, self.heard_at = told["last_seen"], now
         self.idle_at = 0 if self.status == "running" else self.idle_at or now
-        self.is_stuck = self.is_silent(now) or bool(self.idle_at and now - self.idle_at > PAUSED_SECONDS)
-
-    def is_silent(self, now: float) -> bool:
-        return now - self.heard_at > SILENT_SECONDS
+        self.is_silent = now - self.heard_at > SILENT_SECONDS
+        self.is_stuck = self.is_silent or bool(self.idle_at and now - self.idle_at > PAUSED_SECONDS)
 
 
 def task_of_dask() -> Callable[..., Any]:
@@ -148,12 +150,14 @@ class Engine:
 
     client: Client
     done: as_completed
+    fresh: Deque[Task]
 
-    def __init__(self, work: Work, inputs: List[Given], wanted: Any, say: Say) -> None:
+    def __init__(self, work: Work, inputs: List[Given], wanted: Any, say: Callable[[str], None]) -> None:
         self.work, self.wanted, self.say = work, wanted, say
-        self.jobs = [Job(given, cuts_of(given, wanted.block)) for given in inputs]
+        self.jobs = [Job(given, max(1, -(-(given.size or 0) // wanted.block))) for given in inputs]
         self.workers: Dict[str, Worker] = {}
-        self.fresh: Deque[Task] = collections.deque()
+        self.keys_of: Dict[str, List[str]] = {}  # what each worker has, also of others
+        self.unbegun, self.fresh = iter(self.jobs), collections.deque()  # tasks are made when there is room for them
         self.later: List[Task] = []
         self.sent: Dict[str, Sent] = {}
         self.numbers = itertools.count()
@@ -170,8 +174,6 @@ class Engine:
         self.client = client
         self.done = as_completed([], loop=client.loop, with_results=True, raise_errors=False)
         client.subscribe_topic(TOPIC, self.heard.put)
-        for job in self.jobs:
-            self.begin(job)
         self.began = self.progress = self.seen = reported = time.monotonic()
         looked = 0.0
         while self.left:
@@ -187,18 +189,13 @@ class Engine:
             if is_idle:
                 time.sleep(REST_SECONDS)
 
-    def end(self, reason: str) -> None:
-        """No job stays without a word."""
-        for job in self.jobs:
-            job.came = reason if job.came is None else job.came
-
     def report(self) -> None:
-        blocks, failed = sum(len(job.cuts) for job in self.jobs), sum(isinstance(job.came, str) for job in self.jobs)
+        blocks, failed = sum(job.count for job in self.jobs), sum(isinstance(job.came, str) for job in self.jobs)
         rate = self.bytes_done / 1e6 / (time.monotonic() - self.began)
         out = sum(not worker.is_fit for worker in self.workers.values())
-        self.say(f"{len(self.jobs) - self.left:,} of {len(self.jobs):,} inputs, {self.blocks_done:,} of {blocks:,} "
-                 f"blocks, {rate:.1f} MB/s, workers: {len(self.workers):,}" + f", not fit: {out:,}" * bool(out)
-                 + f", inputs that failed: {failed:,}" * bool(failed))
+        self.say(f"[{'#' * (20 * self.blocks_done // blocks):20}] {len(self.jobs) - self.left:,} of {len(self.jobs):,} "
+                 f"inputs, {self.blocks_done:,} of {blocks:,} blocks, {rate:.1f} MB/s, workers: {len(self.workers):,}"
+                 + f", not fit: {out:,}" * bool(out) + f", inputs that failed: {failed:,}" * bool(failed))
 
     # Jobs.
 
@@ -206,12 +203,27 @@ class Engine:
         self.blocks_done -= len(job.blocks)
         job.blocks.clear()
         job.compared = 0
-        if len(job.cuts) == 1:
-            size = job.given.told["size"] or 0
-            self.add(job, "answer_whole", (job.cuts[0][1],), size * UNPACKED if job.given.compression else size)
-            return
-        for index, (start, end) in enumerate(job.cuts):
-            self.add(job, "answer", (index, start, end), (end or 0) - start, index)
+        given, size = job.given, job.given.told["size"] or 0
+        if self.work.is_parts:
+            try:  # this says that a run writes the parts
+                self.bounded(f"the folder of {given.answers}", self.work.write_record, f"{given.folder}/{MANIFEST}",
+                             {"lines": None, "url": given.url})
+            except Unfit:
+                raise
+            except Exception as error:  # file systems have many
+                self.close(job, f"{type(error).__name__}: {error}")
+        if job.count == 1:
+            self.add(job, "answer_whole", (given.size,), size * UNPACKED if given.compression else size)
+        elif not given.is_new and not job.turn and not self.work.is_parts:
+            self.add(job, "keep", (), size)
+        else:
+            self.begin_blocks(job)
+
+    def begin_blocks(self, job: Job) -> None:
+        block, size = self.wanted.block, job.given.told["size"]
+        for index in range(job.count):
+            start, end = index * block, min((index + 1) * block, size)
+            self.add(job, "answer", (index, start, end), end - start, index)
 
     def add(self, job: Job, method: str, arguments: Tuple[Any, ...], size: int, index: int = 0) -> None:
         self.fresh.append(Task(job, method, arguments, size, index, job.turn))
@@ -220,39 +232,50 @@ class Engine:
         """Goes on with a job behind a task that is done. Before the parts are put together, many workers compare those
         that stay, and inputs that have no version."""
         job = task.job
-        if task.method in ("answer", "answer_whole"):
-            self.blocks_done += 1
-            self.bytes_done += task.bytes
         if task.method == "answer":
             job.blocks[task.index] = value
-            is_compared = job.given.is_versioned and not self.work.is_parts
+            self.blocks_done += 1
+            self.bytes_done += task.bytes
+            if len(job.blocks) < job.count:
+                return
+            if self.work.is_parts or not job.given.is_versioned:
+                for index, block in sorted(job.blocks.items()):
+                    self.add(job, "compare", (index, block), block["bytes"] + block["end"] - block["start"], index)
+                return
         elif task.method == "compare":
             job.compared += 1
-            is_compared = job.compared == len(job.cuts)
-            if not is_compared:
+            if job.compared < job.count:
                 return
+        elif task.method == "keep" and value is None:
+            self.begin_blocks(job)
+            return
         else:
+            if task.method != "finish":
+                self.blocks_done += job.count
+                self.bytes_done += job.given.told["size"] or 0
             self.close(job, value)
             return
-        if len(job.blocks) < len(job.cuts):
-            return
-        blocks = [job.blocks[index] for index in range(len(job.cuts))]
-        if is_compared:
-            self.add(job, "finish", (blocks,), sum(block["bytes"] for block in blocks))
-            return
-        for index, ((start, end), block) in enumerate(zip(job.cuts, blocks)):
-            self.add(job, "compare", (index, block), block["bytes"] + (end or 0) - start, index)
+        blocks = [job.blocks[index] for index in range(job.count)]
+        self.add(job, "finish", (blocks,), sum(block["bytes"] for block in blocks))
 
-    def begin_again(self, task: Task, address: str, damaged: Optional[str]) -> None:
+    def begin_again(self, task: Task, address: str, damaged: str) -> None:
         """Begins an input anew, of which a part is not what its worker wrote, or the attributes have changed: so all
         answers are to one state of the file. Parts that are whole are kept."""
-        job = task.job
+        job, given = task.job, task.job.given
+
+        def told_again() -> Dict[str, Any]:
+            try:
+                given.require_same()
+            except Anew:
+                return look(given.fs, given.path)
+            return given.told
+
         try:
-            told = self.bounded(f"a look at {job.given.url}", told_again, job.given)
-        except Exception as error:
+            told = self.bounded(f"a look at {given.url}", told_again)
+        except Exception as error:  # file systems have many
             self.close(job, f"{type(error).__name__}: {error}")
             return
-        if damaged is None and told == job.given.told:
+        if not damaged and told == given.told:
             self.fail(task, address, "OSError: it is another file there")
             return
         job.turn += 1
@@ -260,11 +283,11 @@ class Engine:
             self.close(job, f"RuntimeError: {damaged} is never what its worker wrote" if damaged else
                        "OSError: its attributes change again and again")
             return
-        job.given = dataclasses.replace(job.given, told=told)
-        job.cuts = cuts_of(job.given, self.wanted.block)
+        given.told, given.is_new = told, False
         self.begin(job)
 
     def close(self, job: Job, came: Any) -> None:
+        """Ends a job, with its counts or the reason why it has no answers."""
         if job.came is None:
             job.came = came
             self.left -= 1
@@ -292,27 +315,28 @@ class Engine:
         return not is_late and len(task.failed) < 2 and any(
             each.address not in task.failed and each.is_hopeful(task.failed_at) for each in self.workers.values())
 
-    def blame(self, task: Task, address: str) -> None:
-        """Leaves out the workers that failed a task which another one has done."""
-        for failed, reason in task.failed.items():
-            if failed != address and failed in self.workers:
-                self.leave_out(self.workers[failed], reason)
-
-    def leave_out(self, worker: Worker, reason: str) -> None:
-        self.tell(f"worker {worker.address} is left out: {reason}")
+    def leave_out(self, address: str, reason: str) -> None:
+        worker = self.workers.get(address)
+        if worker is None:
+            return
+        self.tell(f"worker {address} is left out: {reason}")
         if worker.is_fit:
             worker.unfit_at, worker.delay = time.monotonic(), min(MOST_LEFT_OUT, 2 * worker.delay or 1)
 
+    def unfit(self, address: str, reason: str) -> None:
+        self.require_ownership()
+        self.leave_out(address, reason)
+
     def bury(self, sent: Sent, address: str) -> None:
-        """A worker is gone that had begun some tasks. If it was not retired, they may have killed it."""
-        tasks = [task for task in sent.tasks if not task.is_stale]
-        if self.was_retired(address):
-            self.later += tasks
+        """A worker is gone that had begun some tasks. If it was not retired, they may have killed it. The address is
+        that of the next worker, which has done nothing."""
+        if any(self.was_retired(each) for each in sent.had_by - {address}):
+            self.later += sent.open
             return
-        for task in tasks:
+        for task in sent.open:
             task.deaths += len(sent.tasks) == 1
             task.is_alone = True
-            self.note(task, address, "its worker died")
+            self.note(task, f"the dead worker {len(task.failed)}", "it died")  # which one, nobody knows for sure
             if task.deaths > self.wanted.retries and not self.has_hope(task):
                 self.close(task.job, f"KilledWorker: {task.deaths} workers died that had {task.words}")
             else:
@@ -320,8 +344,7 @@ class Engine:
 
     def was_retired(self, address: str) -> bool:
         events = self.asked(self.client.get_events, address) or ()
-        return any(isinstance(told, dict) and {told.get("action"), told.get("status")} & {*RETIRED}
-                   for _, told in events)
+        return any(isinstance(told, dict) and {told.get("action"), told.get("status")} & RETIRED for _, told in events)
 
     def tell(self, line: str) -> None:
         """Says a thing once."""
@@ -355,43 +378,35 @@ class Engine:
         return None
 
     def look(self) -> None:
-        """Asks the scheduler for its workers, and follows what has become of them."""
+        """Asks the scheduler what its workers are and have, and follows what has become of them."""
         # The first question fails where the connection is lost, and the second one does not.
-        if self.asked(self.client.nthreads) is None:
-            return
-        info = self.asked(lambda: self.client.scheduler_info(n_workers=-1))
-        if info is None:
+        had = self.asked(self.client.processing)
+        info = None if had is None else self.asked(lambda: self.client.scheduler_info(n_workers=-1))
+        if had is None or info is None:
             return
         now = self.seen = time.monotonic()
         self.told.discard(SILENT_SCHEDULER)
         self.take()  # what has come meanwhile is not late, however long this driver was kept from looking
-        for address in self.workers.keys() - info["workers"].keys():
-            del self.workers[address]
-        for address, told in info["workers"].items():
-            self.workers.setdefault(address, Worker(address, heard_at=now)).follow(told, now)
-        self.move([worker for worker in self.workers.values() if worker.is_stuck], now)
+        self.keys_of = {address: [str(key) for key in keys] for address, keys in had.items()}
+        self.workers = {address: self.workers.get(address) or Worker(address, heard_at=now)
+                        for address in info["workers"]}
+        for address, worker in self.workers.items():
+            worker.follow(info["workers"][address], now)
+            for sent in [self.sent[key] for key in self.keys_of.get(address, ()) if key in self.sent]:
+                sent.had_by.add(address)
+                if worker.is_stuck and not sent.is_twin:
+                    sent.is_twin = True
+                    self.later += sent.open
+                    if worker.is_silent:
+                        self.tell(f"worker {address} is silent; others get its tasks")
         self.drop(now)
 
-    def move(self, stuck: List[Worker], now: float) -> None:
-        """Sends to others what silent and paused workers have."""
-        had = self.asked(self.client.processing, [worker.address for worker in stuck]) if stuck else None
-        for address, keys in (had or {}).items():
-            for sent in [self.sent[key] for key in keys if isinstance(key, str) and key in self.sent]:
-                if not sent.is_twin:
-                    sent.is_twin = True
-                    self.later += [task for task in sent.tasks if not task.is_stale]
-                    if self.workers[address].is_silent(now):
-                        self.tell(f"worker {address} is silent; others get its tasks")
-
     def drop(self, now: float) -> None:
-        """Takes back what nobody waits for, and sends again what Dask says is done though nothing came of it: a worker
-        that is stopped may have the outcome."""
+        """Takes back what nobody waits for, and sends again what Dask says is done though nothing came of it."""
         for key, sent in list(self.sent.items()):
-            is_done = sent.future.status != "pending"
-            sent.done_at = (sent.done_at or now) if is_done else 0
-            is_lost = sent.done_at and now - sent.done_at > LOST_SECONDS
+            sent.done_at = (sent.done_at or now) if sent.future.status != "pending" else 0
             # A twin stays where it is: a silent worker that seems to be idle would get more.
-            if is_lost or not sent.is_twin and all(task.is_stale for task in sent.tasks):
+            if sent.done_at and now - sent.done_at > LOST_SECONDS or not sent.is_twin and not sent.open:
                 del self.sent[key]
                 sent.future.release()
                 self.again(sent)
@@ -406,9 +421,8 @@ class Engine:
         is_fit = any(worker.is_fit and worker.status == "running" for worker in self.workers.values())
         waits = [f"worker {each.address} is {each.status}" for each in self.workers.values()
                  if each.status != "running"]
-        for address, keys in sorted((self.asked(self.client.processing) or {}).items()):
-            others = sum(key not in self.sent for key in map(str, keys))
-            waits += [f"worker {address} has {others} tasks of others"] * bool(others)
+        others = {address: sum(key not in self.sent for key in keys) for address, keys in sorted(self.keys_of.items())}
+        waits += [f"worker {address} has {count} tasks of others" for address, count in others.items() if count]
         what = "".join(f"; {each}" for each in waits[:5])
         if is_late:
             reason = "nothing has gone on" if is_fit else "no worker has been fit"
@@ -444,7 +458,7 @@ class Engine:
         tasks = self.next_fresh()
         if tasks or not self.later:
             return tasks
-        on_the_way = [task for sent in self.sent.values() for task in sent.tasks if not task.is_stale]
+        on_the_way = [task for sent in self.sent.values() for task in sent.open]
         if not all(task.is_alone for task in [*self.later, *on_the_way]):
             return []
         for task in sorted(self.later, key=lambda each: each.deaths):
@@ -456,16 +470,17 @@ class Engine:
     def next_fresh(self) -> List[Task]:
         batch: List[Task] = []
         threads = sum(worker.threads for worker in self.workers.values())
-        most, size = min(BATCH, 1 + len(self.fresh) // (4 * threads or 1)), 0
+        most, size = min(BATCH, 1 + self.left // (4 * threads or 1)), 0
+        while len(self.fresh) < BATCH and (job := next(self.unbegun, None)):
+            self.begin(job)
         while self.fresh and len(batch) < most:
             task = self.fresh[0]
             is_small = task.method == "answer_whole" and task.bytes <= BATCH_BYTES
-            if task.is_stale:
-                self.fresh.popleft()
-            elif batch and not (is_small and size + task.bytes <= BATCH_BYTES):
+            if batch and not (is_small and size + task.bytes <= BATCH_BYTES):
                 break
-            else:
-                batch.append(self.fresh.popleft())
+            self.fresh.popleft()
+            if not task.is_stale:
+                batch.append(task)
                 size += task.bytes
                 if not is_small:
                     break
@@ -480,8 +495,8 @@ class Engine:
         name = tasks[0].words if len(tasks) == 1 else f"{len(tasks)} inputs"
         name = name.encode(errors="backslashreplace").decode()  # names of files need not be UTF-8, and Dask's are
         key = f"{self.work.words[0]}-{self.work.run}-{next(self.numbers)} {name}"
-        calls = [(task.method, task.job.given.fields, task.arguments,
-                  FIRST_SECONDS + task.bytes / self.wanted.slowest) for task in tasks]
+        calls = [(task.method, task.job.given, task.arguments, FIRST_SECONDS + task.bytes / self.wanted.slowest)
+                 for task in tasks]
         each = min(PATIENT_SECONDS, self.wanted.wait / 3)
         future = self.client.submit(
             self.do, self.work.fields, pickle.dumps(calls), key, tuple(failed) if better else (), each, key=key,
@@ -490,7 +505,7 @@ class Engine:
         self.done.add(future)
 
     def again(self, sent: Sent) -> None:
-        self.later += [task for task in sent.tasks if not task.is_stale and task not in self.later]
+        self.later += [task for task in sent.open if task not in self.later]
 
     def take(self) -> bool:
         """Takes what has come. Gives whether something did."""
@@ -503,13 +518,11 @@ class Engine:
                 continue
             if future.status == "error":
                 error = future.exception(timeout=PATIENT_SECONDS)
-                worker = getattr(error, "last_worker", None)
-                if worker is not None:
-                    self.bury(sent, worker.address)
-                else:
-                    for task in sent.tasks:
-                        if not task.is_stale:
-                            self.fail(task, "", f"{type(error).__name__}: {error}")
+                if hasattr(error, "last_worker"):  # Dask's KilledWorker
+                    self.bury(sent, "")
+                    continue
+                for task in sent.open:
+                    self.fail(task, "", f"{type(error).__name__}: {error}")
             elif future.status == "finished" and isinstance(result, tuple):
                 self.take_result(sent, *result)
             else:  # another client's restart takes all that a worker has
@@ -534,16 +547,11 @@ class Engine:
             for task, (what, outcome) in zip(sent.tasks, value):
                 self.take_outcome(task, address, what, outcome)
         elif what == "begun":
-            self.bury(sent, value)
+            self.bury(sent, address)
         else:
             if what == "unfit":
                 self.unfit(address, value)
             self.again(sent)
-
-    def unfit(self, address: str, reason: str) -> None:
-        self.require_ownership()
-        if address in self.workers:
-            self.leave_out(self.workers[address], reason)
 
     def take_outcome(self, task: Task, address: str, what: str, value: Any) -> None:
         if what == "unfit":
@@ -554,9 +562,11 @@ class Engine:
             self.later.append(task)
         elif what == "done":
             task.is_done = True
-            self.blame(task, address)
+            for failed, reason in task.failed.items():
+                if failed != address:
+                    self.leave_out(failed, reason)
             self.finished(task, value)
-        elif what in ("touched", "damaged"):
+        elif what == "anew":
             self.begin_again(task, address, value)
         elif what == "hung":
             self.say(f"worker {address} has had {task.words} for {value:.0f} seconds; another one gets it")
@@ -564,8 +574,3 @@ class Engine:
             self.fail(task, address, f"TimeoutError: it took more than {value:.0f} seconds", task.hangs > 1)
         else:
             self.fail(task, address, value)
-
-
-def cuts_of(given: Given, block: int) -> List[Tuple[int, Optional[int]]]:
-    cuts = [*range(0, given.size or 1, block), given.size]
-    return list(zip(cuts, cuts[1:]))

@@ -1,12 +1,11 @@
 """The inputs of a run: every file that the words name, or why it is none."""
 import concurrent.futures
-import dataclasses
 import fnmatch
 import functools
 import itertools
 import os
 import re
-from typing import Any, Dict, Iterator, List, NamedTuple, Optional, Set, Tuple
+from typing import Any, Dict, Iterator, List, NamedTuple, Optional, Tuple, Union
 
 from fsspec.core import url_to_fs
 from fsspec.implementations.local import LocalFileSystem
@@ -14,15 +13,13 @@ from fsspec.registry import known_implementations
 
 from . import packed
 from .bounded import Bounded, Overdue
-from .work import AT_ONCE, OURS, STORE_KEYS, Given, Place, entries, is_same, look, plain, printable, shown_url
+from .work import (AT_ONCE, MAGIC, OURS, STORE_KEYS, Given, Place, entries, is_same, look, plain, printable,
+                   reason_of, renames, shown_url)
 
-MAGIC = re.compile(r"[*?\[]")
-# The files that runs write beside answers. Their content says whether a run wrote them.
-OF_RUNS = re.compile(rf"(^|/){OURS}(-part-\d{{6,}})?\.json$")
-BELOW_RUNS = re.compile(rf"{OURS}/(run\.json|sdtool-[0-9a-f]{{32}}/[0-9a-f]{{32}}|"
-                        rf"inputs/.*(/{OURS}(-part-\d{{6,}})?\.json|/part-\d{{6,}}))")
+# The files that runs write beside answers. Their content says whether a run wrote them, or that of run.json.
+OF_RUNS = re.compile(rf"(.*/)?{OURS}(-part-\d{{6,}})?\.json|"
+                     rf"{OURS}/(run\.json|sdtool-[0-9a-f]{{32}}/[0-9a-f]{{32}}|inputs/.*/part-\d{{6,}})")
 SOME = 1000  # inputs, of which a store is asked together
-OUTPUT = "has the answers of a run, and is no input"
 
 
 class Found(NamedTuple):
@@ -33,152 +30,89 @@ class Found(NamedTuple):
     told: Optional[Dict[str, Any]] = None  # what a listing of an object store has told
 
 
-@dataclasses.dataclass
-class Refused:
-    """A thing that was found and gets no answers."""
-    url: str
-    reason: str
-
-
-def words_of(error: BaseException) -> str:
-    return f"{type(error).__name__}: {error}"
-
-
 class Finder:
-    """Finds what is below a folder or has a pattern's form. What it cannot look into is found too, with the reason."""
+    """Finds what is below a folder: all of it, or what has a pattern's form. What it cannot look into is found too,
+    with the reason, which fsspec's find and glob do not tell."""
 
-    def __init__(self, fs: Any, above: str, bounded: Bounded) -> None:
-        self.fs, self.above, self.bounded = fs, above, bounded  # names are those below this folder
-        self.is_store = Place(fs, "").is_store
+    def __init__(self, fs: Any, above: str, bounded: Bounded, is_pattern: bool) -> None:
+        self.fs, self.above, self.bounded, self.is_pattern = fs, above, bounded, is_pattern
 
-    def name(self, path: str) -> str:
-        return os.path.relpath(path, self.above)
+    def found(self, path: str, problem: str = "") -> Found:
+        return Found(path, os.path.basename(path) if self.is_pattern else os.path.relpath(path, self.above), problem)
 
-    def listed(self, folder: str) -> List[Dict[str, Any]]:
-        told = self.bounded(f"the listing of {folder}", entries, self.fs, folder)
-        return sorted((each for each in told if each["name"].rstrip("/") != folder.rstrip("/")),
-                      key=lambda each: str(each["name"]))
-
-    def below(self, folder: str) -> Iterator[Found]:
+    def find(self, folder: str, parts: List[str]) -> Iterator[Found]:
+        """What the parts of a pattern lead to: a part has the form of one name, and ** is any folders."""
+        part, *rest = parts
         try:
-            listed = self.listed(folder)
-            is_output = folder != self.above and self.has_run(folder)
+            listed = sorted(self.bounded(f"the listing of {folder}", entries, self.fs, folder or "/"),
+                            key=lambda each: str(each["name"]))
         except Exception as error:  # file systems have many
-            yield Found(folder, self.name(folder), f"cannot be listed: {words_of(error)}")
+            if not (self.is_pattern and isinstance(error, (FileNotFoundError, NotADirectoryError))):
+                yield self.found(folder, f"cannot be listed: {reason_of(error)}")
             return
-        if is_output:
-            yield Found(folder, self.name(folder), OUTPUT)
+        paths, is_output = [each["name"].rstrip("/") for each in listed], False
+        try:
+            if f"{folder.rstrip('/')}/{OURS}" in paths:
+                is_output = self.bounded(f"a look at {folder}", has_run, self.fs, folder)
+        except Exception as error:
+            if folder != self.above:
+                yield self.found(folder, f"cannot be looked at: {reason_of(error)}")
+                return
+        if is_output and folder != self.above:
+            yield self.found(folder, "has the answers of a run, and is no input")
             return
-        for told in listed:
-            path = told["name"].rstrip("/")
-            if told["type"] == "directory":
-                yield from self.below(path)
-            elif self.is_store and STORE_KEYS & told.keys():
-                yield Found(path, self.name(path), told=plain(told))
-            else:
-                yield self.file(path)
+        if part == "**" and rest:
+            yield from self.find(folder, rest)
+        for path, told in zip(paths, listed):
+            is_folder = told["type"] == "directory"
+            is_of_run = self.is_pattern and is_output and is_folder and os.path.basename(path) == OURS
+            if is_of_run or path == folder.rstrip("/"):
+                continue
+            if part == "**" and is_folder:
+                yield from self.find(path, parts)
+            elif rest and part != "**" and fnmatch.fnmatchcase(os.path.basename(path), part):
+                if is_folder or told.get("islink"):
+                    yield from self.find(path, rest)
+            elif not rest and (part == "**" or fnmatch.fnmatchcase(os.path.basename(path), part)):
+                yield self.file(path, told)
 
-    def has_run(self, folder: str) -> bool:
-        return bool(self.bounded(f"a look at {folder}", has_run, self.fs, folder))
-
-    def file(self, path: str) -> Found:
+    def file(self, path: str, told: Dict[str, Any]) -> Found:
+        if not renames(self.fs) and STORE_KEYS & told.keys():
+            return self.found(path)._replace(told=plain(told))
         try:
             kind = self.bounded(f"a look at {path}", self.fs.info, path)["type"]
         except FileNotFoundError:
-            return Found(path, self.name(path), "is a link that leads nowhere, or is gone")
+            return self.found(path, "is a link that leads nowhere, or is gone")
         except Exception as error:
-            return Found(path, self.name(path), f"cannot be looked at: {words_of(error)}")
+            return self.found(path, f"cannot be looked at: {reason_of(error)}")
         problems = {"file": "", "directory": "is a folder, or a link to one"}
-        return Found(path, self.name(path), problems.get(kind, "is not a regular file"))
-
-    def matches(self, folder: str, parts: List[str]) -> Iterator[Found]:
-        """What the parts of a pattern lead to: a part has the form of one name, and ** is any folders."""
-        part, *rest = parts
-        if not MAGIC.search(part) and rest:
-            yield from self.matches(f"{folder}/{part}", rest)
-            return
-        if not MAGIC.search(part):
-            yield from self.named(f"{folder}/{part}")
-            return
-        try:
-            listed = self.listed(folder or "/")
-        except (FileNotFoundError, NotADirectoryError):
-            return
-        except Exception as error:
-            yield Found(folder, os.path.basename(folder), f"cannot be listed: {words_of(error)}")
-            return
-        if part == "**" and rest:
-            yield from self.matches(folder, rest)
-        for told in listed:
-            path = told["name"].rstrip("/")
-            if part == "**":
-                if told["type"] == "directory":
-                    yield from self.entered(path, parts)
-                elif not rest:
-                    yield self.match(path)
-            elif fnmatch.fnmatchcase(os.path.basename(path), part):
-                if not rest:
-                    yield self.match(path)
-                elif told["type"] == "directory" or told.get("islink"):
-                    yield from self.entered(path, rest)
-
-    def entered(self, folder: str, parts: List[str]) -> Iterator[Found]:
-        """What the parts lead to in a folder that a pattern has found and nobody has named. One of runs is not read."""
-        name = os.path.basename(folder)
-        try:
-            is_output = self.has_run(folder)
-            is_of_run = name == OURS and self.has_run(os.path.dirname(folder))
-        except Exception as error:
-            yield Found(folder, name, f"cannot be looked at: {words_of(error)}")
-            return
-        if is_output:
-            yield Found(folder, name, OUTPUT)
-        elif not is_of_run:
-            yield from self.matches(folder, parts)
-
-    def named(self, path: str) -> Iterator[Found]:
-        """A file that a pattern names, if it is there. Where that cannot be seen, it says so."""
-        try:
-            if not self.bounded(f"a look at {path}", is_there, self.fs, path):
-                self.bounded(f"a look at {path}", self.fs.info, path)
-            yield self.match(path)
-        except (FileNotFoundError, NotADirectoryError):
-            return
-        except Exception as error:
-            yield Found(path, os.path.basename(path), f"cannot be looked at: {words_of(error)}")
-
-    def match(self, path: str) -> Found:
-        return self.file(path)._replace(name=os.path.basename(path))
+        return self.found(path, problems.get(kind, "is not a regular file"))
 
 
 def has_run(fs: Any, folder: str) -> bool:
     return Place(fs, folder).words_of_run() is not None
 
 
-def found(fs: Any, path: str, kind: Optional[str], bounded: Bounded) -> Iterator[Found]:
+def has_record(fs: Any, path: str) -> bool:
+    return bool(Place(fs, "").read_record(path))
+
+
+def found(fs: Any, path: str, kind: str, bounded: Bounded) -> Iterator[Found]:
     """What a URL names: a file, all of a folder, or what a pattern matches."""
+    magic = MAGIC.search(path)
     if kind == "directory":
-        yield from Finder(fs, path, bounded).below(path)
+        yield from Finder(fs, path, bounded, False).find(path, ["**"])
     elif kind:
-        yield Finder(fs, os.path.dirname(path), bounded).file(path)
-    elif MAGIC.search(path):
-        at = MAGIC.search(path).start()  # type: ignore[union-attr]
-        above, _, pattern = path[:at].rpartition("/")
-        matches = Finder(fs, above, bounded).matches(above, (pattern + path[at:]).split("/"))
+        yield Finder(fs, os.path.dirname(path), bounded, False).file(path, {})
+    elif magic:
+        above, _, pattern = path[:magic.start()].rpartition("/")
+        matches = Finder(fs, above, bounded, True).find(above, (pattern + path[magic.start():]).split("/"))
         yield from {one.path: one for one in matches}.values()  # ** may lead to a file in several ways
 
 
-def kind_at(fs: Any, path: str) -> Optional[str]:
-    """`directory` or another kind of file; None where there is none."""
-    return "directory" if is_folder(fs, path) else "file" if is_there(fs, path) else None
-
-
-def is_there(fs: Any, path: str) -> bool:
-    return Place(fs, path).is_there(path)
-
-
-def is_folder(fs: Any, path: str) -> bool:
-    return bool(fs.exists(path)) and fs.info(path)["type"] == "directory"
+def kind_at(fs: Any, path: str) -> str:
+    """`directory` or another kind of file; nothing where there is none."""
+    return str(fs.info(path)["type"]) if fs.exists(path) else "link" if Place(fs, path).is_there(path) else ""
 
 
 def opened(url: str) -> Any:
@@ -190,7 +124,7 @@ def opened(url: str) -> Any:
     try:
         return url_to_fs(url)
     except Exception as error:  # protocols and their packages have many
-        raise ValueError(f"{url}: {words_of(error)}") from None
+        raise ValueError(f"{url}: {reason_of(error)}") from None
 
 
 class Taking:
@@ -199,7 +133,7 @@ class Taking:
     def __init__(self, place: Place, is_parts: bool, bounded: Bounded) -> None:
         self.place, self.is_parts, self.bounded = place, is_parts, bounded
         self.inputs: List[Given] = []
-        self.refused: List[Refused] = []
+        self.refused: List[Tuple[str, str]] = []  # the URL of what was found and gets no answers, and why
         # the paths of answers, and with / behind them the folders above, by the argument
         self.taken: Dict[str, int] = {}
 
@@ -208,7 +142,7 @@ class Taking:
             try:
                 self.take_url(url, number)
             except Overdue as error:
-                self.refused.append(Refused(printable(url), f"cannot be read: {error}"))
+                self.refused.append((printable(url), f"cannot be read: {error}"))
         if not self.inputs and not self.refused:
             raise ValueError(f"{' '.join(urls)}: no regular file but those of runs")
 
@@ -222,94 +156,79 @@ class Taking:
             count += 1
             if self.is_record(fs, path, one):
                 continue
-            problem = self.take(fs, one, seen, number)
-            if problem and kind not in ("directory", None):
+            problem = seen if isinstance(seen, str) else self.take(seen, number)
+            if problem and kind and kind != "directory":
                 raise ValueError(f"{shown_url(fs, one.path)} {problem}")
             if problem:
-                self.refused.append(Refused(shown_url(fs, one.path), problem))
+                self.refused.append((shown_url(fs, one.path), problem))
         if not count:
-            raise ValueError(f"{url}: no regular file has such a name")
+            what = "but those of runs" if kind == "directory" else "has such a name"
+            raise ValueError(f"{url}: no regular file {what}")
 
     def require_apart(self, fs: Any, path: str, url: str) -> None:
         """The output is in no input, whatever links lead there."""
-        if is_same(fs, self.place.fs):
-            root, folder = self.place.root, path
-            if self.place.is_local:
-                root, folder = os.path.realpath(root), os.path.realpath(path)
-            if f"{root}/".startswith(f"{folder.rstrip('/')}/"):
-                raise ValueError(f"--out: {self.place.shown} is in the input {url}")
+        root, folder = ((os.path.realpath(each) if self.place.is_local else each) for each in (self.place.root, path))
+        if is_same(fs, self.place.fs) and f"{root}/".startswith(f"{folder.rstrip('/')}/"):
+            raise ValueError(f"--out: {shown_url(fs, self.place.root)} is in the input {url}")
 
     def is_record(self, fs: Any, folder: str, one: Found) -> bool:
         """Whether a run wrote this beside its answers. What cannot be read is no such thing, and is named."""
+        if one.problem or not OF_RUNS.fullmatch(one.name):
+            return False
         try:
-            return bool(self.bounded(f"a look at {one.path}", self.is_of_run, fs, folder, one))
+            is_below = one.name.startswith(f"{OURS}/")
+            wrote, path = (has_run, folder) if is_below else (has_record, one.path)
+            return bool(self.bounded(f"a look at {one.path}", wrote, fs, path))
         except Exception:  # file systems have many
             return False
 
-    def is_of_run(self, fs: Any, folder: str, one: Found) -> bool:
-        """Whether a run wrote this, by its name and by what is in it."""
-        if os.path.basename(one.path) == OURS and is_folder(fs, one.path):
-            return has_run(fs, os.path.dirname(one.path))
-        if one.problem:
-            return False
-        if one.name.startswith(f"{OURS}/"):
-            return bool(BELOW_RUNS.fullmatch(one.name)) and has_run(fs, folder)
-        return bool(OF_RUNS.search(one.name)) and bool(Place(fs, folder).read_record(one.path))
-
-    def seen(self, fs: Any, ones: Iterator[Found]) -> Iterator[Tuple[Found, Any]]:
-        """What was found, with what it is, or why it cannot be read. A store is asked for some at once."""
-        if not Place(fs, "").is_store:
+    def seen(self, fs: Any, ones: Iterator[Found]) -> Iterator[Tuple[Found, Union[str, Given]]]:
+        """What was found, with the input that it is, or why it is none. A store is asked for some at once."""
+        if renames(fs):
             yield from ((one, self.see(fs, one)) for one in ones)
             return
         with concurrent.futures.ThreadPoolExecutor(AT_ONCE) as threads:
             for some in iter(lambda: list(itertools.islice(ones, SOME)), []):
                 yield from zip(some, threads.map(functools.partial(self.see, fs), some))
 
-    def see(self, fs: Any, one: Found) -> Any:
-        """What a file system tells of a file, and the kind of its compression; or why it cannot be an input."""
+    def see(self, fs: Any, one: Found) -> Union[str, Given]:
+        """The input that a file is, or why it cannot be one."""
         if one.problem:
             return one.problem
         try:
             told = one.told or self.bounded(f"a look at {one.path}", look, fs, one.path)
             beginning = self.bounded(f"the beginning of {one.path}", beginning_of, fs, one.path, told["size"])
-            if told["size"] == 0 and beginning:
-                return "does not tell its size"
-            return told, packed.kind_of(one.path, beginning)
-        except Exception as error:
-            return str(error) if type(error) is ValueError else f"cannot be read: {words_of(error)}"
-
-    def take(self, fs: Any, one: Found, seen: Any, number: int) -> str:
-        """Takes a file. Gives the reason if it cannot be an input."""
-        if isinstance(seen, str):
-            return seen
-        told, kind = seen
+            kind = packed.kind_of(one.path, beginning)
+        except Exception as error:  # file systems have many
+            return str(error) if type(error) is ValueError else f"cannot be read: {reason_of(error)}"
+        if told["size"] == 0 and beginning:
+            return "does not tell its size"
         name = packed.name_without_suffix(one.name, kind)
-        answers = f"{self.place.root}/{name}"
-        folder = answers if self.is_parts else f"{self.place.ours}/inputs/{name}"
-        is_new = self.place.known is not None and folder not in self.place.known
-        given = Given(fs, one.path, kind, answers, folder, told, is_new)
-        try:
-            problem: str = self.bounded(f"a look at {answers}", self.problem_of, given, name, number)
-        except Exception as error:
-            if type(error) is ValueError:
-                raise
-            return f"cannot have its answers at {answers}: {words_of(error)}"
-        if not problem:
-            self.taken.update(dict.fromkeys([answers, *(f"{each}/" for each in above(answers))], number))
-            self.inputs.append(given)
-        return problem
-
-    def problem_of(self, given: Given, name: str, number: int) -> str:
         if f"{name}/".startswith(f"{OURS}/"):
             return "has a name that is kept for runs"
-        clashing = {self.taken[each] for each in [given.answers, f"{given.answers}/", *above(given.answers)]
+        answers = f"{self.place.root}/{name}"
+        folder = answers if self.is_parts else f"{self.place.ours}/inputs/{name}"
+        given = Given(fs, one.path, kind, answers, folder, told)
+        try:
+            given.is_new = not self.bounded(f"a look at {folder}", self.place.is_there, folder)
+            problem = self.bounded(f"a look at {answers}", self.place.problem_of, given, self.is_parts)
+        except Exception as error:
+            problem = f"cannot have its answers at {answers}: {reason_of(error)}"
+        return problem or given
+
+    def take(self, given: Given, number: int) -> str:
+        """Takes an input. Gives the reason if another one has its place."""
+        answers = given.answers
+        above = [f"{answers[:at]}/" for at, character in enumerate(answers) if character == "/"]
+        clashing = {self.taken[each] for each in [answers, f"{answers}/", *(each[:-1] for each in above)]
                     if each in self.taken}
         if clashing - {number}:
             raise ValueError(f"{given.url} has the answers of another input; give the folder of both")
         if clashing:
-            return (f"would have its answers at {given.answers}, as another input has; answer it alone, to "
-                    "another folder")
-        return self.place.problem_of(given, self.is_parts)
+            return f"would have its answers at {answers}, as another input has; answer it alone, to another folder"
+        self.taken.update(dict.fromkeys([answers, *above], number))
+        self.inputs.append(given)
+        return ""
 
 
 def beginning_of(fs: Any, path: str, size: Optional[int]) -> bytes:
@@ -318,7 +237,3 @@ def beginning_of(fs: Any, path: str, size: Optional[int]) -> bytes:
         with open(path, "rb") as file:
             return file.read(packed.LONGEST_BEGINNING)
     return bytes(fs.cat_file(path, start=0, end=packed.LONGEST_BEGINNING))[:packed.LONGEST_BEGINNING] if size else b""
-
-
-def above(path: str) -> Set[str]:
-    return {path[:at] for at, character in enumerate(path) if character == "/"}

@@ -2,8 +2,8 @@
 name.
 
 It has what sdtool.distributed calls, with as many requests as s3fs: ranges, listings, uploads in parts that are
-committed, copies, and the ETag of each object. The variable S3_ENDPOINT names the server. Each request takes S3_SECONDS
-more, and is a line of the file S3_LOG.
+committed, removals of many, and the ETag of each object. The variable S3_ENDPOINT names the server. Each request takes
+S3_SECONDS more, and is a line of the file S3_LOG.
 """
 import os
 import time
@@ -76,8 +76,10 @@ class S3FileSystem(AbstractFileSystem):
     def _open(self, path, mode="rb", **options):
         return S3File(self, path, mode, **options)
 
-    def cp_file(self, path1, path2, **options):
-        self.client.copy_object(**self.place(path2), CopySource=self.place(path1))
+    def rm(self, path, **options):
+        paths = [path] if isinstance(path, str) else path
+        self.client.delete_objects(Bucket=self.place(paths[0])["Bucket"],
+                                   Delete={"Objects": [{"Key": self.place(one)["Key"]} for one in paths]})
 
     def rm_file(self, path):
         self.client.delete_object(**self.place(path))
