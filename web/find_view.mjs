@@ -21,14 +21,15 @@ for (const {name, says, types} of ABILITIES) {
     }
 }
 
-// Whether each word is in the name, or in what it lets somebody do.
-function matching(text) {
+// Those that have each word in the name, or in what it lets somebody do, the ones first that ACEs name.
+function matching(text, named) {
     const wanted = text.toLowerCase().split(/[\s-]+/).filter(Boolean);
     const all = knownGuids().filter(({guid, name}) => {
         const told = `${name} ${guid} ${given.get(guid) ?? ""}`.toLowerCase();
         return wanted.every((word) => told.includes(word));
     });
-    return wanted.length ? all : [];
+    const isNamed = ({guid}) => named.has(guid);
+    return wanted.length ? all.sort((one, other) => Number(isNamed(other)) - Number(isNamed(one))) : [];
 }
 
 // Who gets which rights of one: [mask, rows], those who aren't trusted first.
@@ -69,12 +70,12 @@ function foundRow({name, typeName, bits}, rows, names) {
         make("td", {"data-label": columns.because}, commaed(numbers)));
 }
 
-// The section, whose field keeps what FOUND has of it. ASK gives the answer about some GUIDs.
-export function findSection({names, found, onFind}) {
+// The section, whose field keeps what FOUND has of it. NAMED are the GUIDs of ACEs, and ONFIND asks about some.
+export function findSection({names, found, onFind}, named) {
     const place = make("div", {id: "found-rows"});
     const search = async (text) => {
         found.text = text;
-        const all = matching(text);
+        const all = matching(text, named);
         const some = all.slice(0, MOST_FOUND);
         const answer = some.length ? await onFind(some.map(({guid}) => guid)) : null;
         if (found.text !== text) {

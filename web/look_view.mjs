@@ -345,6 +345,9 @@ export function showFault(place, result, {onSelect}) {
             result.other ? null : writtenAces(result)));
 }
 
+// The object types that ACEs name.
+const objectsOf = ({model}) => new Set(linesOf(model.dacl.aces).map((line) => JSON.parse(line).object));
+
 // The promise ends when all is shown.
 export function showLook(place, result, context, isOver) {
     const {kind, names} = context;
@@ -352,7 +355,8 @@ export function showLook(place, result, context, isOver) {
     const count = rows.length * bitsOf(rights).length;
     const parts = [
         () => trustees(result, kind, names), () => warnings(result, kind, names),
-        ...(isDirectory(kind) ? [() => findSection(context)] : []), (later) => gridSection(result, context, later)
+        ...(isDirectory(kind) ? [() => findSection(context, objectsOf(result))] : []),
+        (later) => gridSection(result, context, later)
     ];
     return showParts(place, count, parts, isOver);
 }

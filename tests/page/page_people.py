@@ -210,6 +210,8 @@ def test_find(count, page, _):
     got = page.do(f"put('find', 'set NEW password'); {rows}")
     wanted = ["User-Force-Change-Password", "1 2", ["Account 1130", "Administrators"]]
     count.add(wanted in got, f"what is found of a new password: {got}")
+    got = page.do(f"put('find', 'password'); await until(() => each('#found-rows tr').length > 3); {rows}")
+    count.add(got[0] == wanted and len(got) == 8, f"what an ACE names comes first: {got}")
     got = page.do(f"byId('find').value = ''; byId('first').click(); put('find', '{MEMBER[:8]}'); "
                   f"await until(() => first('#found-rows tr[data-name]').dataset.name !== '{wanted[0]}'); {rows}")
     is_both = ["member", "1 3", ["Account 1131", "Administrators"]] in got
