@@ -45,9 +45,12 @@ struct sdtool_outcome {
     uint32_t part;
     /* The second part of SDTOOL_FAULT_OVERLAP; else SDTOOL_NO_PART. */
     uint32_t other_part;
-    /* With SDTOOL_ARGUMENT the argument that is wrong, as in enum sdtool_argument; else SDTOOL_NO_ARGUMENT. */
+    /*
+     * With SDTOOL_ARGUMENT the argument that is wrong, as in enum sdtool_argument; with a change that can't be made
+     * SDTOOL_ARGUMENT_CHANGES; else SDTOOL_NO_ARGUMENT.
+     */
     uint32_t argument;
-    /* Which entry of that argument is wrong, from 0 on, if it is a list; else 0. */
+    /* Which entry of that argument it is, from 0 on, if it is a list; else 0. */
     size_t entry;
     /* With SDTOOL_OK the length of the answer, and with SDTOOL_TOO_SMALL the size that it needs; else 0. */
     size_t length;
@@ -129,7 +132,9 @@ enum sdtool_fault {
     /* The output is too small; the call says how many bytes it needs. What it holds is unspecified. */
     SDTOOL_TOO_SMALL = 71,
     /* malloc failed. */
-    SDTOOL_NO_MEMORY = 72
+    SDTOOL_NO_MEMORY = 72,
+    /* A change can't be made: see sdtool_edit. */
+    SDTOOL_CHANGE = 73
 };
 
 /* Which argument is wrong. */
@@ -166,7 +171,9 @@ enum sdtool_argument {
     SDTOOL_ARGUMENT_SACL = 13,
     SDTOOL_ARGUMENT_DACL = 14,
     /* TOKEN holds no token that sdtool_token_read has read, or not all of it. */
-    SDTOOL_ARGUMENT_TOKEN = 15
+    SDTOOL_ARGUMENT_TOKEN = 15,
+    /* There are more than SDTOOL_MOST_CHANGES, or the change at ENTRY is none or can't be made. */
+    SDTOOL_ARGUMENT_CHANGES = 16
 };
 
 enum sdtool_part {
@@ -715,6 +722,134 @@ struct sdtool_new_descriptor {
  * SDTOOL_SACL or SDTOOL_DACL, if an ACL would exceed 65,535 bytes. It allocates no memory.
  */
 struct sdtool_outcome sdtool_build(const struct sdtool_new_descriptor *descriptor, uint8_t *output, size_t output_size);
+
+/* What a change is. */
+enum sdtool_change_kind {
+    /* An ACE gets a place in an ACL. */
+    SDTOOL_PUT = 1,
+    /* The ACE at a place goes, or another one stands there. */
+    SDTOOL_TAKE = 2,
+    SDTOOL_REPLACE = 3,
+    /* Each ACE that matches goes, or gets another SID and other bits. */
+    SDTOOL_TAKE_EACH = 4,
+    SDTOOL_SET_EACH = 5,
+    /* The ACEs of an ACL that is a list come into order: those of one rank stay as they stood. */
+    SDTOOL_ORDER = 6,
+    /* An ACL becomes absent, null, or a list without ACEs. */
+    SDTOOL_STATE = 7,
+    /* The owner or the group becomes a SID, or none. */
+    SDTOOL_SET_OWNER = 8,
+    SDTOOL_SET_GROUP = 9,
+    /* Bits of the control word are set and cleared: all but 0x8000, 0x10 and 0x4. */
+    SDTOOL_CONTROL = 10
+};
+
+/* What a match compares. */
+enum sdtool_compare {
+    SDTOOL_COMPARE_KIND = 1,
+    SDTOOL_COMPARE_MASK = 2
+};
+
+/* What a change says of an object type. */
+enum sdtool_type_use {
+    /* A new ACE has none, and a match doesn't compare it. */
+    SDTOOL_TYPE_UNUSED = 0,
+    /* A match compares it: an ACE must have none. */
+    SDTOOL_TYPE_NONE = 1,
+    /* It is the GUID beside. */
+    SDTOOL_TYPE_GIVEN = 2
+};
+
+/* Places of SDTOOL_PUT that are no numbers: behind the last ACE, and behind the last ACE of no higher rank. */
+#define SDTOOL_AT_END 0xFFFFFFFFu
+#define SDTOOL_BY_ORDER 0xFFFFFFFEu
+
+enum {
+    /* No edit has more changes. */
+    SDTOOL_MOST_CHANGES = 16384
+};
+
+/*
+ * A change. Members that its kind doesn't use are 0, else it is none; so zeros are none. It has no pointer and no
+ * padding: 208 bytes.
+ */
+struct sdtool_change {
+    /* One of enum sdtool_change_kind. */
+    uint32_t kind;
+    /* The ACL that is changed: SDTOOL_SACL or SDTOOL_DACL. Kinds 8 to 10 don't use it. */
+    uint32_t part;
+    /* Of SDTOOL_PUT, SDTOOL_TAKE and SDTOOL_REPLACE the place of the ACE, from 0 on; SDTOOL_PUT may name the end. */
+    uint32_t place;
+    /*
+     * Of SDTOOL_TAKE_EACH and SDTOOL_SET_EACH bits of enum sdtool_compare. An ACE matches if all that is compared
+     * agrees: ACE_KIND and MASK if their bits are set, SID if it is not zeros, the object types by their uses, and
+     * FLAGS under FLAGS_MASK. A match that compares nothing is none.
+     */
+    uint32_t compare;
+    /* The access mask of a new ACE, or of a match. */
+    uint32_t mask;
+    /* Of SDTOOL_SET_EACH bits of the mask to set and to clear. No bit is both. */
+    uint32_t set_mask;
+    uint32_t clear_mask;
+    /* Of SDTOOL_CONTROL bits to set and to clear. */
+    uint16_t set_control;
+    uint16_t clear_control;
+    /* The type byte of a new ACE, or of a match. */
+    uint8_t ace_kind;
+    /* The flags of a new ACE, or those under FLAGS_MASK that a match wants, and no others. */
+    uint8_t flags;
+    uint8_t flags_mask;
+    /* Of SDTOOL_SET_EACH flags to set and to clear. No flag of a change is 0x20. */
+    uint8_t set_flags;
+    uint8_t clear_flags;
+    /* Of SDTOOL_STATE one of enum sdtool_acl_state. */
+    uint8_t state;
+    /* Of enum sdtool_type_use. With SDTOOL_TYPE_GIVEN the GUID is 16 bytes as in an ACE, else zeros. */
+    uint8_t object_type_use;
+    uint8_t inherited_object_type_use;
+    uint8_t object_type[16];
+    uint8_t inherited_object_type[16];
+    /* The SID of a new ACE or of a match, or the owner or group, with zeros behind it; zeros are none. */
+    uint8_t sid[SDTOOL_MOST_SID];
+    /* Of SDTOOL_SET_EACH the SID that the ACEs get, or zeros. */
+    uint8_t set_sid[SDTOOL_MOST_SID];
+};
+
+/*
+ * Gives a descriptor after changes that are made one after the other, each on what those before left, in its canonical
+ * layout. An edit by some changes and then by others is the edit by all. Nothing else happens: no ACE is merged or
+ * dropped, control bits that no change names stay, and an ACL without its last ACE is an empty list.
+ *
+ * TOUCHED gets a number for each change, as far as TOUCHED_COUNT goes, which may be 0: how many ACEs it put, took or
+ * set; 0 for other kinds. A match that finds nothing is no fault.
+ *
+ * SDTOOL_ARGUMENT with SDTOOL_ARGUMENT_CHANGES comes first: for more than SDTOOL_MOST_CHANGES with ENTRY 0, then with
+ * the index of the first change that is none. Then come the faults of the descriptor, SDTOOL_NO_MEMORY, and the first
+ * change that can't be made, with its ACL in PART, SDTOOL_ARGUMENT_CHANGES, and its index in ENTRY: SDTOOL_CHANGE if
+ * the ACL is absent or null, has no such place, or is out of order where an ACE is put by order;
+ * SDTOOL_FAULT_ACL_TOO_LARGE if the ACL would exceed 65,535 bytes. SDTOOL_TOO_SMALL comes last. After a fault of a
+ * change TOUCHED has the numbers of those before. It allocates less than 4 MiB at a time, and takes time in proportion
+ * to the number of changes times the bytes.
+ */
+struct sdtool_outcome sdtool_edit(const uint8_t *descriptor, size_t descriptor_size,
+                                  const struct sdtool_change *changes, size_t change_count, uint32_t *touched,
+                                  size_t touched_count, uint8_t *output, size_t output_size);
+
+/* Where the order of ACLs ends. */
+struct sdtool_acl_order {
+    /* SDTOOL_OK, or why the bytes are no descriptor. Then the places are 0. */
+    struct sdtool_outcome outcome;
+    /* The place of the first ACE whose rank is below that of the one before, or SDTOOL_NO_ACE. */
+    uint32_t sacl;
+    uint32_t dacl;
+};
+
+/*
+ * Says whether the ACLs of a descriptor are in order. In a DACL own denies, of type 1 or 6 and without the flag 0x10,
+ * have rank 0, other own ACEs 1, and inherited ones 2, in whatever order. In a SACL own ACEs have 0. It allocates no
+ * memory.
+ */
+struct sdtool_acl_order sdtool_order(const uint8_t *descriptor, size_t descriptor_size);
 
 /* How sdtool_run ends: the exit status of the program. */
 enum sdtool_status {

@@ -41,7 +41,7 @@ export class Fault extends Error {
     readonly part: Part|null;
     /** The second part of fault 14, two parts that overlap. */
     readonly otherPart: Part|null;
-    /** The argument whose text is no SID, if that is what is wrong. */
+    /** The argument whose text is no SID, or "changes", if that is what is wrong. */
     readonly argument: string|null;
     /** Which entry of that argument, if it is a list. */
     readonly entry: number|null;
@@ -210,6 +210,83 @@ export interface NewParts {
     dacl?: AclOf<NewAce>|readonly NewAce[];
 }
 
+/** What is compared of an ACE, at least one thing. */
+export interface Match {
+    sid?: SidLike;
+    kind?: number;
+    mask?: number;
+    /** The 16 bytes of a GUID, as in an ACE, or null if it has none. */
+    objectType?: Uint8Array|null;
+    inheritedObjectType?: Uint8Array|null;
+    /** The flags that it has among those of `flagsMask`. */
+    flags?: number;
+    flagsMask?: number;
+}
+
+/** What an ACE gets. No bit is both set and cleared. */
+export interface Setting {
+    sid?: SidLike;
+    setMask?: number;
+    clearMask?: number;
+    setFlags?: number;
+    clearFlags?: number;
+}
+
+export type AclName = "sacl"|"dacl";
+
+/** A change, as in `struct sdtool_change` of the header. */
+export type Change = {
+    change: "put"; acl: AclName;
+    /** "order" is behind the last ACE of no higher rank. */
+    place: number | "end" | "order";
+    ace: NewAce
+}|{
+    change: "take";
+    acl: AclName;
+    place: number
+}
+|{
+    change: "replace";
+    acl: AclName;
+    place: number;
+    ace: NewAce
+}
+|{
+    change: "takeEach";
+    acl: AclName;
+    match: Match
+}
+|{
+    change: "setEach";
+    acl: AclName;
+    match: Match;
+    setting: Setting
+}
+|{
+    change: "order";
+    acl: AclName
+}
+|{
+    change: "state";
+    acl: AclName;
+    state: Acl["state"]
+}
+|{
+    change: "owner"|"group";
+    sid: SidLike|null
+}
+|{
+    change: "control";
+    setControl?: number;
+    clearControl?: number
+};
+
+/** A descriptor after changes, and how many ACEs each of them put, took or set. */
+export interface Edited {
+    descriptor: Uint8Array;
+    touched: number[];
+}
+
 /** What a run prints. */
 export interface Answers {
     /** The exit status of the program: 0, 1 if at least one answer is an error line, or 2 if the words are wrong. */
@@ -266,6 +343,13 @@ export interface Sdtool {
     aces(acl: Uint8Array): Ace[];
     /** The descriptor with these parts, in its canonical layout. */
     build(parts: NewParts): Uint8Array;
+    /**
+     * The descriptor after changes that are made one after the other, in its canonical layout. The Fault of a change
+     * that can't be made has its number in `entry`.
+     */
+    edit(descriptor: Uint8Array, changes: readonly Change[]): Edited;
+    /** In each ACL the place of the first ACE whose rank is below that of the one before, or null. */
+    order(descriptor: Uint8Array): {sacl: number|null; dacl: number | null};
     /** What the program prints to an input, one descriptor a line. `words` are those of the command line. */
     run(words: readonly string[], input: Uint8Array): Answers;
     /** The name of a fault, such as "sid-form" for 25. */

@@ -30,8 +30,14 @@ const IN_WORDS = {
 };
 const ARGUMENTS = [
     null, "domain", "sids", "entries", "objectType", "principalSelf", "mapping", "creator", "owner", "group", "kind",
-    "number", "sid", "sacl", "dacl", "token"
+    "number", "sid", "sacl", "dacl", "token", "changes"
 ];
+const LISTS = {
+    __proto__: null,
+    sacl: true,
+    dacl: true,
+    changes: true
+};
 const STATE_NAMES = ["absent", "null", "list"];
 const STATES = {
     __proto__: null,
@@ -52,6 +58,14 @@ const ACE_MASK_AT = 4, KIND_AT = 12, FLAGS_AT = 13, OBJECT_AT = 24, INHERITED_AT
 // Where sdtool_build reads a descriptor and an ACE to build. SIDs and GUIDs are a pointer and a size.
 const NEW_SACL_AT = 16, NEW_DACL_AT = 28, NEW_CONTROL_AT = 40, NEW_MANAGER_AT = 42, NEW_SIZE = 48;
 const NEW_MASK_AT = 24, NEW_KIND_AT = 28, NEW_FLAGS_AT = 29, NEW_ACE_SIZE = 32;
+// Where sdtool_edit reads a change. Behind the kind of an ACE are its flags, their mask, those to set and to clear, and
+// a state, a byte each.
+const CHANGE_SIZE = 208, CHANGE_ACL_AT = 4, CHANGE_PLACE_AT = 8, COMPARE_AT = 12, CHANGE_MASK_AT = 16, SET_MASK_AT = 20,
+      CLEAR_MASK_AT = 24, SET_CONTROL_AT = 28, CLEAR_CONTROL_AT = 30, CHANGE_KIND_AT = 32, TYPE_USE_AT = 38,
+      CHANGE_TYPE_AT = 40, CHANGE_SID_AT = 72, SET_SID_AT = 140;
+const COMPARE_KIND = 1, COMPARE_MASK = 2, TYPE_NONE = 1, TYPE_GIVEN = 2;
+// Where sdtool_order writes what it finds.
+const SACL_ORDER_AT = 24, DACL_ORDER_AT = 28;
 const BYTES_SIZE = 8, VERDICT_SIZE = 28, REASON_SIZE = 4;
 // Where sdtool_derive_origins writes how many origins there are, and an origin what it says.
 const SACL_COUNT_AT = 20, DACL_COUNT_AT = 24, FROM_CREATOR_AT = 2, INHERIT_ONLY_AT = 3, ORIGIN_SIZE = 4;
@@ -80,6 +94,31 @@ const KINDS = {
     __proto__: null,
     file: 0,
     container: 1
+};
+const ACLS = {
+    __proto__: null,
+    sacl: 3,
+    dacl: 4
+};
+const PLACES = {
+    __proto__: null,
+    end: 0xffffffff,
+    order: 0xfffffffe
+};
+const MOST_PLACE = 0xfffffffd, MOST_CHANGES = 16384;
+// What a change is, by its name, and whether it has to have each of the names that it may have.
+const CHANGES = {
+    __proto__: null,
+    put: {number: 1, acl: true, place: true, ace: true},
+    take: {number: 2, acl: true, place: true},
+    replace: {number: 3, acl: true, place: true, ace: true},
+    takeEach: {number: 4, acl: true, match: true},
+    setEach: {number: 5, acl: true, match: true, setting: true},
+    order: {number: 6, acl: true},
+    state: {number: 7, acl: true, state: true},
+    owner: {number: 8, sid: true},
+    group: {number: 9, sid: true},
+    control: {number: 10, setControl: false, clearControl: false},
 };
 const DENY_ONLY = 1;
 const MOST_SIDS = 1024, TOKEN_FRONT = 2, TOKEN_SID = 20; // numbers of 32 bits that a token has, and has for each SID
@@ -516,6 +555,10 @@ function refuseOfAce(name, argument, entry) {
     throw new ArgumentFault(`an ACE has no ${shownText(name)}`, argument, entry);
 }
 
+function refuseOfChange(name, argument, entry) {
+    throw new ArgumentFault(`a change has no ${shownText(name)}`, argument, entry);
+}
+
 // What an object may have: the door of each name. Those of a part of a descriptor are told which part and which ACE it
 // is, and those of options their names.
 function namesFor(doors, isNone = "this is no object of options", isPart = false, refuse = refuseOption) {
@@ -529,9 +572,9 @@ const nullable = (door) => optional((value, argument, entry) => (value === null 
 const sidsOf = (value, argument) => itemsOf(value, argument, sidOf, MOST_SIDS);
 const acesOf = (value, argument) => itemsOf(value, argument, aceOf);
 
-function stateOf(value, argument) {
+function stateOf(value, argument, entry = null) {
     if (typeof value !== "string" || STATES[value] === undefined)
-        throw new ArgumentFault("the state is none of absent, null, list", argument);
+        throw new ArgumentFault("the state is none of absent, null, list", argument, entry);
     return STATES[value];
 }
 
@@ -552,6 +595,37 @@ function aceOf(value, argument, entry) {
     if (ace.kind === undefined || ace.flags === undefined || ace.mask === undefined || ace.sid === undefined)
         throw new ArgumentFault("an ACE has kind, flags, mask and sid", argument, entry);
     return ace;
+}
+
+function aclNameOf(value, argument, entry) {
+    if (typeof value !== "string" || ACLS[value] === undefined)
+        throw new ArgumentFault("the acl is none of sacl, dacl", argument, entry);
+    return ACLS[value];
+}
+
+function placeInAclOf(value, argument, entry) {
+    return typeof value === "string" && PLACES[value] !== undefined ? value : numberOf(value, argument, entry);
+}
+
+function changeNameOf(value, argument, entry) {
+    if (typeof value !== "string" || CHANGES[value] === undefined)
+        throw new ArgumentFault("there is no such change", argument, entry);
+    return value;
+}
+
+// A change with a name too few, or one that it does not use, asks for something else.
+function changeOf(value, argument, entry) {
+    const given = namedOf(value, CHANGED, argument, entry), uses = CHANGES[given.change];
+    if (uses === undefined) throw new ArgumentFault("this names no change", argument, entry);
+    for (let index = 0; index < CHANGED.names.length; index += 1) {
+        const name = /** @type {string} */ (CHANGED.names[index]), isThere = given[name] !== undefined;
+        if (name === "change" || (hasOwn(uses, name) ? isThere || !uses[name] : !isThere)) continue;
+        throw new ArgumentFault(`${given.change} ${isThere ? "has no" : "needs"} ${name}`, argument, entry);
+    }
+    const isWord = typeof given.place === "string";
+    if (given.change === "put" ? !isWord && given.place > MOST_PLACE : isWord)
+        throw new ArgumentFault("there is no such place", argument, entry);
+    return given;
 }
 
 // Lists are behind bytes, since an item of a list may have a getter too.
@@ -588,6 +662,37 @@ const ACE = namesFor({
     inheritedObjectType: nullable(guidOf)
 },
     "this is no ACE", true, refuseOfAce);
+const ofMatch = {
+    kind: optional(byteOf),
+    flags: optional(byteOf),
+    flagsMask: optional(byteOf),
+    mask: optional(numberOf),
+    sid: optional(sidOf),
+    objectType: nullable(guidOf),
+    inheritedObjectType: nullable(guidOf)
+};
+const MATCH = namesFor(ofMatch, "this is no match", true, refuseOfChange);
+const SETTING = namesFor({
+    sid: optional(sidOf),
+    setMask: optional(numberOf),
+    clearMask: optional(numberOf),
+    setFlags: optional(byteOf),
+    clearFlags: optional(byteOf)
+},
+    "this is no setting", true, refuseOfChange);
+const CHANGED = namesFor({
+    change: changeNameOf,
+    acl: aclNameOf,
+    place: placeInAclOf,
+    ace: aceOf,
+    match: (value, argument, entry) => namedOf(value, MATCH, argument, entry),
+    setting: (value, argument, entry) => namedOf(value, SETTING, argument, entry),
+    state: stateOf,
+    sid: (value, argument, entry) => (value === null ? null : sidOf(value, argument, entry)),
+    setControl: wordOf,
+    clearControl: wordOf
+},
+    "this is no change", true, refuseOfChange);
 // That an ACL is absent has to be said, or its name left out: what a lost ACL would grant is everything.
 const BUILT = namesFor({
     owner: nullable(sidOf),
@@ -599,6 +704,9 @@ const BUILT = namesFor({
 },
     "this is no object of parts");
 
+const EMPTY = {
+    __proto__: null
+};
 const NO_ACL = {
     state: STATES.absent,
     aces: list()
@@ -737,12 +845,15 @@ class Sdtool {
     #refuse(fault, given, domain) {
         if (fault === NO_MEMORY) throw new NoRoom("sdtool: no memory");
         const argument = this.#number(ARGUMENT_AT), entry = this.#number(ENTRY_AT);
-        if (fault !== ARGUMENT)
-            throw this.#fault(fault, this.#number(PART_AT), this.#number(OTHER_PART_AT), given, domain);
         const name = argument < ARGUMENTS.length ? ARGUMENTS[argument] : null;
+        if (fault !== ARGUMENT) {
+            const told = this.#fault(fault, this.#number(PART_AT), this.#number(OTHER_PART_AT), given, domain);
+            throw name === null ? told :
+                                  new Fault(fault, told.name, told.part, null, name, entry, null, null, told.meaning);
+        }
         if (name === "entries") throw new ArgumentFault(`there are more than ${MOST_SIDS}`, "sids", entry);
         throw new ArgumentFault(
-            "this is none that the call takes", name, name === "sacl" || name === "dacl" ? entry : null);
+            "this is none that the call takes", name, name !== null && LISTS[name] === true ? entry : null);
     }
 
     // Throws the fault that the last call told, if it told one.
@@ -1214,6 +1325,72 @@ class Sdtool {
         setU32(this.#view, at + 4, aces.length, true);
         setU32(this.#view, at + 8, state, true);
         return first + NEW_ACE_SIZE * aces.length;
+    }
+
+    edit(descriptor, changes) {
+        const bytes = descriptorOf(descriptor, "descriptor"),
+              given = itemsOf(changes, "changes", changeOf, MOST_CHANGES);
+        const count = given.length, all = new Bytes(CHANGE_SIZE * count), view = new View(bufferOf(all));
+        for (let entry = 0; entry < count; entry += 1)
+            this.#putChange(all, view, CHANGE_SIZE * entry, given[entry], entry);
+        for (let size = lengthOf(bytes) + FIRST_ANSWERS;;) {
+            const places = this.#put(listOf(all, bytes), size, 4 * count), output = places[4];
+            const words = listOf(places[2], places[3], places[0], count, this.#room + STRUCTS, count);
+            this.#call("sdtool_edit", words, output, size);
+            const fault = this.#number(FAULT_AT), length = this.#number(LENGTH_AT);
+            if (fault === OK) {
+                const touched = mapped(given, (_, entry) => this.#number(STRUCTS + 4 * entry));
+                return {descriptor: this.#copyAt(output, length), touched: arrayFrom(touched)};
+            }
+            if (fault !== TOO_SMALL) this.#refuse(fault, bytes);
+            size = length;
+        }
+    }
+
+    // Writes a change to bytes that are zeros. One with neither an ACE nor a match has at most a SID.
+    #putChange(all, view, at, change, entry) {
+        const {ace, match, setting = EMPTY, acl = 0, place = 0, state = 0, setControl = 0, clearControl = 0} = change;
+        const {kind, mask, flags = 0, flagsMask = 0, sid, objectType, inheritedObjectType} = ace ?? match ?? change;
+        const compare = (kind === undefined ? 0 : COMPARE_KIND) + (mask === undefined ? 0 : COMPARE_MASK);
+        setU32(view, at, CHANGES[change.change].number, true);
+        setU32(view, at + CHANGE_ACL_AT, acl, true);
+        setU32(view, at + CHANGE_PLACE_AT, typeof place === "string" ? PLACES[place] : place, true);
+        setU32(view, at + COMPARE_AT, match === undefined ? 0 : compare, true);
+        setU32(view, at + CHANGE_MASK_AT, mask ?? 0, true);
+        setU32(view, at + SET_MASK_AT, setting.setMask ?? 0, true);
+        setU32(view, at + CLEAR_MASK_AT, setting.clearMask ?? 0, true);
+        setU16(view, at + SET_CONTROL_AT, setControl, true);
+        setU16(view, at + CLEAR_CONTROL_AT, clearControl, true);
+        const small = listOf(kind ?? 0, flags, flagsMask, setting.setFlags ?? 0, setting.clearFlags ?? 0, state);
+        for (let index = 0; index < small.length; index += 1) setU8(view, at + CHANGE_KIND_AT + index, small[index]);
+        const types = listOf(objectType, inheritedObjectType);
+        for (let index = 0; index < types.length; index += 1) {
+            const type = types[index], isGiven = type !== undefined && type !== null;
+            if (isGiven && lengthOf(type) !== GUID)
+                throw new ArgumentFault(`this GUID has no ${GUID} bytes`, "changes", entry);
+            if (isGiven) setBytes(all, type, at + CHANGE_TYPE_AT + GUID * index);
+            const isNone = type === null && match !== undefined;
+            setU8(view, at + TYPE_USE_AT + index, isGiven ? TYPE_GIVEN : isNone ? TYPE_NONE : 0);
+        }
+        this.#putSid(all, at + CHANGE_SID_AT, sid, entry);
+        this.#putSid(all, at + SET_SID_AT, setting.sid, entry);
+    }
+
+    // Writes a SID into a change. Zeros behind it would lengthen one that is cut, so it has to be whole.
+    #putSid(all, at, sid, entry) {
+        if (sid === undefined || sid === null) return;
+        const bytes = this.#sid(sid, "changes", entry), places = this.#put(listOf(bytes), 0);
+        if (this.#enter("sdtool_sid_size", listOf(places[0], places[1])) !== lengthOf(bytes))
+            throw new ArgumentFault("this is no SID", "changes", entry);
+        setBytes(all, bytes, at);
+    }
+
+    order(descriptor) {
+        const bytes = descriptorOf(descriptor, "descriptor"), places = this.#put(listOf(bytes), 0);
+        this.#call("sdtool_order", listOf(places[0], places[1]));
+        this.#judge(bytes);
+        const sacl = this.#number(SACL_ORDER_AT), dacl = this.#number(DACL_ORDER_AT);
+        return {sacl: sacl === NO_ACE ? null : sacl, dacl: dacl === NO_ACE ? null : dacl};
     }
 
     run(words, input) {

@@ -12,6 +12,7 @@ Verdict(granted=False, mask=2)
 The functions from_sddl, to_sddl, normalize, explain, check and derive do the same over bytes.
 """
 from ._calls import check, derive, explain, fault_text, from_sddl, normalize, to_sddl, version
+from ._changes import Change, Edited, Order
 from ._errors import ArgumentFault, Error, Fault, Unchangeable, WrongType
 from ._flags import AceFlags, AceKind, Control, DirectoryMask, FileMask, KeyMask
 from ._plain import PlainAce, PlainDescriptor, plain_descriptors
@@ -19,11 +20,11 @@ from ._places import Place
 from ._runs import Answers, lines, run
 from ._values import Ace, Acl, Checker, NoAces, Origin, Origins, Reason, SecurityDescriptor, Sid, Token, Verdict
 
-__all__ = ["Ace", "AceFlags", "AceKind", "Acl", "Answers", "ArgumentFault", "Checker", "Control", "DirectoryMask",
-           "Error", "Fault", "FileMask", "KeyMask", "NoAces", "Origin", "Origins", "Place", "PlainAce",
-           "PlainDescriptor", "Reason", "SecurityDescriptor", "Sid", "Token", "Unchangeable", "Verdict", "WrongType",
-           "check", "derive", "explain", "fault_text", "from_sddl", "lines", "normalize", "plain_descriptors", "run",
-           "to_sddl", "version"]
+__all__ = ["Ace", "AceFlags", "AceKind", "Acl", "Answers", "ArgumentFault", "Change", "Checker", "Control",
+           "DirectoryMask", "Edited", "Error", "Fault", "FileMask", "KeyMask", "NoAces", "Order", "Origin", "Origins",
+           "Place", "PlainAce", "PlainDescriptor", "Reason", "SecurityDescriptor", "Sid", "Token", "Unchangeable",
+           "Verdict", "WrongType", "check", "derive", "explain", "fault_text", "from_sddl", "lines", "normalize",
+           "plain_descriptors", "run", "to_sddl", "version"]
 
 for _name in __all__:
     globals()[_name].__module__ = __name__  # where users import them from

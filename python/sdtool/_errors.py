@@ -34,6 +34,7 @@ MEANINGS: Dict[int, str] = {
     40: "a derived ACL exceeds 65,535 bytes; the SACL is checked first",
     50: "no right is asked for",
     51: "bit 26 or 27 is set in the rights that are asked for",
+    73: "the change can't be made",
 }
 ARGUMENT = 70
 _MOST_SHOWN = 64  # characters

@@ -90,6 +90,10 @@ class _NewDescriptor(ctypes.Structure):
                 ("resource_manager", _U8)]
 
 
+class _AclOrder(ctypes.Structure):
+    _fields_ = [("outcome", _Outcome), ("sacl", _U32), ("dacl", _U32)]
+
+
 _IN = (ctypes.c_char_p, _SIZE)
 _OUT = (ctypes.c_void_p, _SIZE)
 # The arguments of each call and what it gives.
@@ -118,8 +122,11 @@ _CALLS: Tuple[Tuple[str, Sequence[Any], Any], ...] = (
     ("sddl_place", _IN * 2, _FaultPlace),
     ("next_ace", (*_IN, ctypes.POINTER(_Ace)), _BOOL),
     ("build", (ctypes.POINTER(_NewDescriptor), *_OUT), _Outcome),
+    ("edit", (*_IN * 2, ctypes.POINTER(_U32), _SIZE, *_OUT), _Outcome),
+    ("order", _IN, _AclOrder),
 )
 
+_CHANGE_SIZE = 208
 _library: Any = None
 _raises: Callable[..., NoReturn]
 # What adopt() is given.
@@ -494,6 +501,22 @@ def build(control: int, resource_manager: int, owner: Optional[bytes], group: Op
     descriptor = _NewDescriptor(_given(owner), _given(group), _new_acl(sacl_state, sacl),
                                 _new_acl(dacl_state, dacl), control, resource_manager)
     return _answer(_library.sdtool_build, descriptor)
+
+
+def edit(data: bytes, changes: bytes) -> Tuple[Any, Tuple[int, ...]]:
+    """The edited descriptor, and how many ACEs each of the changes put, took or set."""
+    count = len(changes) // _CHANGE_SIZE
+    touched = (_U32 * count)()
+    made = _answer(_library.sdtool_edit, data, len(data), changes, count, touched, count, given=data)
+    return _descriptor_of(made), tuple(touched)
+
+
+def order(data: bytes) -> Tuple[int, int]:
+    """Where the order of the SACL and of the DACL ends, or NO_ACE."""
+    told = _library.sdtool_order(*_in(data))
+    if told.outcome.fault != _OK:
+        _refuse(told.outcome, data)
+    return told.sacl, told.dacl
 
 
 # As MOST_KEPT and LARGEST_KEPT of _native.c.

@@ -19,8 +19,9 @@ _NO_MEMORY = 72
 _OF_BYTES, _OF_TEXTS = range(5, 15), range(20, 31)  # the faults that have a place
 # The arguments of enum sdtool_argument, by the names that they have in Python.
 _ARGUMENTS = (None, "domain", "sids", "deny_only", "object_type", "principal_self", "mapping", "creator",
-              "owner", "group", "kind", "number", "sid", "sacl", "dacl", "token")
-_LISTS = ("sids", "deny_only", "sacl", "dacl")
+              "owner", "group", "kind", "number", "sid", "sacl", "dacl", "token", "changes")
+_LISTS = ("sids", "deny_only", "sacl", "dacl", "changes")
+_CHANGES = 16
 
 
 @functools.lru_cache(maxsize=None)
@@ -32,6 +33,8 @@ def fault_of(fault: int, part: int, other_part: int, argument: int, entry: int, 
              domain: Optional[bytes]) -> Fault:
     """The fault of a call, by its numbers and what was given, if it has its place there: a descriptor in binary, or a
     text of SDDL in UTF-8 and the SID of its domain."""
+    if argument == _CHANGES:
+        return Fault(fault, _name_of(fault), PARTS[part], argument="changes", index=entry)
     found = Fault(fault, _name_of(fault), PARTS[part], PARTS[other_part])
     if given is not None and fault in _OF_BYTES:
         found._where = InBytes(given, _transport.place)
@@ -124,5 +127,7 @@ else:
     ask = _transport.ask
     asked = _transport.asked
     build = _transport.build
+    edit = _transport.edit
+    order = _transport.order
     adopt_plain = _transport.adopt_plain
     plain = _transport.plain

@@ -55,7 +55,7 @@ enum {
     EACH(version) EACH(normalize) EACH(from_sddl) EACH(to_sddl) EACH(explain) EACH(token_read) EACH(check_with)        \
     EACH(check_many) EACH(reasons_with) EACH(derive) EACH(derive_origins) EACH(run) EACH(fault_text)                   \
     EACH(sid_from_text) EACH(sid_to_text) EACH(sid_size) EACH(parts) EACH(place) EACH(next_ace) EACH(sddl_place)       \
-    EACH(build) EACH(version_number)
+    EACH(build) EACH(edit) EACH(order) EACH(version_number)
 
 /* The objects of the module: its own types, and what load() and adopt() are given. */
 #define OBJECTS(EACH)                                                                                                  \
@@ -1479,6 +1479,66 @@ static PyObject *build(PyObject *module, PyObject *arguments)
     return answer;
 }
 
+/* How many ACEs each change of an edit put, took or set. */
+static PyObject *counts(const uint32_t *touched, size_t count)
+{
+    size_t index;
+    PyObject *found = PyTuple_New((Py_ssize_t)count);
+    for (index = 0; found != NULL && index < count; index++) {
+        PyObject *number = PyLong_FromUnsignedLong(touched[index]);
+        if (number == NULL || PyTuple_SetItem(found, (Py_ssize_t)index, number) < 0)
+            Py_CLEAR(found);
+    }
+    return found;
+}
+
+/* A descriptor, and changes in the bytes of struct sdtool_change. */
+static PyObject *edit(PyObject *module, PyObject *arguments)
+{
+    struct state *state = state_for(module, PyTuple_Size(arguments), 2);
+    struct view data, changes;
+    PyObject *fields[2] = {NULL};
+    if (state == NULL || !view_bytes(&data, PyTuple_GetItem(arguments, 0)))
+        return NULL;
+    if (view_bytes(&changes, PyTuple_GetItem(arguments, 1))) {
+        size_t count = (size_t)changes.size / sizeof(struct sdtool_change);
+        struct sdtool_change *given = malloc((count + 1) * sizeof *given);
+        uint32_t *touched = calloc(count + 1, sizeof *touched);
+        if (given == NULL || touched == NULL) {
+            PyErr_NoMemory();
+        } else {
+            memcpy(given, changes.bytes, count * sizeof *given);
+            ASK(fields[0], state->library.edit(BYTES(data), given, count, touched, count, output, size), data.size,
+                as_bytes, DESCRIPTOR(data));
+            if (fields[0] != NULL)
+                fields[0] = descriptor_of(state, fields[0]);
+            if (fields[0] != NULL)
+                fields[1] = counts(touched, count);
+        }
+        free(given);
+        free(touched);
+        view_ends(&changes);
+    }
+    view_ends(&data);
+    return tuple_of(NULL, fields, 2);
+}
+
+/* Where the order of the two ACLs of a descriptor ends. */
+static PyObject *order(PyObject *module, PyObject *given)
+{
+    struct state *state = state_for(module, 1, 1);
+    struct view data;
+    struct sdtool_acl_order found;
+    PyObject *answer;
+    if (state == NULL || !view_bytes(&data, given))
+        return NULL;
+    found = state->library.order(BYTES(data));
+    answer = found.outcome.fault == SDTOOL_OK ? Py_BuildValue("II", found.sacl, found.dacl)
+                                              : refused_outcome(state, found.outcome, DESCRIPTOR(data));
+    view_ends(&data);
+    return answer;
+}
+
 /*
  * Many descriptors in plain values: tuples, numbers and texts. What the bytes of an ACL, an ACE, a SID or a GUID say is
  * made once and kept, since the same few are in most descriptors. The caller holds what is kept, in dicts by the bytes.
@@ -1877,6 +1937,8 @@ static PyMethodDef FUNCTIONS[] = {
     {"state", state_of_acl, METH_O, NULL},
     {"aces", aces, METH_O, NULL},
     {"build", build, METH_VARARGS, NULL},
+    {"edit", edit, METH_VARARGS, NULL},
+    {"order", order, METH_O, NULL},
     {"adopt_plain", adopt_plain, METH_VARARGS, NULL},
     FAST(plain),
     {NULL, NULL, 0, NULL},

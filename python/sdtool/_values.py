@@ -4,7 +4,7 @@ import functools
 import itertools
 import struct
 import uuid
-from typing import (Any, Callable, ClassVar, Dict, FrozenSet, Iterable, Iterator, NamedTuple, NoReturn,
+from typing import (TYPE_CHECKING, Any, Callable, ClassVar, Dict, FrozenSet, Iterable, Iterator, NamedTuple, NoReturn,
                     Optional, Sequence, Tuple, Type, TypeVar, Union, overload)
 
 from . import _arguments, _library
@@ -25,6 +25,8 @@ _ORIGIN = struct.Struct("H??")  # struct sdtool_origin
 _NO_PLACE = 0xFFFF
 _GRANTING = ("no-dacl", "owner", "privilege", "granted")
 _Answer = TypeVar("_Answer")
+if TYPE_CHECKING:
+    from ._changes import Change, Edited, Order
 _SAME: Any = type("Same", (), {"__repr__": lambda self: "<the same>"})()  # of replace: what an object has already
 
 
@@ -603,6 +605,12 @@ class Checker(_Fixed, _library.Asking):
 _asked = Slot(Checker, "_asked")
 
 
+def _changing() -> Any:
+    """The module of changes, which needs this one."""
+    from . import _changes
+    return _changes
+
+
 def _verdicts(question: Any, given: Iterator["DescriptorLike"], most: int) -> Iterator[Union[Verdict, Fault]]:
     while True:
         found = _library.check_many(question, itertools.islice(given, most))
@@ -692,6 +700,30 @@ class SecurityDescriptor(_Fixed, _library.Layout):
     @property
     def dacl(self) -> Acl:
         return _parts(self)[5]
+
+    @property
+    def order(self) -> "Order":
+        """Where the order of its ACLs ends.
+
+        >>> SecurityDescriptor.from_sddl("D:(A;;FR;;;BU)(D;;FW;;;BU)S:").order
+        Order(sacl=None, dacl=1)
+        """
+        found: "Order" = _changing().order_of(_data_of(self))
+        return found
+
+    def edit(self, *changes: "Change") -> "Edited":
+        """The descriptor after changes that are made one after the other, and how many ACEs each of them put, took or
+        set. The Fault of a change that can't be made has its index.
+
+        >>> from sdtool import Change
+        >>> shared = SecurityDescriptor.from_sddl("D:PAI(A;;FR;;;WD)(A;ID;FA;;;BA)")
+        >>> deny = Ace(AceKind.D, 0, 2, "BU")
+        >>> edited = shared.edit(Change.take_each("dacl", sid="WD"), Change.put("dacl", "order", deny))
+        >>> edited.descriptor.sddl(), edited.touched
+        ('D:PAI(D;;DC;;;BU)(A;ID;FA;;;BA)', (1, 1))
+        """
+        made: "Edited" = _changing().edited(_data_of(self), changes)
+        return made
 
     def sddl(self, *, domain: Optional[SidLike] = None, numeric: bool = False) -> str:
         """Its text. SDDL has no text for the resource manager byte and for some control bits, which are lost."""

@@ -20,6 +20,11 @@ struct verdict {
     bool granted;
 };
 
+struct acl_order {
+    struct outcome outcome;
+    uint32_t sacl, dacl;
+};
+
 struct ending {
     uint32_t status, length, message_length;
 };
@@ -85,6 +90,9 @@ _Static_assert(sizeof(struct ace) == 48 && offsetof(struct ace, place) == 16, "w
 _Static_assert(sizeof(struct fault_place) == 24, "what sdtool_place and sdtool_sddl_place find");
 _Static_assert(sizeof(struct new_ace) == 32 && sizeof(struct new_descriptor) == 44, "what sdtool_build reads");
 
+_Static_assert(sizeof(struct acl_order) == 32 && sizeof(struct sdtool_change) == 208,
+               "what sdtool_edit and _order read");
+
 _Static_assert(sizeof(struct sdtool_request) == 16, "as on a 32-bit machine");
 _Static_assert(sizeof(struct sdtool_asker) == 12 && sizeof(struct sdtool_reason) == 4, "as on a 32-bit machine");
 _Static_assert(sizeof(struct sdtool_origin) == 4, "as on a 32-bit machine");
@@ -126,6 +134,9 @@ CALL(reasons, struct sdtool_outcome, INPUT(descriptor), INPUT(sids), const uint8
 CALL(reasons_with, struct sdtool_outcome, INPUT(descriptor), const uint32_t *token, size_t token_words, INPUT(object),
      INPUT(principal_self), const struct sdtool_asker *asker, struct sdtool_reason *reasons);
 CALL(build, struct sdtool_outcome, const struct sdtool_new_descriptor *descriptor, OUTPUT(output));
+CALL(edit, struct sdtool_outcome, INPUT(descriptor), const struct sdtool_change *changes, size_t change_count,
+     uint32_t *touched, size_t touched_count, OUTPUT(output));
+CALL(order, struct sdtool_acl_order, INPUT(descriptor));
 CALL(run, struct sdtool_ending, INPUT(words), INPUT(input), OUTPUT(output), OUTPUT(message));
 CALL(fault_text, struct sdtool_outcome, uint32_t fault, OUTPUT(text));
 
@@ -460,6 +471,25 @@ EXPORT(sdtool_build) void build(uint32_t outcome, uint32_t descriptor, uint32_t 
     struct sdtool_outcome told;
     tell(outcome, proved_build(&told, &asked, at(output), output_size));
     rattle_dealloc(aces);
+}
+
+EXPORT(sdtool_edit)
+void edit(uint32_t outcome, uint32_t descriptor, uint32_t descriptor_size, uint32_t changes, uint32_t change_count,
+          uint32_t touched, uint32_t touched_count, uint32_t output, uint32_t output_size)
+{
+    struct sdtool_outcome told;
+    tell(outcome, proved_edit(&told, at(descriptor), descriptor_size, at(changes), change_count, at(touched),
+                              touched_count, at(output), output_size));
+}
+
+EXPORT(sdtool_order) void order(uint32_t order, uint32_t descriptor, uint32_t descriptor_size)
+{
+    struct sdtool_acl_order told;
+    proved_order(&told, at(descriptor), descriptor_size);
+    struct acl_order *found = at(order);
+    tell(order, &told.outcome);
+    found->sacl = told.sacl;
+    found->dacl = told.dacl;
 }
 
 EXPORT(sdtool_run)

@@ -18,6 +18,7 @@ named before it:
   command_line.py   what words ask for
   run.py            the lines of an input, and their answers
   places.py         where the fault of bytes or of SDDL is
+  editing.py        what changes make of a descriptor
 """
 from .access import RESERVED
 from .binary import DACL_PRESENT, HEADER, SACL_PRESENT, SELF_RELATIVE, layout, read

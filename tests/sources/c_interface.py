@@ -24,7 +24,8 @@ BYTES = "sdtool_bytes"
 # Arguments with names that are not those of the header. The header's name counts if both are names of it.
 OTHER_NAMES = {"bytes": "descriptor", "new": "descriptor", "kinds": "entries", "memory": "token"}
 # What the header calls the length of a slice, if it is not 'NAME_size'.
-LENGTHS = {"entries": "sid_count", "descriptors": "descriptor_count", "verdicts": "verdict_count",
+LENGTHS = {"entries": "sid_count", "changes": "change_count", "touched": "touched_count",
+           "descriptors": "descriptor_count", "verdicts": "verdict_count",
            "token": "token_words", "aces": "ace_count", "sacl": "sacl_room", "dacl": "dacl_room"}
 # The definition that says what a function answers, which its contract has to cite.
 DEFINITIONS = {
@@ -37,6 +38,7 @@ DEFINITIONS = {
     "sdtool_place": "place_told", "sdtool_sddl_place": "sddl_place_told",
     "sdtool_describe": "described",
     "sdtool_reasons": "explained", "sdtool_reasons_with": "explained_held", "sdtool_derive_origins": "TellsOrigins",
+    "sdtool_edit": "EditsWithin", "sdtool_order": "order_told",
 }
 
 
@@ -62,6 +64,8 @@ NAMED = [
     Named("sdtool_kind", "KIND_", "crates/sd_call_access/src/derivations.rt", "target_in"),
     Named("sdtool_entry", "", "crates/sd_call_access/src/token.rt", "kind_in"),
     Named("sdtool_acl_state", "ACL_", "crates/sd_call/src/contents.rt", "acl_state"),
+    Named("sdtool_acl_state", "ACL_", "crates/sd_call_edit/src/change_in.rt", "state_in"),
+    Named("sdtool_part", "", "crates/sd_call_edit/src/change_in.rt", "which_in", is_whole=False),
     Named("sdtool_field", "FIELD_", "crates/sd_call_convert/src/told.rt", "field_number"),
     Named("sdtool_reason_kind", "REASON_", "crates/sd_call_access/src/reason.rt", "kind_of"),
 ]
@@ -79,8 +83,16 @@ CONSTANTS = [
     ("SDTOOL_MOST_DESCRIPTION", "crates/sd_call_convert/src/described.rt", "MOST_DESCRIPTION"),
     ("SDTOOL_RIGHTS", "crates/sd_call_access/src/reason.rt", "RIGHTS"),
     ("SDTOOL_NO_PLACE", "crates/sd_call_access/src/reason.rt", "NO_PLACE"),
+    ("SDTOOL_CHANGE", "crates/sd_call/src/outcome.rt", "CHANGE"),
+    ("SDTOOL_FAULT_ACL_TOO_LARGE", "crates/sd_call/src/outcome.rt", "ACL_TOO_LARGE"),
+    ("SDTOOL_MOST_CHANGES", "crates/sd_call_edit/src/edit.rt", "MOST_CHANGES"),
+    ("SDTOOL_NO_ACE", "crates/sd_call_edit/src/order.rt", "NO_ACE"),
+    *((f"SDTOOL_{name}", "crates/sd_call_edit/src/change_in.rt", name) for name in (
+        "PUT", "TAKE", "REPLACE", "TAKE_EACH", "SET_EACH", "ORDER", "STATE", "SET_OWNER", "SET_GROUP", "CONTROL",
+        "AT_END", "BY_ORDER", "COMPARE_KIND", "COMPARE_MASK", "TYPE_NONE", "TYPE_GIVEN")),
     ("SDTOOL_MOST_DERIVED_ACES", "crates/sd_call_access/src/origins.rt", "MOST_DERIVED_ACES"),
 ]
+IN_HEADER = {name: declared for declared, _, name in CONSTANTS if name == "MOST_SID_SIZE"}  # lengths of arrays
 
 
 class Item(NamedTuple):
@@ -204,9 +216,9 @@ class Sources:
 
     def c_type(self, kind):
         """What C calls a type that is no slice. A type that C does not have stays as it is."""
-        array = re.fullmatch(r"&mut \[(\w+); (\w+)\]", kind)
+        array = re.fullmatch(r"(?:&mut )?\[(\w+); (\w+)\]", kind)
         if array:
-            return f"{self.c_type(array[1])} [{array[2]}]"
+            return f"{self.c_type(array[1])} [{IN_HEADER.get(array[2], array[2])}]"
         pointer = re.fullmatch(r"&(mut )?(\w+)", kind)
         if pointer:
             return f"{'' if pointer[1] else 'const '}{self.c_type(pointer[2])} *"

@@ -41,6 +41,7 @@ import time
 from typing import NamedTuple
 
 import browsers
+import c_edits
 import c_library
 import c_objects
 import compare
@@ -50,6 +51,8 @@ import fault_words
 import preload
 import run_rows
 import sddl_texts
+from reference.binary import layout
+from reference.editing import edit
 from reference.places import place_of_bytes
 
 TESTS = pathlib.Path(__file__).resolve().parent
@@ -653,6 +656,23 @@ def test_places(count, calls, number):
                   fault_places.is_excerpt(found[3], data, place), f"{data.hex()[:300]}: {found}, not {expected}")
 
 
+def test_edits(count, calls, number):
+    """Random edits, as the independent implementation makes them."""
+    chosen = random.Random(9)
+    asked = [(c_edits.random_descriptor(chosen), c_edits.random_changes(chosen)) for _ in range(10 * number)]
+    given = [f"{layout(descriptor).hex()} {json.dumps(c_edits.as_json(changes), separators=(',', ':'))}\n"
+             for descriptor, changes in asked]
+    ended = subprocess.run([*calls, "edit"], input="".join(given).encode(), capture_output=True, timeout=SECONDS,
+                           check=False)
+    told = ended.stdout.decode().splitlines()
+    count.add(len(told) == len(given), f"edits of {len(given)} lines: {len(told)}, {ended.stderr.decode()[:2000]}")
+    for line, found, (descriptor, changes) in zip(given, told, asked):
+        touched, made = edit(descriptor, changes)
+        right = (f"error {made.args[0]} {made.args[2]} changes {len(touched)}" if isinstance(made, Exception) else
+                 f"{layout(made).hex()} {json.dumps([touched, *c_edits.orders(made)], separators=(',', ':'))}")
+        count.add(found == right, f"{line}: {found}, not {right}")
+
+
 def meaning_of(line):
     """What docs/FORMAT.md says of the fault of a line."""
     return MEANINGS[int(line.split()[1])][1]
@@ -687,6 +707,7 @@ def test_javascript(count, native, name, folder, files, number):
     test_calls(count, native, calls, calls, name, number)
     test_places(count, calls, number)
     test_places_of_texts(count, calls, number)
+    test_edits(count, calls, number)
     test_objects(count, native, ModuleRunner(count, calls), number)
     test_types(count, BUILT / name, folder)
     test_document(count, BUILT / name, folder)

@@ -130,11 +130,11 @@ too_long bytes h = rw h refl
 
 -- sdtool_fault_text
 names : (name_of 1 ≡ Ok (codes "too-long")) × (name_of 25 ≡ Ok (codes "sid-form"))
-    × (name_of 72 ≡ Ok (codes "no-memory"))
+    × (name_of 72 ≡ Ok (codes "no-memory")) × (name_of 73 ≡ Ok (codes "change"))
 unfolding name_of
-names = (refl, refl, refl)
+names = (refl, refl, refl, refl)
 
-no_names : (name_of 0 ≡ Err (call.Argument which.Fault 0)) × (name_of 73 ≡ Err (call.Argument which.Fault 0))
+no_names : (name_of 0 ≡ Err (call.Argument which.Fault 0)) × (name_of 74 ≡ Err (call.Argument which.Fault 0))
 unfolding name_of
 no_names = (refl, refl)
 

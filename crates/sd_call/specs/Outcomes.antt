@@ -3,6 +3,8 @@ use Rattle.std.specs.Prelude.{◌≡◌, ◌≤◌, ◌<◌, ◌⊎◌, ℕ, Lis
 use Rattle.sd_faults.specs.Faults as line
 use Rattle.sd_faults.specs.Faults.{part_number}
 use Rattle.sd_check.specs.declared.ask.AskFault.TheVariants as ask
+use Rattle.sd_edit.specs.declared.edited.ChangeFault.TheVariants as changes
+use Rattle.sd_parts.specs.Parts.{part_of}
 use Rattle.sd_parts.specs.declared.part.Part.{Part}
 use Rattle.sd_call.specs.declared.argument.Argument.{Argument}
 use Rattle.sd_call.specs.declared.argument.Argument.TheVariants as which
@@ -17,12 +19,16 @@ number (Line fault) = line.number fault
 number (Ask ask.EmptyRequest) = 50
 number (Ask ask.ReservedBits) = 51
 number (call.Argument argument entry) = 70
+number (call.Change (changes.Impossible acl) entry) = 73
+number (call.Change (changes.TooLarge acl) entry) = 30
 
 -- the parts that a fault names
 abbrev pub named_parts : CallFault → Option Part × Option Part
 named_parts (Line fault) = line.named_parts fault
 named_parts (Ask fault) = (None, None)
 named_parts (call.Argument argument entry) = (None, None)
+named_parts (call.Change (changes.Impossible acl) entry) = (Some (part_of acl), None)
+named_parts (call.Change (changes.TooLarge acl) entry) = (Some (part_of acl), None)
 
 abbrev pub argument_number : Argument → ℕ
 argument_number which.Domain = 1
@@ -40,18 +46,21 @@ argument_number which.Sid = 12
 argument_number which.Sacl = 13
 argument_number which.Dacl = 14
 argument_number which.Token = 15
+argument_number which.Changes = 16
 
 -- the argument that a fault is about, as a number; 0 where it is about none
 abbrev pub argument_of : CallFault → ℕ
 argument_of (Line fault) = 0
 argument_of (Ask fault) = 0
 argument_of (call.Argument argument entry) = argument_number argument
+argument_of (call.Change fault entry) = argument_number which.Changes
 
 -- which entry of that argument, from 0 on
 abbrev pub entry_of : CallFault → ℕ
 entry_of (Line fault) = 0
 entry_of (Ask fault) = 0
 entry_of (call.Argument argument entry) = entry
+entry_of (call.Change fault entry) = entry
 
 abbrev pub failed : CallFault → Outcome
 failed fault = record {

@@ -30,6 +30,8 @@ pub enum Argument {
     Dacl,
     /// The memory of a token.
     Token,
+    /// The changes of an edit.
+    Changes,
 }
 
 /// The number of an argument.
@@ -52,5 +54,6 @@ pub fn argument_number(argument: Argument) -> u32
         Argument::Sacl => 13,
         Argument::Dacl => 14,
         Argument::Token => 15,
+        Argument::Changes => 16,
     }
 }

@@ -6,6 +6,7 @@ ghost use Rattle.sd_call.specs.Outcomes.{too_small};
 
 use crate::argument::{Argument, argument_number};
 use sd_check::AskFault;
+use sd_edit::ChangeFault;
 use sd_faults::{LineFault, part_number};
 use sd_memory::NoMemory;
 use sd_view::Part;
@@ -15,6 +16,11 @@ use std::marker::Model;
 const TOO_SMALL: u32 = 71;
 
 const NO_MEMORY: u32 = 72;
+
+/// A change can't be made.
+const CHANGE: u32 = 73;
+
+const ACL_TOO_LARGE: u32 = 30;
 
 /// 0, or the number of a fault.
 ///
@@ -72,6 +78,8 @@ pub enum CallFault {
     Ask(AskFault),
     /// 70: an argument beside the text or the descriptor is none that the call takes; of a list, at this entry.
     Argument(Argument, usize),
+    /// 73 and 30: the change at this entry can't be made.
+    Change(ChangeFault, usize),
 }
 
 /// So many bytes are at the front of the output.
@@ -141,6 +149,8 @@ fn number(fault: CallFault) -> u32
         CallFault::Ask(AskFault::EmptyRequest) => 50,
         CallFault::Ask(AskFault::ReservedBits) => 51,
         CallFault::Argument(_, _) => 70,
+        CallFault::Change(ChangeFault::Impossible(_), _) => CHANGE,
+        CallFault::Change(ChangeFault::TooLarge(_), _) => ACL_TOO_LARGE,
     }
 }
 
@@ -150,6 +160,9 @@ fn named_parts(fault: CallFault) -> (Option<Part>, Option<Part>)
     match fault {
         CallFault::Line(fault) => fault.named_parts(),
         CallFault::Ask(_) | CallFault::Argument(_, _) => (None, None),
+        CallFault::Change(ChangeFault::Impossible(acl) | ChangeFault::TooLarge(acl), _) => {
+            (Some(acl.into()), None)
+        }
     }
 }
 
@@ -160,6 +173,7 @@ fn argument_of(fault: CallFault) -> u32
     match fault {
         CallFault::Line(_) | CallFault::Ask(_) => 0,
         CallFault::Argument(argument, _) => argument_number(argument),
+        CallFault::Change(_, _) => argument_number(Argument::Changes),
     }
 }
 
@@ -168,6 +182,6 @@ fn entry_of(fault: CallFault) -> usize
 {
     match fault {
         CallFault::Line(_) | CallFault::Ask(_) => 0,
-        CallFault::Argument(_, entry) => entry,
+        CallFault::Argument(_, entry) | CallFault::Change(_, entry) => entry,
     }
 }

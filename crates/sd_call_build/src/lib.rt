@@ -10,3 +10,4 @@ mod sizes;
 
 pub use build::build_descriptor;
 pub use new::{NewAce, NewAcl, NewDescriptor};
+pub use printing::{print_ace, print_sid};

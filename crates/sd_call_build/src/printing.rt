@@ -27,7 +27,8 @@ pub fn print_aces<P: Print>(aces: &[NewAce<'_>], out: &mut P)
     }
 }
 
-fn print_ace<P: Print>(ace: &Ace, out: &mut P)
+/// Prints an ACE.
+pub fn print_ace<P: Print>(ace: &Ace, out: &mut P)
     ensures { Prints (P.told out.old) (P.told out.new) (ace_bytes ace.now) }
 {
     let front = AceFront::of_ace(ace);

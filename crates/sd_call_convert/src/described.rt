@@ -175,6 +175,7 @@ fn argument_text(number: u32) -> &'static str
         13 => "sacl: ",
         14 => "dacl: ",
         15 => "token: ",
+        16 => "changes: ",
         _ => "",
     }
 }

@@ -44,15 +44,15 @@ texts_with_parts = refl
 
 -- the names of faults that no line has, and no name between
 
-further_names : map fault_name (50 ∷ 51 ∷ 60 ∷ 61 ∷ 62 ∷ 70 ∷ 71 ∷ 72 ∷ [])
+further_names : map fault_name (50 ∷ 51 ∷ 60 ∷ 61 ∷ 62 ∷ 70 ∷ 71 ∷ 72 ∷ 73 ∷ [])
     ≡ codes "empty-request" ∷ codes "reserved-bits" ∷ codes "read" ∷ codes "write" ∷ codes "too-many-reads"
-    ∷ codes "argument" ∷ codes "too-small" ∷ codes "no-memory" ∷ []
+    ∷ codes "argument" ∷ codes "too-small" ∷ codes "no-memory" ∷ codes "change" ∷ []
 further_names = refl
 
 no_names : map fault_name
     (0 ∷ 15 ∷ 16 ∷ 17 ∷ 18 ∷ 19 ∷ 31 ∷ 32 ∷ 33 ∷ 34 ∷ 35 ∷ 36 ∷ 37 ∷ 38 ∷ 39 ∷ 41 ∷ 42 ∷ 43 ∷ 44 ∷ 45 ∷ 46 ∷ 47
-    ∷ 48 ∷ 49 ∷ 52 ∷ 53 ∷ 54 ∷ 55 ∷ 56 ∷ 57 ∷ 58 ∷ 59 ∷ 63 ∷ 64 ∷ 65 ∷ 66 ∷ 67 ∷ 68 ∷ 69 ∷ 73 ∷ 74 ∷ 256 ∷ 257 ∷ [])
-    ≡ replicate 43 []
+    ∷ 48 ∷ 49 ∷ 52 ∷ 53 ∷ 54 ∷ 55 ∷ 56 ∷ 57 ∷ 58 ∷ 59 ∷ 63 ∷ 64 ∷ 65 ∷ 66 ∷ 67 ∷ 68 ∷ 69 ∷ 74 ∷ 256 ∷ 257 ∷ [])
+    ≡ replicate 42 []
 no_names = refl
 
 -- enum sdtool_part of include/sdtool.h

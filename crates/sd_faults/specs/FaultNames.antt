@@ -1,5 +1,5 @@
 -- The names of all faults, by their numbers: those of lines (1 to 40), of requests (50 and 51) and of runs (60 to 62),
--- and those of the library for C alone (70 to 72).
+-- and those of the library for C alone (70 to 73).
 use Rattle.std.specs.Prelude.{ℕ, List, [], if◌then◌else◌, nat_eq, codes}
 
 -- empty where no fault has the number
@@ -39,4 +39,5 @@ fault_name number =
     else if nat_eq number 70 then codes "argument"
     else if nat_eq number 71 then codes "too-small"
     else if nat_eq number 72 then codes "no-memory"
+    else if nat_eq number 73 then codes "change"
     else []

@@ -42,4 +42,5 @@ meaning number =
     else if nat_eq number 70 then codes "an argument beside the descriptor or the text is invalid"
     else if nat_eq number 71 then codes "the output is too small; the call says how many bytes it needs"
     else if nat_eq number 72 then codes "malloc failed"
+    else if nat_eq number 73 then codes "the change can't be made"
     else []

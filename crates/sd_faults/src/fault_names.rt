@@ -43,6 +43,7 @@ pub fn fault_name(number: u32) -> &'static str
         70 => "argument",
         71 => "too-small",
         72 => "no-memory",
+        73 => "change",
         _ => "",
     }
 }

@@ -50,6 +50,7 @@ pub fn meaning(number: u32) -> &'static str
         70 => "an argument beside the descriptor or the text is invalid",
         71 => "the output is too small; the call says how many bytes it needs",
         72 => "malloc failed",
+        73 => "the change can't be made",
         _ => "",
     }
 }

@@ -1,9 +1,11 @@
-//! Descriptors that are built part by part. Those in the order of the layout stand in `tests/rows/`, from SDDL.
+//! Descriptors built part by part, and edited. Those in the order of the layout stand in `tests/rows/`, from SDDL.
 ghost use Rattle.sd_builder.specs.Builds.{Builds};
 ghost use Rattle.sd_builder.specs.Draft.{Draft, IsOpen, with_ace};
 
-use sd_binary::{AclTooLarge, Builder, SdBuf, Which};
+use sd_binary::{AclTooLarge, Builder, SdBuf, Which, read};
 use sd_core::{Ace, AceKind, Sid};
+use sd_edit::{AclChange, Change, ChangeFault, Edited, ListChange, edit};
+use sd_sddl::read_sddl;
 use std::process::Abort;
 
 fn expect_hex(rt: &(impl Abort + AllocGlobal), buf: &SdBuf, text: &str) {
@@ -68,4 +70,18 @@ fn takes_an_acl_of_65528_bytes(rt: HostRuntime) {
     let whole = hex::encode(rt.alloc(), buf.bytes()).expect(&rt, "memory for the digits");
     let front = "01001080000000000000000014000000000000000200f8ffcc0c0000";
     assert!(rt; whole.as_str().starts_with(front));
+}
+
+#[test]
+fn makes_changes_one_after_the_other(rt: HostRuntime) {
+    let mut buf = SdBuf::new(rt.alloc()).expect(&rt, "memory");
+    assert!(rt; read_sddl(b"O:BAD:(A;;FR;;;WD)(A;ID;FA;;;SY)", None, &mut buf) == Ok(()));
+    let view = read(buf.bytes()).expect(&rt, "a descriptor");
+    let mut edited = Edited::of(rt.alloc(), &view).expect(&rt, "memory");
+    let take = Change::Acl(Which::Dacl, AclChange::List(ListChange::Take(0)));
+    let changes = [take, Change::Owner(None), take, take];
+    let mut counts = Vec::new(rt.alloc());
+    let made = edit(rt.alloc(), &mut edited, &changes, &mut counts).expect(&rt, "memory");
+    assert!(rt; made == Err(ChangeFault::Impossible(Which::Dacl)) && edited.owner == None);
+    assert!(rt; counts.as_slice() == [1, 0, 1].as_slice());
 }

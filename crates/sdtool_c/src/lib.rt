@@ -5,6 +5,7 @@ mod build;
 mod checks;
 mod conversions;
 mod derivations;
+mod edits;
 mod faults;
 mod many;
 mod parts;

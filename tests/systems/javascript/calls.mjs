@@ -1,6 +1,7 @@
 // calls.mjs FOLDER convert|explain|normalize|from_sddl|check|reasons|derive|origins [DOMAIN] [numeric]
 // calls.mjs FOLDER parts|walk|from_text|to_text|size [DOMAIN] [numeric]
 // calls.mjs FOLDER place|text_place [DOMAIN]
+// calls.mjs FOLDER edit
 // calls.mjs FOLDER many|with SIDS ENTRIES OBJECT SELF WANTED MAPPING FLAGS LEVEL
 // calls.mjs FOLDER plain WORD ..
 //
@@ -8,7 +9,8 @@
 // ../../library/c/calls.c and
 // ../../library/c/objects.c do with the same words and lines; or one run, as ../../library/c/runs.c does. Of a walk
 // that ends with a fault it prints the fault alone. For `place` each answer is what the fault of each call with a
-// descriptor says, in JSON, or null; and for `text_place` the same of a text, which is in JSON too.
+// descriptor says, in JSON, or null; and for `text_place` the same of a text, which is in JSON too. For `edit` a line
+// is a descriptor and changes in JSON, whose GUIDs are in hex.
 import {readFileSync} from "node:fs";
 import {pathToFileURL} from "node:url";
 
@@ -183,6 +185,19 @@ function faultIn(call) {
     return "null";
 }
 
+// The descriptor after changes, the counts, and where its ACLs end to be in order; or the fault with what it is about.
+function edit(line) {
+    const [descriptor, changes] = line.split(" ");
+    const read = (name, value) => (/ObjectType$/i.test(name) && value !== null ? bytes(value) : value);
+    try {
+        const edited = sdtool.edit(bytes(descriptor), JSON.parse(changes, read));
+        const {sacl, dacl} = sdtool.order(edited.descriptor);
+        return `${hex(edited.descriptor)} ${JSON.stringify([edited.touched, sacl, dacl])}\n`;
+    } catch (fault) {
+        return `error ${fault.number} ${fault.part ?? null} ${fault.argument} ${fault.entry}\n`;
+    }
+}
+
 const OF_ALL = {
     many,
     with: withToken
@@ -200,6 +215,7 @@ const JOBS = {
     origins: (line) => origins(line.split(" ")),
     parts,
     place,
+    edit,
     text_place: (line) => `${faultIn(() => sdtool.fromSddl(JSON.parse(line), domain))}\n`,
     walk: (line) => `${aceLines("dacl", sdtool.aces(bytes(line)))}end\n`,
     from_text: (line) => `${hex(sdtool.sidFromText(line, domain))}\n`,

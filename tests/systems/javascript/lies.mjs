@@ -52,6 +52,11 @@ const FOLDER = fromSddl("O:BAD:(A;OICI;FR;;;BU)(A;OI;FW;;;SY)(A;CI;GA;;;CO)");
 const ACE = () =>
     ({kind: 5, flags: 2, mask: 0x100, sid: "BU", objectType: GUID.slice(), inheritedObjectType: GUID.slice()});
 const DENY = () => ({kind: 1, flags: 0, mask: 0x1f01ff, sid: SYSTEM.slice()});
+const CHANGES =
+    () => [{change: "put", acl: "dacl", place: 0, ace: ACE()}, {change: "control", setControl: 0x1000, clearControl: 0},
+        {change: "state", acl: "sacl", state: "null"}, {change: "take", acl: "dacl", place: 1}];
+const MATCHING = () => ({sid: USERS.slice(), kind: 0, mask: 0x120089, objectType: null, flags: 0, flagsMask: 0x10});
+const SETTING = () => ({sid: "SY", setMask: 2, clearMask: 1, setFlags: 3, clearFlags: 8});
 const TOKEN = sdtool.readToken(["BU"], {denyOnly: ["SY"]});
 
 // Each call with arguments of which every piece counts: without it the answer is another. A path names a piece.
@@ -98,6 +103,9 @@ const CALLS = [
     ],
     ["build", () => [{owner: "BA", group: SYSTEM.slice(), dacl: [DENY(), ACE()], control: 0x1000, resourceManager: 7}]],
     ["build", () => [{owner: null, dacl: {state: "list", aces: [DENY()]}, sacl: {state: "null"}}]],
+    ["edit", () => [DENIES.slice(), CHANGES()]],
+    ["edit", () => [DENIES.slice(), [{change: "setEach", acl: "dacl", match: MATCHING(), setting: SETTING()}]]],
+    ["order", () => [DENIES.slice()]],
     ["build", () => [{dacl: {state: "absent"}, sacl: [{kind: 2, flags: 0x40, mask: 1, sid: "WD", objectType: null}]}]],
 ];
 

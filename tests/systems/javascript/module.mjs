@@ -324,6 +324,47 @@ for (const dacl of [Object.create({dacl: undefined}), {get dacl() { return undef
          Object.create({get dacl() { return undefined; }})])
     addRefused("a DACL that is there and undefined", () => sdtool.build(dacl), "dacl");
 
+// Changes one after the other, and what sdtool_edit of sdtool.h refuses.
+const PUT = {
+    change: "put",
+    acl: "dacl",
+    place: "order",
+    ace: ACE
+};
+const OWN = sdtool.fromSddl("D:AI(D;;FW;;;WD)(A;ID;FA;;;SY)");
+const edited =
+    sdtool.edit(OWN, [PUT, {change: "owner", sid: "BA"}, {change: "takeEach", acl: "dacl", match: {sid: "WD"}}]);
+add(sdtool.toSddl(edited.descriptor) === "O:BAD:AI(A;;FR;;;BU)(A;ID;FA;;;SY)" && edited.touched.join() === "1,0,1",
+    "an edit");
+add(JSON.stringify(sdtool.order(sdtool.fromSddl("D:(A;;FR;;;BU)(D;;FR;;;BU)S:"))) === '{"sacl":null,"dacl":1}',
+    "the order of ACLs");
+add(sdtool.edit(OWN, []).descriptor.length === OWN.length, "an edit without changes");
+for (const [change, number, name] of [[{change: "take", acl: "dacl", place: 9}, 73, "change"],
+         [{change: "take", acl: "sacl", place: 0}, 73, "change"], [{...PUT, place: 4}, 73, "change"]]) {
+    const fault = thrown(() => sdtool.edit(OWN, [PUT, change]));
+    add(fault instanceof Fault && fault.number === number && fault.name === name && fault.part === change.acl &&
+            fault.argument === "changes" && fault.entry === 1 &&
+            fault.message === `changes[1]: error 73 change ${change.acl}: the change can't be made`,
+        `${JSON.stringify(change)}: ${fault.message}`);
+}
+for (const change of [undefined, null, 5, "put", [], {}, {...PUT, change: "Put"}, {...PUT, change: "valueOf"},
+         {...PUT, acl: "DACL"}, {...PUT, acl: undefined}, {...PUT, place: undefined}, {...PUT, place: "first"},
+         {...PUT, place: -1}, {...PUT, place: 0xfffffffe}, {...PUT, ace: undefined}, {...PUT, ace: {...ACE, kind: 9}},
+         {...PUT, ace: {...ACE, flags: 0x20}}, {...PUT, ace: {...ACE, sid: twice}},
+         {...PUT, ace: {...ACE, objectType: new Uint8Array(16)}}, {...PUT, ace: {...ACE, sid: USERS.subarray(0, 12)}},
+         {...PUT, ace: {...ACE, sid: new Uint8Array(8)}}, {...PUT, match: {sid: "BU"}}, {...PUT, state: "null"},
+         {change: "take", acl: "dacl", place: "end"}, {change: "takeEach", acl: "dacl", match: {}},
+         {change: "takeEach", acl: "dacl", match: {flags: 1, mask: 1}},
+         {change: "takeEach", acl: "dacl", match: {sid: null}}, {change: "takeEach", acl: "dacl", match: {sids: "BU"}},
+         {change: "takeEach", acl: "dacl", match: {objectType: new Uint8Array(15)}}, {change: "owner"},
+         {change: "owner", sid: "BA", acl: "dacl"}, {change: "state", acl: "dacl", state: "empty"},
+         {change: "control", setControl: 4}, {change: "control", setControl: 1, clearControl: 1},
+         {change: "control", setControl: 65536}, {change: "setEach", acl: "dacl", match: {sid: "BU"}},
+         {change: "setEach", acl: "dacl", match: {sid: "BU"}, setting: {setMask: 1, clearMask: 1}}])
+    addRefused(`the change ${JSON.stringify(change)}`, () => sdtool.edit(OWN, [PUT, change]), "changes", 1);
+addNoSid("a change with a text", () => sdtool.edit(OWN, [PUT, {change: "owner", sid: "Everyone"}]), 25, "changes", 1);
+addRefused("too many changes", () => sdtool.edit(OWN, Array(16385).fill(PUT)), "changes", 16384);
+
 // The same as the header says of the C calls, and MS-DTYP 2.5.3.2: no DACL grants all, an empty one nothing.
 add(sdtool.faultText(25) === "sid-form" && sdtool.faultText(14) === "overlap", "the names of faults");
 add(/^\d+\.\d+\.\d+$/.test(sdtool.version()), "the version");

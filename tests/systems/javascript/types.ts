@@ -1,6 +1,6 @@
 // What sdtool.d.ts lets a program of TypeScript write, and what it refuses: each line below a `@ts-expect-error` has to
 // be an error. tests/systems/systems.py compiles it; nothing runs it.
-import {load, hasVectors, Acl, Ace, ArgumentFault, Fault, NewAce, Parts, Token, Verdict} from "sdtool";
+import {load, hasVectors, Acl, Ace, ArgumentFault, Edited, Fault, NewAce, Parts, Token, Verdict} from "sdtool";
 
 async function all(): Promise<void> {
     const canLoad: boolean = hasVectors();
@@ -38,6 +38,12 @@ async function all(): Promise<void> {
         aces, status, sdtool.faultText(25), sdtool.explain(descriptor, {numeric: true}), sdtool.normalize(descriptor));
     console.log(
         sdtool.derive(descriptor, "BA", users, {kind: "container", creator: descriptor}), sdtool.toSddl(descriptor));
+    const edited: Edited = sdtool.edit(descriptor, [
+        {change: "state", acl: "dacl", state: "list"},
+        {change: "put", acl: "dacl", place: "order", ace: {kind: 0, flags: 0, mask: 1, sid: "BU"}},
+        {change: "setEach", acl: "dacl", match: {sid: "BU"}, setting: {clearFlags: 0x10}}, {change: "owner", sid: null}
+    ]);
+    console.log(edited.descriptor, edited.touched, sdtool.order(descriptor).dacl);
     console.log(sdtool.origins(descriptor, "BA", users, {kind: "container"}).dacl[0].ace.mask);
     try {
         sdtool.version();
@@ -65,6 +71,8 @@ async function all(): Promise<void> {
     sdtool.check(descriptor, users);
     // @ts-expect-error a fault has no verdict
     sdtool.checkMany([descriptor], [users])[0].granted;
+    // @ts-expect-error an ACE has a place
+    sdtool.edit(descriptor, [{change: "put", acl: "dacl", ace: {kind: 0, flags: 0, mask: 1, sid: "BU"}}]);
     // @ts-expect-error a text is no descriptor
     sdtool.toSddl("D:");
 }
