@@ -308,6 +308,10 @@ def test_address(count, page, _):
         "byId('example-ds').click();",
         "put('text', ''); pasteInto('text', given[0].padEnd(30_000)); await until(isIdle); byId('text-clear').click();",
         "put('kind', 'key'); put('domain', 'S-1-5-21-1-2-3'); put('names', 'S-1-1-0 All');",
+        *(f"const held = new window.DataTransfer(); {held}; document.body.dispatchEvent(new window.DragEvent('drop', "
+          "{dataTransfer: held, bubbles: true, cancelable: true}));" for held in (
+              "held.setData('text/plain', given[0])", "held.items.add(new window.File([given[0]], 'list.txt'))")),
+        "byId('lines-start').click(); await until(() => byId('lines-stop').disabled);",
         *(f"byId('tab-{view}').click();" for view in ("ask", "inherit", "compare", "lines", "look")),
         "byId('tab-ask').click(); put('ask-token', 'BU'); put('ask-maximum', true);",
         "byId('tab-compare').click(); put('other-text', given[0]);",
