@@ -28,7 +28,12 @@ impl<'a> Sink for Front<'a> {
     ghost use Rattle.std.specs.Prelude.{Some, ◌∷◌, ◌-◌, length, take};
 
     // The number of cells stands in front of the bytes. No text changes it, as it changes nothing that was taken.
-    ghost told = { λ s. record { identity = s.cells.ghost_name; contents = Some (length s.cells.now ∷ take s.held s.cells.now); failures = s.failures; room = length s.cells.now - s.held } };
+    ghost told = { λ s. record {
+      identity = s.cells.ghost_name;
+      contents = Some (length s.cells.now ∷ take s.held s.cells.now);
+      failures = s.failures;
+      room = length s.cells.now - s.held;
+    } };
 
     fn put(&mut self, bytes: &[u8]) -> Result<(), SinkFault> {
         if bytes.is_empty() {

@@ -59,8 +59,8 @@ pub extern "C" fn sdtool_reasons_with<'a>(
         principal_self,
         request: &request_of(asker),
     };
-    match token_held(memory, ask.request) {
-        Ok(mut token) => explain_with_token(bytes, &mut token, &ask, reasons),
-        Err(fault) => tell_none(failed(fault), reasons),
+    match &mut token_held(memory, ask.request) {
+        Ok(token) => explain_with_token(bytes, token, &ask, reasons),
+        Err(fault) => tell_none(failed(*fault), reasons),
     }
 }

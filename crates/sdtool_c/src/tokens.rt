@@ -34,8 +34,8 @@ pub extern "C" fn sdtool_check_with(
         principal_self,
         request,
     };
-    match token_held(memory, request) {
-        Ok(mut token) => check_with_token(bytes, &mut token, &ask),
-        Err(fault) => told(Err(fault)),
+    match &mut token_held(memory, request) {
+        Ok(token) => check_with_token(bytes, token, &ask),
+        Err(fault) => told(Err(*fault)),
     }
 }
