@@ -14,7 +14,7 @@ import preload
 
 LINE = runs.LINE
 STORE = pathlib.Path(__file__).resolve().with_name("simulated_store")
-TASKS, FILES = 20_000, 3000
+TASKS, FILES = 2_000, 1500
 # Objects of 100 MB in blocks of 64 MB, of which a connection to the store takes 50 MB a second. Here a byte is a
 # thousand. 100,000 of them are 10 TB, and of these the test answers some.
 OBJECTS, SOME, BYTES, BLOCK, SPEED = 100_000, 1000, 100_000, 64_000, 50_000
