@@ -14,22 +14,28 @@ use sd_memory::NoMemory;
 use sd_view::SdView;
 use std::alloc::Global;
 
+/// What a new object is derived from, as the caller says it.
+#[derive(Clone, Copy)]
+pub struct NewObject<'a> {
+    pub parent: &'a [u8],
+    /// The descriptor that the creator brings, or nothing.
+    pub creator: &'a [u8],
+    /// The SIDs of the creator in binary.
+    pub owner: &'a [u8],
+    pub group: &'a [u8],
+    pub kind: u32,
+    pub mapping: u32,
+}
+
 /// Gives the descriptor of a new object.
-pub fn derive_new(
-    alloc: Global,
-    parent: &[u8],
-    creator: &[u8],
-    owner: &[u8],
-    group: &[u8],
-    kind: u32,
-    mapping: u32,
-    output: &mut [u8],
-) -> Outcome
+pub fn derive_new(alloc: Global, object: &NewObject<'_>, output: &mut [u8]) -> Outcome
     // What cannot be derived from is told before memory is asked for.
-    ensures { AnswersWithin (input_in parent.now creator.now owner.now group.now kind mapping)
-        (derivation parent.now creator.now owner.now group.now kind mapping) output.old output.new result }
+    ensures { AnswersWithin (input_in object.now.parent.now object.now.creator.now object.now.owner.now
+        object.now.group.now object.now.kind object.now.mapping)
+        (derivation object.now.parent.now object.now.creator.now object.now.owner.now object.now.group.now
+        object.now.kind object.now.mapping) output.old output.new result }
 {
-    match input_in(parent, creator, owner, group, kind, mapping) {
+    match input_in(object) {
         Ok(input) => give_derived(&input, SdBuf::new(alloc), output),
         Err(fault) => failed(fault),
     }
@@ -45,19 +51,13 @@ pub struct DerivationInput<'a> {
 
 /// What the arguments derive from.
 #[tactic(auto, unfolding(crate::specs::Derivations::input_in))]
-pub fn input_in<'a>(
-    parent: &'a [u8],
-    creator: &'a [u8],
-    owner: &[u8],
-    group: &[u8],
-    kind: u32,
-    mapping: u32,
-) -> Result<DerivationInput<'a>, CallFault>
-    ensures { result ≡ input_in parent.now creator.now owner.now group.now kind mapping }
+pub fn input_in<'a>(object: &NewObject<'a>) -> Result<DerivationInput<'a>, CallFault>
+    ensures { result ≡ input_in object.now.parent.now object.now.creator.now object.now.owner.now
+        object.now.group.now object.now.kind object.now.mapping }
 {
-    let plan = plan_in(kind, mapping, owner, group)?;
-    let creator = creator_in(creator)?;
-    let parent = descriptor_in(parent)?;
+    let plan = plan_in(object.kind, object.mapping, object.owner, object.group)?;
+    let creator = creator_in(object.creator)?;
+    let parent = descriptor_in(object.parent)?;
     Ok(DerivationInput {
         parent,
         creator,

@@ -17,7 +17,7 @@ mod with_token;
 pub use access::{check_access, check_without_token, verdict_on};
 pub use asker::{AskInput, AskerInput, asker_in, check_asker};
 pub use bytes::Bytes;
-pub use derivations::derive_new;
+pub use derivations::{NewObject, derive_new};
 pub use many::check_many;
 pub use origins::{MOST_DERIVED_ACES, OriginsOutcome, derive_origins};
 pub use reason::{

@@ -6,7 +6,7 @@ ghost use Rattle.sd_call_access.specs.OriginsTold.{TellsOrigins, WritesOrigins, 
 ghost use Rattle.sd_call_access.specs.OriginsTold.{with_counts};
 ghost use Rattle.sd_call_access.specs.declared.origins.TheConstants.{MOST_DERIVED_ACES};
 
-use crate::derivations::{DerivationInput, input_in};
+use crate::derivations::{DerivationInput, NewObject, input_in};
 use sd_call::{CallFault, Outcome, done, failed, too_small};
 use sd_faults::LineFault;
 use sd_inherit::{AceCounts, AceOrigin, OriginFault, origins};
@@ -36,21 +36,17 @@ pub struct OriginsOutcome {
 
 /// Says of each ACE of the descriptor of a new object which ACE it was made of.
 pub fn derive_origins(
-    parent: &[u8],
-    creator: &[u8],
-    owner: &[u8],
-    group: &[u8],
-    kind: u32,
-    mapping: u32,
+    object: &NewObject<'_>,
     sacl: &mut [AceOrigin],
     dacl: &mut [AceOrigin],
 ) -> OriginsOutcome
-    ensures origins { TellsOrigins (input_in parent.now creator.now owner.now group.now kind mapping)
+    ensures origins { TellsOrigins (input_in object.now.parent.now object.now.creator.now object.now.owner.now
+        object.now.group.now object.now.kind object.now.mapping)
         sacl.old sacl.new dacl.old dacl.new result }
     // So much room suffices for any arguments.
     ensures most { (result.sacl_count ≤ MOST_DERIVED_ACES) × (result.dacl_count ≤ MOST_DERIVED_ACES) }
 {
-    match input_in(parent, creator, owner, group, kind, mapping) {
+    match input_in(object) {
         Ok(input) => write_origins(&input, sacl, dacl),
         Err(fault) => nothing_derived(fault),
     }

@@ -7,7 +7,9 @@ ghost use Rattle.sd_call_access.specs.OriginsTold.{TellsOrigins};
 ghost use Rattle.sd_call_access.specs.declared.origins.TheConstants.{MOST_DERIVED_ACES};
 
 use sd_call::Outcome;
-use sd_call_access::{AceOrigin, MOST_DERIVED_ACES, OriginsOutcome, derive_new, derive_origins};
+use sd_call_access::{
+    AceOrigin, MOST_DERIVED_ACES, NewObject, OriginsOutcome, derive_new, derive_origins,
+};
 use std::alloc::Global;
 
 /// Gives the descriptor of a new object.
@@ -26,7 +28,15 @@ pub extern "C" fn sdtool_derive(
     ensures { AnswersWithin (input_in parent.now creator.now owner.now group.now kind mapping)
         (derivation parent.now creator.now owner.now group.now kind mapping) output.old output.new result }
 {
-    derive_new(alloc, parent, creator, owner, group, kind, mapping, output)
+    let object = NewObject {
+        parent,
+        creator,
+        owner,
+        group,
+        kind,
+        mapping,
+    };
+    derive_new(alloc, &object, output)
 }
 
 /// Says of each ACE of the descriptor of a new object which ACE it was made of.
@@ -46,5 +56,13 @@ pub extern "C" fn sdtool_derive_origins(
     // So much room suffices for any arguments.
     ensures most { (result.sacl_count ≤ MOST_DERIVED_ACES) × (result.dacl_count ≤ MOST_DERIVED_ACES) }
 {
-    derive_origins(parent, creator, owner, group, kind, mapping, sacl, dacl)
+    let object = NewObject {
+        parent,
+        creator,
+        owner,
+        group,
+        kind,
+        mapping,
+    };
+    derive_origins(&object, sacl, dacl)
 }
