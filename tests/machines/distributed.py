@@ -469,6 +469,10 @@ def test_remote(count, place):
         is_right = got.status == 0 and answers_in(served / f"{kind}-small") == answers
         count.add(is_right and "another one gets it" not in got.stderr, f"{kind}, small files: {got}")
         place.write("served/in/below/one", LINE * 300 + b"zz\n")
+        got = place.run(f"{url}/{kind}-threads", ["convert"], [f"{url}/in/below/one"],
+                        ["--wait", "120", "--slowest", "500000"], environment)
+        is_right = got.status == 1 and answers_in(served / f"{kind}-threads") == {"one": wanted}
+        count.add(is_right, f"{kind}, threads of one process: {got}")
         got = run(f"{url}/{kind}-parts", f"{url}/in/below/*", "parts", ["--parts"])
         parts = answers_in(served / f"{kind}-parts")
         is_right = got.status == 1 and b"".join(parts[name] for name in sorted(parts)) == wanted and len(parts) > 5

@@ -81,6 +81,29 @@ def scandir(path="."):
     return right_scandir(path)
 os.scandir = scandir
 """
+# Behind the stub of a driver: it says that it lists the folder `late`, and then waits for `go`.
+LISTS_LATE = """
+right_scandir = os.scandir
+def scandir(path="."):
+    if str(path).endswith("/late"):
+        open({folder!r} + "/listing", "w").close()
+        while not os.path.exists({folder!r} + "/go"): time.sleep(0.02)
+    return right_scandir(path)
+os.scandir = scandir
+"""
+# A run that listed its output before another one, with smaller blocks, began and ended there.
+LISTED_BEFORE = """
+import sys
+import fsspec
+from sdtool import distributed
+from sdtool.distributed import work
+memory = fsspec.filesystem("memory")
+memory.pipe("/in/x", open("x", "rb").read())
+for block in "500", "1000":
+    distributed.main(["--out", "memory://out", "--parts", "--block", block, "convert", "--", "memory://in/x"])
+    work.Place.list_all = lambda place: setattr(place, "known", set())
+sys.stdout.buffer.write(b"--" + b"".join(memory.cat(path) for path in sorted(memory.glob("/out/x/part-*"))))
+"""
 # Makes and removes files in the folder d.
 COMES_AND_GOES = """
 import os
@@ -453,6 +476,26 @@ def test_two_at_once(count, place):
         count.add([got.status for got in ends] == [3, 0] and joined == place.wanted(["convert"], "x")[0],
                   f"two at once, {options}: {sorted(answers)}: {ends[0]} and {ends[1]}")
         count.add("another run has taken it over" in ends[0].stderr, f"the first of two at once, {options}: {ends[0]}")
+
+
+def test_another_meanwhile(count, place):
+    """Another run begins and ends while one looks for its inputs: answers to other words stay as they are, and parts of
+    other blocks do not stay."""
+    place.write("late/x", LINE * 10)
+    place.hold()
+    out = place.out()
+    child = place.start_run(out, ["explain"], ["late"], (), place.behind("lists late", LISTS_LATE))
+    wait_until(child, (place.folder / "listing").exists, "a listing")
+    place.run(out, ["convert"], ["late"])
+    place.go()
+    got = runs.ended(child)
+    answers = runs.answers_in(out)
+    count.add(got.status == 3 and "has answers of 'sdtool convert'" in got.stderr
+              and answers == {"x": place.wanted(["convert"], "late/x")[0]}, f"other words meanwhile: {answers} {got}")
+    place.write("x", LINE * 100)
+    got = runs.ended(place.start([place.python, "-c", LISTED_BEFORE], stdout=subprocess.PIPE, stderr=subprocess.PIPE))
+    count.add(got.stdout.partition("--")[2].encode() == place.wanted(["convert"], "x")[0],
+              f"parts of other blocks meanwhile: {got}")
 
 
 def test_file_that_comes(count, place):
@@ -1052,8 +1095,8 @@ print(status, fsspec.filesystem("memory").cat_file("/o[1]*/x"))
 GROUPS = {
     "inputs": (test_no_inputs, test_files_that_go, test_without_versions, test_closed_folders, test_names_of_runs,
                test_packed, test_words),
-    "others": (test_parts, test_files_of_others, test_stopped_in_tidy, test_two_at_once, test_file_that_comes,
-               test_records, test_touched),
+    "others": (test_parts, test_files_of_others, test_stopped_in_tidy, test_two_at_once, test_another_meanwhile,
+               test_file_that_comes, test_records, test_touched),
     "workers": (test_other_modules, test_failing_worker, test_failed_read, test_retired, test_scheduler_of_dask,
                 test_killed_worker, test_hopes, test_many_parts, test_file_limit, test_deadly_input, test_restart,
                 test_adaptive),

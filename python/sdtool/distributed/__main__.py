@@ -20,7 +20,7 @@ from distributed.comm import CommClosedError
 from .bounded import Bounded, within
 from .engine import PATIENT_SECONDS, Engine, Job
 from .inputs import Taking, opened
-from .work import RUN, UNFINISHED, Place, Work, entries, files_of, modules_digest, move, printable
+from .work import RUN, UNFINISHED, Place, Work, entries, files_of, modules_digest, move, printable, shown_url
 
 CLOSE_SECONDS = 5
 LEAST_THREADS = 4  # without a cluster: a task that hangs keeps its thread, and others go on
@@ -48,6 +48,7 @@ def take_over(work: Work) -> None:
     own and those of earlier runs, also where several begin at once. Another one may remove what this one has written,
     until that has its name."""
     place, fs = work.place, work.place.fs
+    require_words(place, work.words)  # another run may have begun while this one looked at its inputs
     record = json.dumps({"run": work.run, "words": work.words}).encode()
     if place.renames:
         fs.makedirs(place.ours, exist_ok=True)
@@ -67,6 +68,14 @@ def take_over(work: Work) -> None:
     for folder in [place.ours, *folders]:
         if folder == place.ours or RUN.fullmatch(os.path.basename(folder)) and folder != work.mine:
             remove_run(place, folder)
+
+
+def require_words(place: Place, words: List[str]) -> None:
+    """Refuses an output that has answers to other words."""
+    there = place.words_of_run()
+    if there not in (None, words):
+        raise ValueError(f"--out: {shown_url(place.fs, place.root)} has answers of 'sdtool {' '.join(there or ())}'; "
+                         "give another folder")
 
 
 def remove_run(place: Place, folder: str) -> None:
@@ -178,9 +187,7 @@ def answered(wanted: argparse.Namespace) -> Tuple[List[Job], List[Tuple[str, str
         return bounded(f"--out: {wanted.out}", call, *arguments)
 
     place = Place(*in_output(opened, wanted.out))
-    words = in_output(place.words_of_run)
-    if words not in (None, wanted.words):
-        raise ValueError(f"--out: {wanted.out} has answers of 'sdtool {' '.join(words or ())}'; give another folder")
+    in_output(require_words, place, wanted.words)
     in_output(place.list_all)
     taking = Taking(place, wanted.parts, bounded)
     taking.take_all(wanted.urls)

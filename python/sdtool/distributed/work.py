@@ -10,6 +10,7 @@ import math
 import os
 import pickle
 import re
+import threading
 import time
 import uuid
 from typing import Any, Callable, Counter, Dict, Iterator, List, Optional, Sequence, Set, Tuple
@@ -551,7 +552,7 @@ class Work:
 
     def tidy(self, given: Given, count: int) -> None:
         """Removes parts and evidence that the answers do not need: with --parts those of other blocks, else all."""
-        fs, is_listed = self.place.fs, self.place.renames or not given.is_new
+        fs, is_listed = self.place.fs, self.place.renames or self.is_parts or not given.is_new
         unneeded = [path for path, match in (files_of(fs, given.folder, PART, EVIDENCE) if is_listed else ())
                     if not self.is_parts or int(match[1]) >= count]
         if not is_listed and not self.is_parts:
@@ -583,14 +584,20 @@ def paths_of(given: Given, index: int) -> Tuple[str, str]:
     return f"{given.folder}/part-{index:06}", f"{given.folder}/{OURS}-part-{index:06}.json"
 
 
-WORKS: Dict[str, Work] = {}  # of this process, by their runs
+class Works(threading.local):
+    """The runs that a thread knows. A connection, as of SFTP, serves one thread alone."""
+
+    def __init__(self) -> None:
+        self.by_run: Dict[str, Work] = {}
+
+
+WORKS = Works()
 
 
 def prepared(fields: Tuple[Any, ...], pickled: bytes) -> Tuple[Work, List[Any]]:
-    if fields[0] not in WORKS:
-        WORKS[fields[0]] = Work(*fields)
-    WORKS[fields[0]].require_fit()
-    return WORKS[fields[0]], pickle.loads(pickled)
+    work = WORKS.by_run.get(fields[0]) or WORKS.by_run.setdefault(fields[0], Work(*fields))
+    work.require_fit()
+    return work, pickle.loads(pickled)
 
 
 def done(worker: Any, fields: Tuple[Any, ...], pickled: bytes, key: str, avoided: Tuple[str, ...],
