@@ -75,9 +75,14 @@ def move(fs: Any, old: str, new: str) -> None:
         fs.mv(old, new)
 
 
+def has_one_connection(fs: Any) -> bool:
+    """As SFTP: two threads at once would take each other's answers."""
+    return renames(fs) and not isinstance(fs, LocalFileSystem)
+
+
 def at_once(call: Callable[[Any], Any], items: Sequence[Any], used: List[Any]) -> List[Any]:
-    """What a call gives for each item, side by side unless a file system has one connection for all, as SFTP."""
-    if len(items) < 2 or any(renames(fs) and not isinstance(fs, LocalFileSystem) for fs in used):
+    """What a call gives for each item, side by side where the file systems can do that."""
+    if len(items) < 2 or any(map(has_one_connection, used)):
         return [call(item) for item in items]
     with concurrent.futures.ThreadPoolExecutor(AT_ONCE) as threads:
         return list(threads.map(call, items))
@@ -584,18 +589,15 @@ def paths_of(given: Given, index: int) -> Tuple[str, str]:
     return f"{given.folder}/part-{index:06}", f"{given.folder}/{OURS}-part-{index:06}.json"
 
 
-class Works(threading.local):
-    """The runs that a thread knows. A connection, as of SFTP, serves one thread alone."""
-
-    def __init__(self) -> None:
-        self.by_run: Dict[str, Work] = {}
-
-
-WORKS = Works()
+WORKS: Dict[Tuple[str, int], Work] = {}  # by their runs, and by threads that share no connection
 
 
 def prepared(fields: Tuple[Any, ...], pickled: bytes) -> Tuple[Work, List[Any]]:
-    work = WORKS.by_run.get(fields[0]) or WORKS.by_run.setdefault(fields[0], Work(*fields))
+    run, thread = fields[0], threading.get_ident()
+    work = WORKS.get((run, 0)) or WORKS.get((run, thread))
+    if work is None:
+        work = Work(*fields)
+        WORKS[run, thread if has_one_connection(work.place.fs) else 0] = work
     work.require_fit()
     return work, pickle.loads(pickled)
 
