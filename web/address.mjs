@@ -46,7 +46,13 @@ const CHOICES = [
     ["kind", (state) => state, "kind", KINDS],
     ["form", (state) => state, "form", FORMS],
     ["new", (state) => state.made, "kind", ["container", "file"]],
+    ["other-form", (state) => state.other, "form", FORMS],
 ];
+/**
+ * The number of a descriptor in a text.
+ * @type {[string, (state: import("./state.mjs").State) => {chosen: number}][]}
+ */
+const CHOSEN = [["chosen", (state) => state], ["other-chosen", (state) => state.other]];
 
 // What differs from a new page, as what follows '#', or null if that is too long.
 export function addressOf(state, fresh) {
@@ -77,15 +83,17 @@ export function addressOf(state, fresh) {
     if (state.ask.rights.length) {
         words.set("rights", state.ask.rights.reduce((mask, bit) => (mask | bit) >>> 0, 0).toString(16));
     }
-    if (state.chosen) {
-        words.set("chosen", state.chosen);
+    for (const [name, holder] of CHOSEN) {
+        if (holder(state).chosen) {
+            words.set(name, String(holder(state).chosen));
+        }
     }
     const text = words.toString();
     return text.length > MOST_ADDRESS ? null : text;
 }
 
 // How each name of an address is taken into a state: whether it could be read. What can't stays as it was.
-const READERS = new Map([["level", takeLevel], ["rights", takeRights], ["chosen", takeChosen]]);
+const READERS = new Map([["level", takeLevel], ["rights", takeRights]]);
 for (const [name, holder, key, most = MOST_WORD] of FIELDS) {
     READERS.set(name, (state, value) => {
         const isShort = value.length <= most;
@@ -108,6 +116,14 @@ for (const [name, holder, key, known] of CHOICES) {
     });
 }
 
+for (const [name, holder] of CHOSEN) {
+    READERS.set(name, (state, value) => {
+        const isNumber = /^\d{1,6}$/.test(value);
+        holder(state).chosen = isNumber ? Number(value) : holder(state).chosen;
+        return isNumber;
+    });
+}
+
 // A level is one of the list of the view, or another number, which gets a line of its own in it.
 function takeLevel(state, value) {
     const isNumber = /^\d{1,10}$/.test(value) && Number(value) <= MOST_LEVEL;
@@ -124,14 +140,6 @@ function takeRights(state, value) {
     const known = rightsOf(state.kind).map(({bit}) => bit);
     state.ask.rights = bits.filter((bit) => known.includes(bit));
     return bits.length > 0 && bits.length === state.ask.rights.length;
-}
-
-function takeChosen(state, value) {
-    if (!/^\d{1,6}$/.test(value)) {
-        return false;
-    }
-    state.chosen = Number(value);
-    return true;
 }
 
 // Takes an address into a state, and gives what of it can't be read, of which a name that comes twice is a part. An

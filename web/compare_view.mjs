@@ -12,7 +12,7 @@ import {commaed, formatted, say, WORDS} from "./words.mjs";
 // The parts of the view, and what puts a text into its field.
 export function makeCompare(other, refresh) {
     const set = (value) => {
-        Object.assign(other, {text: value, chosen: 0});
+        Object.assign(other, {text: value, form: "auto", chosen: 0});
         refresh();
     };
     const {field, note, put} = longField("other-text", other.text, set, {rows: 4});
@@ -141,7 +141,7 @@ export function showCompare(result, {kind, names, onKind}, isOver) {
     const parts = [
         () => make("div", {},
             make("p", {class: `verdict ${result.isSame ? "same" : "differs"}`}, make("strong", {}, verdict)),
-            make("p", {class: "hint"}, foundText({...result.other, chosen: 0})), partLines(result, names)),
+            make("p", {class: "hint"}, foundText(result.other)), partLines(result, names)),
         (later) => (asksKind ? kindQuestion("compare", result, onKind) : rightsSection(result, kind, names, later)),
         (later) => make("div", {}, aceTable("dacl", result.dacl, kind, names, later)),
         (later) => make("div", {}, aceTable("sacl", result.sacl, kind, names, later))

@@ -344,7 +344,7 @@ function ofEach({state, from}, answer) {
     for (let chosen = from; chosen < most && (chosen === from || performance.now() < end); chosen += 1) {
         rows.push({at: chosen, name: found[chosen].name, ...answer({...state, chosen})});
     }
-    return {rows: packed(rows), next: from + rows.length, most, all: found.length, strays};
+    return {rows: packed(rows), next: from + rows.length, most, all: found.length, ...(from ? {} : {strays})};
 }
 
 // The verdicts.
@@ -532,7 +532,13 @@ function compareWith(library, {state: given, other}) {
         const shown = {
             ...found,
             ...openKind(state, [model, otherModel], other.text),
-            other: {line: second.line, dropped: second.dropped, found: second.found, form: second.form},
+            other: {
+                line: second.line,
+                dropped: second.dropped,
+                found: second.found,
+                form: second.form,
+                chosen: second.chosen
+            },
             areBelowSame: !found.dacl.some((row) => isBelow(row, inheritedBy(state.kind))),
             ...inLists((list) => found[list]),
         };

@@ -172,7 +172,7 @@ export class InputView {
 
     // Which of several descriptors is shown, by a list, or by its number if there are too many. The control stays the
     // same as long as the descriptors do, so that it keeps the focus.
-    showChosen({found = 0, names = [], chosen}) {
+    showChosen({found = 0, names = [], chosen = 0}) {
         const key = JSON.stringify([found, names]);
         if (key !== this.chosenKey) {
             this.chosenKey = key;
@@ -180,9 +180,9 @@ export class InputView {
         }
         const field = byId("chosen");
         if (field && found <= names.length) {
-            field.value = chosen;
+            field.value = String(chosen);
         } else if (field && field !== document.activeElement) {
-            field.value = chosen + 1;
+            field.value = String(chosen + 1);
         }
     }
 

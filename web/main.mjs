@@ -143,6 +143,10 @@ class Page {
         // By its address it would set the page anew.
         document.querySelector(".skip").addEventListener("click", (event) => {
             event.preventDefault();
+            // A view without the field gives way to the first one.
+            if (["lines", "report"].includes(this.state.view)) {
+                this.choose("look");
+            }
             this.input.another();
         });
         byId("theme").addEventListener("click", turnTheme);
@@ -267,6 +271,9 @@ class Page {
         this.result = null;
         this.asked = null;
         this.store.forgetKind();
+        if (this.many.begin(this.store)) {
+            this.input.showChosen({});
+        }
         clearTimeout(this.slow);
         this.slow = setTimeout(() => this.turns.tellBusy(WORDS.busy), MILLISECONDS_TO_TELL);
         return this.counted(async () => {
@@ -296,6 +303,8 @@ class Page {
             this.turns.show(view, make("p", {class: "fault-name"}, errorWords(error)));
         }
         showSentence("unknown", errorWords(error));
+        show(byId("print-head"));
+        byId("text-name").textContent = "";
         this.input.showLines(null, this.context);
         this.turns.tell(errorWords(error));
     }
@@ -306,7 +315,7 @@ class Page {
         showPrintHead(result, this.state, this.shownKind, this.version);
         document.body.classList.toggle("has-result", Boolean(result.model));
         const said = result.judged ? showVerdict(result, this.context) : "";
-        this.many.ask(result.found ?? 0, this.store, () => turn.isOver("look"));
+        this.many.ask(result.found ?? 0);
         byId("text-name").textContent = shownName(result.entry?.name ?? "");
         this.input.showLines(result, this.context);
         await this.showPermissions(result, said, () => turn.isOver("look"));
@@ -375,8 +384,13 @@ class Page {
             await this.showAnswer(view, result, showAnswer, () => turn.isOver(view));
         }
         if (view === "ask" && this.result?.found > 1 && !turn.isOver(view)) {
-            await askAll((from) => this.desk.ask("askMany", {...about, from}), () => turn.isOver(view),
-                (at) => this.set("chosen", at));
+            const onOpen = (at) => {
+                this.set("chosen", at);
+                byId("tab-ask").focus();
+            };
+            const askFrom = (from) => this.desk.ask("askMany", {...about, from});
+            await askAll(
+                askFrom, () => turn.isOver(view), onOpen, this.state.ask.rights.length > 0 ? this.shownKind : null);
         }
     }
 

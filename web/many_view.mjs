@@ -3,7 +3,7 @@
 import {answerInWords, faultsOf} from "./ask_view.mjs";
 import {linesOf} from "./desk.mjs";
 import {button, byId, make, show, someRows} from "./dom.mjs";
-import {everybodyClass} from "./meanings.mjs";
+import {everybodyClass, hasOwnMapping, mappingOf} from "./meanings.mjs";
 import {faultInWords, shownName} from "./naming.mjs";
 import {sentenceOf} from "./sentences.mjs";
 import {speak} from "./speech.mjs";
@@ -62,11 +62,18 @@ class TableOfMany {
         byId(`${this.id}-${verdict || "all"}`).focus();
     }
 
-    // Chooses one of two to compare, in the place of the older one.
+    // Chooses one of two to compare, in the place of the older one. The rows stay as they are, open and with the focus.
     choose(at, isChosen) {
-        this.chosen = [...this.chosen.filter((one) => one !== at), ...(isChosen ? [at] : [])].slice(-2);
-        this.show(this.rows);
-        byId(`${this.id}-choose-${at}`)?.focus();
+        const chosen = [...this.chosen.filter((one) => one !== at), ...(isChosen ? [at] : [])];
+        this.chosen = chosen.slice(-2);
+        for (const older of chosen.slice(0, -2)) {
+            /** @type {HTMLInputElement | null} */
+            const box = document.querySelector(`#${this.id}-choose-${older}`);
+            if (box) {
+                box.checked = false;
+            }
+        }
+        this.showCompare();
     }
 
     // Rows with the same verdict, sentence and kind together.
@@ -99,13 +106,13 @@ class TableOfMany {
     }
 
     // The button that compares two, of which more than two have to be chosen.
-    compare() {
+    showCompare() {
         const descriptors = this.rows.filter(({at}) => at !== null);
         const two = descriptors.length === 2 ? descriptors.map(({at}) => at) :
                                                [...this.chosen].sort((one, other) => one - other);
-        return two.length === 2 && this.acts.onCompare ?
-            button(words.compare, () => this.acts.onCompare(...two), {class: "add", id: `${this.id}-compare`}) :
-            null;
+        show(this.comparePlace,
+            two.length === 2 && this.acts.onCompare &&
+                button(words.compare, () => this.acts.onCompare(...two), {class: "add", id: `${this.id}-compare`}));
     }
 
     nameOf({at, name}) {
@@ -152,9 +159,11 @@ class TableOfMany {
             (some) => say(WORDS.grid.more, {count: some}), {step: MOST_ROWS});
         const columns = Object.values(words.columns).map((text) => make("th", {scope: "col"}, text));
         const about = {"aria-labelledby": `${id}-heading`};
+        this.comparePlace = make("span");
+        this.showCompare();
         show(byId(id),
             make("section", about, make("h2", {id: `${id}-heading`}, heading),
-                make("p", {class: "adds"}, this.filters(), this.compare()),
+                make("p", {class: "adds"}, this.filters(), this.comparePlace),
                 make("div", {class: "scroll", tabindex: "0", role: "region", ...about},
                     make("table", {class: "many", ...about}, make("thead", {}, make("tr", {}, columns)), body)),
                 more));
@@ -178,8 +187,7 @@ function showVerdictOfMany({rows, all, most, strays}) {
             strays.length ? words.oneStray :
                             ""
     ].filter(Boolean);
-    showSentence(worst, sentence, reasons);
-    return [sentence, ...reasons].join(". ");
+    return showSentence(worst, sentence, reasons);
 }
 
 // Asks for the verdicts on all descriptors of a text, some at a time, and shows them when all have come.
@@ -189,32 +197,39 @@ export class ManyView {
         this.askFrom = ask;
         this.about = "";
         this.told = null;
+        this.shown = [];
         this.table = new TableOfMany("many", VERDICTS, words.heading, acts);
     }
 
-    async ask(found, store, isOver) {
+    // Forgets what was told of other texts. Gives whether these are others.
+    begin(store) {
         this.store = store;
         const about = JSON.stringify(store.aboutMany);
-        if (this.about !== about) {
-            this.about = about;
-            this.told = null;
+        const isOther = this.about !== about;
+        if (isOther) {
+            Object.assign(this, {about, told: null, isAsked: false});
             this.table.forget();
             show(byId("one"));
-            const told = found < 2 ? null : await gathered(this.askFrom, () => this.about !== about);
-            if (!told) {
+        }
+        return isOther;
+    }
+
+    async ask(found) {
+        const {about} = this;
+        if (found > 1 && !this.isAsked) {
+            this.isAsked = true;
+            const told = await gathered(this.askFrom, () => this.about !== about);
+            if (this.about !== about) {
                 return;
             }
             this.told = told;
         }
-        if (!isOver()) {
+        if (this.told) {
             this.show();
         }
     }
 
     show() {
-        if (!this.told) {
-            return;
-        }
         const {names, state} = this.store;
         speak(showVerdictOfMany(this.told));
         const rows = this.told.rows.map(
@@ -226,27 +241,38 @@ export class ManyView {
             one &&
                 say(words.one,
                     {name: shownName(one.name) || say(words.noName, {number: one.at + 1}), sentence: one.sentence}));
-        this.table.show([...rows, ...strays]);
+        // A table that says the same stays, and keeps the focus.
+        if (this.shown[0] !== this.told || this.shown[1] !== names) {
+            this.shown = [this.told, names];
+            this.table.show([...rows, ...strays]);
+        }
     }
 }
 
+// Whether a right has the same bit for both kinds.
+const haveSameRights = (kind, other) =>
+    kind === other || ![kind, other].some((one) => !one || hasOwnMapping(one)) && mappingOf(kind) === mappingOf(other);
+
 /**
- * What a token gets of a descriptor, as a row.
+ * What a token gets of a descriptor, as a row. Rights that were chosen by their boxes are those of one kind.
  * @param {any} told
  */
-function rowOfAnswer(told) {
+function rowOfAnswer(told, kindOfRights) {
     const {at, name, kind, asksKind, descriptorFault, ...answer} = told;
-    const [fault] = descriptorFault ? [faultInWords(descriptorFault)] :
-        asksKind                    ? [WORDS.verdict.kindOpen] :
-                                      faultsOf(answer);
+    const [fault] = descriptorFault                                  ? [faultInWords(descriptorFault)] :
+        asksKind                                                     ? [WORDS.verdict.kindOpen] :
+        kindOfRights !== null && !haveSameRights(kind, kindOfRights) ? [words.otherRights] :
+                                                                       faultsOf(answer);
     const verdict = fault ? "unknown" : answer.verdict.granted ? "granted" : "denied";
     return {at, name, kind: kind ?? "", verdict, sentence: fault ?? answerInWords(answer, kind)};
 }
 
-// Asks what a token gets of each descriptor of a text, and shows it.
-export async function askAll(ask, isOver, onOpen) {
+// Asks what a token gets of each descriptor of a text, and shows it. Wanted rights are of a kind, or null if there are
+// none.
+export async function askAll(ask, isOver, onOpen, kindOfRights) {
     const told = await gathered(ask, isOver);
     if (told) {
-        new TableOfMany("ask-all", ANSWERS, words.askHeading, {onOpen}).show(told.rows.map(rowOfAnswer));
+        new TableOfMany("ask-all", ANSWERS, words.askHeading, {onOpen})
+            .show(told.rows.map((row) => rowOfAnswer(row, kindOfRights)));
     }
 }

@@ -7,15 +7,17 @@ import {formatted, say, WORDS} from "./words.mjs";
 const MOST_TEXT = 3000; // characters of a descriptor
 const MOST_ROWS = 2000; // of all tables
 
-// Of what the answers are: the name, the kind, and options that differ from those of a new page.
-function optionsInWords(result, {domain, object, classes, common}, kind) {
+// Of what the answers are: the name, the kind, and options that differ from those of a new page, each in a line of its
+// own, so that no name passes for an option.
+function optionLines(result, {domain, object, classes, common}, kind) {
     const {kinds, kindLabel, domainLabel, objectLabel, classesLabel, print} = WORDS;
     const options = [
         [print.name, shownName(result.entry?.name ?? "")], [kindLabel, valueIn(kinds, kind) ?? ""],
         [domainLabel, domain], [objectLabel, object], [classesLabel, classes]
     ];
-    const told = options.filter(([, value]) => value).map(([name, value]) => `${name}: ${visible(value)}`);
-    return [...told, ...(common ? [] : [print.alone])].join("; ");
+    const told = options.filter(([, value]) => value).map(([name,
+        value]) => make("p", {}, `${name}: `, make("bdi", {}, visible(value))));
+    return [...told, ...(common ? [] : [make("p", {}, print.alone)])];
 }
 
 export function showPrintHead(result, state, kind, version) {
@@ -23,7 +25,7 @@ export function showPrintHead(result, state, kind, version) {
     const text = visible(line.slice(0, MOST_TEXT));
     const date = new Date().toLocaleDateString(WORDS.language);
     show(byId("print-head"), make("h1", {}, WORDS.print.heading), make("p", {}, say(WORDS.print.made, {version, date})),
-        make("p", {}, optionsInWords(result, state, kind)),
+        optionLines(result, state, kind),
         make("p", {}, `${WORDS.print.text}: `,
             make("code", {},
                 line.length > MOST_TEXT ? say(WORDS.addressLong, {text, count: formatted(line.length)}) : text)));

@@ -6,7 +6,7 @@ import {hush, speak} from "./speech.mjs";
 const OLDER = "older";
 
 // What else is shown of a text.
-const OF_TEXT = ["found", "print-head", "first", "lines", "ace-words"];
+const OF_TEXT = ["found", "print-head", "first", "text-name", "lines", "ace-words"];
 
 // Where the answer of a view is shown.
 export const placeOf = (view) => byId(view === "look" ? "view-look" : `${view}-result`);

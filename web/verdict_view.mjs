@@ -17,30 +17,26 @@ export function makeVerdict(kind, setKind) {
     ];
 }
 
-// Shows a verdict that has no answer behind it, such as that there was no time for one.
+// Shows a verdict, and gives what a screen reader says of it.
 export function showSentence(verdict, sentence, reasons = []) {
     const {verdict: words} = WORDS;
+    const word = valueIn(words.words, verdict);
     byId("first").dataset.verdict = verdict;
     byId("sign").textContent = valueIn(words.signs, verdict);
-    byId("sentence")
-        .replaceChildren(
-            make("span", {class: "unseen"}, `${valueIn(words.words, verdict)} `), make("span", {}, sentence));
+    byId("sentence").replaceChildren(make("span", {class: "unseen"}, `${word} `), make("span", {}, sentence));
     byId("sentence-why").textContent = reasons.join(" ");
     byId("first").hidden = false;
+    return `${word} ${[sentence.replace(/\.$/, ""), ...reasons].join(". ").replace(/\.\. /g, ". ")}`;
 }
 
 // Shows the verdict of an answer, and gives what a screen reader says of it.
 export function showVerdict(result, {names, onKind}) {
     const {judged, asksKind, kinds = []} = result;
-    const [sentence, reasons] = [sentenceOf(judged, names, result), reasonsOf(judged, names, result)];
-    showSentence(judged.verdict, sentence, reasons);
     show(byId("chips"),
         asksKind &&
             kinds.slice(0, MOST_CHIPS)
                 .map((kind) => [button(
                                     valueIn(WORDS.kinds, kind), () => onKind(kind), {class: "chip", "data-kind": kind}),
                          " "]));
-    const {words} = WORDS.verdict;
-    return `${valueIn(words, judged.verdict)} ${
-            [sentence.replace(/\.$/, ""), ...reasons].join(". ").replace(/\.\. /g, ". ")}`;
+    return showSentence(judged.verdict, sentenceOf(judged, names, result), reasonsOf(judged, names, result));
 }

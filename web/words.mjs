@@ -304,6 +304,7 @@ export const WORDS = {
         oneStray: "1 line is no descriptor.",
         strays: "{count} lines are no descriptors.",
         askHeading: "What it gets of each",
+        otherRights: "The wanted rights are those of another kind of object",
         answers: {
             signs: {granted: "\u2713", denied: "\u2715", unknown: "?"},
             words: {granted: "Granted:", denied: "Denied:", unknown: "Unknown:"},

@@ -161,9 +161,11 @@ def test_stopped(count, page, given):
 def test_broken(count, page, _):
     """A worker that breaks is ended, and another one answers."""
     page.open(is_limited=True)
-    page.see("O:BAD:(A;;FA;;;WD)")
+    page.see("C:\\Data O:BAD:(A;;FA;;;WD)")
     got = page.call("breakWorker", "O:SY")
     count.add("out of memory" in got["found"] and "out of memory" in got["look"], f"a broken worker: {got}")
+    got = page.do("return ['print-head', 'text-name', 'lines'].map((id) => byId(id).textContent);")
+    count.add(got == ["", "", ""], f"beside a text without an answer stands {got}")
     shown = page.see_in_time("O:BAD:(A;;FR;;;BU)")
     count.add("Users" in shown, f"the text after a broken worker: {shown[:200]}")
 

@@ -155,11 +155,19 @@ def test_several_verdicts(count, page, _):
                   "byId('many-compare').click(); await until(isIdle); return [byId('chosen').value, "
                   "document.body.dataset.view, document.querySelector('#compare-result .verdict').textContent];")
     count.add(got == ["0", "compare", "The two differ."], f"two of them: {got}")
+    told = page.do("return byId('compare-result').textContent;")
+    count.add("5 descriptors, this is number 2" in told, f"the other one of two: {told[:200]}")
     page.do("byId('tab-look').click();")
-    got = page.do("document.querySelector('tr[data-verdict=named] .open').click(); "
-                  "await until(isIdle); return [byId('one').textContent, byId('chosen').value];")
+    got = page.do("const one = document.querySelector('tr[data-verdict=named] .open'); one.focus(); one.click(); "
+                  "await until(isIdle); return [byId('one').textContent, byId('chosen').value, "
+                  "document.activeElement === one];")
     sentence = "C:\\Ann: Account 1105 can modify this folder, beside administrators"
-    count.add(got == [sentence, "4"], f"one of them: {got}")
+    count.add(got == [sentence, "4", True], f"one of them: {got}")
+    got = page.do("const others = document.querySelector('.others'); others.open = true; const boxes = "
+                  "['0', '1', '4', '3'].map((at) => byId(`many-choose-${at}`)); boxes.slice(2).forEach((box) => { "
+                  "box.focus(); box.click(); }); return [others.isConnected && others.open, boxes.map((box) => "
+                  "box.checked), document.activeElement === boxes[3]];")
+    count.add(got == [True, [False, False, True, True], True], f"two of them are chosen: {got}")
     answers = ("await until(() => isIdle() && byId('ask-all-heading')); return each('#ask-all tbody tr', (row) => "
                "[row.dataset.verdict, row.querySelectorAll('.open').length, row.querySelector('.open').textContent, "
                "row.cells[3].textContent]);")
@@ -169,12 +177,25 @@ def test_several_verdicts(count, page, _):
               ["unknown", 1, "C:\\Wrong", "This is no SID. (error 25 sid-form)"],
               ["denied", 3, "C:\\Fine", "Nothing is granted."]]
     count.add(got == wanted, f"what a token gets of each: {got}")
+    got = page.do("document.querySelector('#ask-all .open').click(); await until(isIdle); "
+                  "return document.activeElement.id;")
+    count.add(got == "tab-ask", f"one of the answers is opened: the focus is on {got}")
+    # Wanted rights are those of one kind, which may have the same bits as others of another one.
+    page.do(f"{PASTE} byId('tab-ask').click(); put('ask-token', 'BU'); put('ask-maximum', false); "
+            "put('ask-right-2', true);",
+            "C:\\Data\nO:BAD:(A;;FA;;;BU)\nHKLM\\Software\nO:BAD:(A;;KA;;;BU)\n")
+    got = page.do(answers)
+    wanted = [["granted", 1, "C:\\Data", "Granted: add files"],
+              ["unknown", 1, "HKLM\\Software", "The wanted rights are those of another kind of object"]]
+    count.add(got == wanted, f"rights of one kind, wanted of another: {got}")
     page.do("byId('tab-look').click();")
     page.do(f"{PASTE} await until(() => byId('many-heading'));", pasted + "C:\\Gone: access is denied\n")
     got = page.do("return [byId('sentence-why').textContent, each('table.many tbody tr', (row) => "
                   "row.cells[1].textContent)];")
     is_told = "1 line is no descriptor." in got[0] and "C:\\Gone: access is denied" in got[1]
     count.add(is_told, f"a line that is none: {got}")
+    got = page.do("put('text', 'D:P'); return ['many', 'one', 'chosen-field'].map((id) => byId(id).textContent);")
+    count.add(got == ["", "", ""], f"beside a newer text stands {got}")
 
 
 def test_many_trustees(count, page, _):
@@ -226,10 +247,12 @@ def test_print(count, page, _):
     the date."""
     page.open()
     sids = [f"S-1-5-21-1-2-3-{number}" for number in range(1000, 1100)]
-    text = "C:\\Data D:" + "".join(f"(A;;{right};;;{sid})" for sid in sids for right in ("FR", "DC"))
+    text = "C:\\Data; Object: Key D:" + "".join(f"(A;;{right};;;{sid})" for sid in sids for right in ("FR", "DC"))
     page.see(text)
     page.do("put('domain', 'S-1-5-21-1-2-3'); put('common', false); await until(isIdle); byId('share-text').focus();")
     shown = page.do("return [new Date().toLocaleDateString('en'), byId('version').textContent];")
+    lines = page.texts("#print-head p")
+    count.add("Name: C:\\Data; Object: Key" in lines, f"a name on paper: {lines}")
     paper = on_paper(page.browser)
     if paper is None:
         print("skipped: pdftotext (Debian: poppler-utils) and gs (Debian: ghostscript)")
@@ -323,6 +346,9 @@ def test_address(count, page, _):
         count.add(after == before, f"after {act} the address is {after}, not {before}")
     got = page.do("return [byId('text').value, document.activeElement.id, byId('unread')];")
     count.add(got == [text, "text", None], f"the link to the field leads to {got}")
+    got = page.do("byId('tab-lines').click(); document.querySelector('.skip').click(); await until(isIdle); return "
+                  "[document.activeElement.id, byId('text').checkVisibility()];")
+    count.add(got == ["text", True], f"the link to the field leads from a view without it to {got}")
     page.do("put('domain', ''); put('names', ''); byId('tab-ask').click(); await until(isIdle);")
     link = page.do("byId('share-link').click(); await until(() => byId('copied-text')); return "
                    "byId('copied-text').value;")

@@ -60,6 +60,9 @@ test("an address sets all that it can, and keeps what is in none", () => {
     assert.equal(store.hasFormOfText && store.hasKindOfText, true);
     assert.deepEqual(store.begin(addressOf({...freshState(), text: "D:AI"}, freshState())), []);
     assert.deepEqual([store.state.text, store.state.isKindChosen], ["D:AI", false]);
+    const other = {text: "RDo=\nRDpQ", form: "base64", chosen: 1};
+    assert.deepEqual(store.begin(addressOf({...freshState(), chosen: 2, other}, freshState())), []);
+    assert.deepEqual([store.state.chosen, store.state.other], [2, other]);
 });
 
 test("names are the user's own before those of a report", () => {
