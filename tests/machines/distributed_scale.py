@@ -14,7 +14,7 @@ import preload
 
 LINE = runs.LINE
 STORE = pathlib.Path(__file__).resolve().with_name("simulated_store")
-TASKS, FILES = 2_000, 1500
+TASKS, FILES = 1000, 1500
 # Objects of 100 MB in blocks of 64 MB, of which a connection to the store takes 50 MB a second. Here a byte is a
 # thousand. 100,000 of them are 10 TB, and of these the test answers some.
 OBJECTS, SOME, BYTES, BLOCK, SPEED = 100_000, 1000, 100_000, 64_000, 50_000
@@ -57,14 +57,19 @@ def processor_seconds(child):
     return (int(fields[11]) + int(fields[12])) / os.sysconf("SC_CLK_TCK")
 
 
+def start_worker(place, address, threads, environment=None):
+    place.start_of_dask("dask_worker", address, "--nthreads", str(threads), "--no-nanny", "--memory-limit", "0",
+                        environment=environment)
+
+
 def test_tasks(count, place):
-    """Thousands of tasks, and of small files."""
+    """A thousand tasks, each of one line, and more small files."""
     place.write("tasks", LINE * TASKS)
     for number in range(FILES):
         place.write(f"files/{number}", LINE * 16)
     _, address = place.start_scheduler()
     for _ in range(2):
-        place.start_worker(address)
+        start_worker(place, address, 8)
     place.wait_for_workers(address, 2)
     place.asked(address, WATCH)
     for given, block, made in ("tasks", str(len(LINE)), 1), ("files", "64000000", FILES):
@@ -102,8 +107,7 @@ def test_machines(count, place):
     environment = simulated(place, "store", SOME, BYTES)
     scheduler, address = place.start_scheduler()
     for _ in range(PROCESSES):
-        place.start_of_dask("dask_worker", address, "--nthreads", str(MACHINES * THREADS // PROCESSES), "--no-nanny",
-                            "--memory-limit", "0", environment=environment)
+        start_worker(place, address, MACHINES * THREADS // PROCESSES, environment)
     place.wait_for_workers(address, PROCESSES)
     before, children = processor_seconds(scheduler), resource.getrusage(resource.RUSAGE_CHILDREN)
     began = runs.time.monotonic()
