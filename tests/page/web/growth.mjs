@@ -26,7 +26,8 @@ const [FEW, FEWEST] = [3, 50]; // repetitions: those that show a process what it
 // takes less of a text of the greatest length is no slow one.
 const [LEAST_TIME, LONGEST] = [5_000, 1 << 17];
 const MOST_FOR_EACH = 2.6;
-const DOUBLINGS = 3; // of which each takes too much: a limit of a reader may lie between two lengths
+// Each of these takes too much. Texts that outgrow the processor's caches take more than twice the time once or twice.
+const DOUBLINGS = 4;
 const TRIES = 5;     // of which the shortest time counts
 const ENCODER = new TextEncoder();
 const itemsOf = (text) => text.split(",");
