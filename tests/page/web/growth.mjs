@@ -28,7 +28,7 @@ const [LEAST_TIME, LONGEST] = [5_000, 1 << 17];
 const MOST_FOR_EACH = 2.6;
 // Each of these takes too much. Texts that outgrow the processor's caches take more than twice the time once or twice.
 const DOUBLINGS = 4;
-const TRIES = 5;     // of which the shortest time counts
+const TRIES = 5; // of which the shortest time counts
 const ENCODER = new TextEncoder();
 const itemsOf = (text) => text.split(",");
 const stateOf = (text) => ({...freshState(), text, kind: "ds", isKindChosen: true});
