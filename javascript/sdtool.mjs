@@ -30,7 +30,7 @@ const IN_WORDS = {
 };
 const ARGUMENTS = [
     null, "domain", "sids", "entries", "objectType", "principalSelf", "mapping", "creator", "owner", "group", "kind",
-    "number", "sid", "sacl", "dacl", "token", "changes"
+    "number", "sid", "sacl", "dacl", "token", "changes", "options"
 ];
 const LISTS = {
     __proto__: null,
@@ -45,14 +45,14 @@ const STATES = {
     null: 1,
     list: 2
 };
-// Where a call writes the numbers of its outcome, and a check its verdict. The module has the structs of sdtool.h as a
-// 32-bit machine lays them out.
-const FAULT_AT = 0, PART_AT = 4, OTHER_PART_AT = 8, ARGUMENT_AT = 12, ENTRY_AT = 16, LENGTH_AT = 20, MASK_AT = 20,
-      GRANTED_AT = 24;
+// Where a call writes the numbers of its outcome, and a check its verdict behind them. The module has the structs of
+// sdtool.h as a 32-bit machine lays them out.
+const FAULT_AT = 0, PART_AT = 4, OTHER_PART_AT = 8, ARGUMENT_AT = 12, ENTRY_AT = 16, LENGTH_AT = 20, MASK_AT = 24,
+      GRANTED_AT = 28;
 // Where sdtool_place and sdtool_sddl_place write a place.
 const OF_PART_AT = 4, OF_ACE_AT = 8, OF_FIELD_AT = 12, OFFSET_AT = 16, RANGE_AT = 20;
 // Where sdtool_parts writes what it finds. A place is an offset and a size, and that of an ACL is behind its state.
-const CONTROL_AT = 12, MANAGER_AT = 14, OWNER_AT = 16, GROUP_AT = 24, SACL_AT = 32, DACL_AT = 48, PLACE_OF_ACL = 8;
+const CONTROL_AT = 24, MANAGER_AT = 26, OWNER_AT = 28, GROUP_AT = 36, SACL_AT = 44, DACL_AT = 60, PLACE_OF_ACL = 8;
 // Where sdtool_next_ace does.
 const ACE_MASK_AT = 4, KIND_AT = 12, FLAGS_AT = 13, OBJECT_AT = 24, INHERITED_AT = 32, SID_AT = 40, ACE_SIZE = 48;
 // Where sdtool_build reads a descriptor and an ACE to build. SIDs and GUIDs are a pointer and a size.
@@ -66,9 +66,9 @@ const CHANGE_SIZE = 208, CHANGE_ACL_AT = 4, CHANGE_PLACE_AT = 8, COMPARE_AT = 12
 const COMPARE_KIND = 1, COMPARE_MASK = 2, TYPE_NONE = 1, TYPE_GIVEN = 2;
 // Where sdtool_order writes what it finds.
 const SACL_ORDER_AT = 24, DACL_ORDER_AT = 28;
-const BYTES_SIZE = 8, VERDICT_SIZE = 28, REASON_SIZE = 4;
+const BYTES_SIZE = 8, VERDICT_SIZE = 32, REASON_SIZE = 4;
 // Where sdtool_derive_origins writes how many origins there are, and an origin what it says.
-const SACL_COUNT_AT = 20, DACL_COUNT_AT = 24, FROM_CREATOR_AT = 2, INHERIT_ONLY_AT = 3, ORIGIN_SIZE = 4;
+const SACL_COUNT_AT = 24, DACL_COUNT_AT = 28, FROM_CREATOR_AT = 2, INHERIT_ONLY_AT = 3, ORIGIN_SIZE = 4;
 const RIGHTS = 25, NO_PLACE = 0xffff; // right by right a reason, and what stands in it for no ACE
 // The faults that have a place.
 const OF_BYTES = {
@@ -121,6 +121,7 @@ const CHANGES = {
     control: {number: 10, setControl: false, clearControl: false},
 };
 const DENY_ONLY = 1;
+const HAS_LEVEL = 1, SECURITY = 2, TAKE_OWNERSHIP = 4, MAXIMUM = 1; // options of who asks, and that of a request
 const MOST_SIDS = 1024, TOKEN_FRONT = 2, TOKEN_SID = 20; // numbers of 32 bits that a token has, and has for each SID
 const MOST_TOKEN = 4 * (TOKEN_FRONT + TOKEN_SID * MOST_SIDS);
 const MOST_BYTES = 131226, MOST_TEXT = 1049872, MOST_SID = 68, MOST_SID_TEXT = 183, MOST_MESSAGE = 64;
@@ -130,7 +131,7 @@ const SHORT_TEXT = 64;                                   // the version, or the 
 const FIRST_ANSWERS = 4096;                              // of a run; more take a second call
 const MOST_OF_CALL = 1024, MOST_BYTES_OF_CALL = 1 << 20; // descriptors that one call checks, if it is not one
 const STRUCTS = 80;               // bytes for what a call returns, and for the request of a check
-const REQUEST = 64;               // where in them the request is
+const REQUEST = 48;               // where in them the request is
 const MOST_ROOM = 0xffff0000;     // the module's memory has no more
 const MOST_INPUT = MOST_ROOM / 5; // of a run, with the least room for its answers
 const MOST_ACL = 0xffff;          // bytes
@@ -647,6 +648,8 @@ const ofRequest = {
 };
 const DOMAIN = namesFor({domain: optional(sidOf)});
 const PRINTING = namesFor({domain: optional(sidOf), numeric: optional(flagOf)});
+const optionsOf = (level, security, takeOwnership) =>
+    (level === null ? 0 : HAS_LEVEL) + security * SECURITY + takeOwnership * TAKE_OWNERSHIP;
 const TOKEN = namesFor({...ofToken}), REQUESTED = namesFor({...ofRequest}),
       ASKED = namesFor({...ofRequest, ...ofToken});
 const ASKER = namesFor({...ofAsker}), ASKERS = namesFor({...ofAsker, ...ofToken});
@@ -972,8 +975,7 @@ class Sdtool {
     }) {
         return {
             inputs: listOf(objectType, this.#sid(principalSelf, "principalSelf")),
-            numbers: listOf(wanted, mapping, level ?? 0),
-            flags: listOf(level === null ? 0 : 1, maximum, security, takeOwnership),
+            numbers: listOf(mapping, level ?? 0, optionsOf(level, security, takeOwnership), wanted, maximum * MAXIMUM),
         };
     }
 
@@ -988,8 +990,7 @@ class Sdtool {
     }) {
         return {
             inputs: listOf(objectType, this.#sid(principalSelf, "principalSelf")),
-            numbers: listOf(mapping, level ?? 0),
-            flags: listOf(level === null ? 0 : 1, security, takeOwnership),
+            numbers: listOf(mapping, level ?? 0, optionsOf(level, security, takeOwnership)),
         };
     }
 
@@ -997,16 +998,14 @@ class Sdtool {
     #question(sids, options, isWhy = false) {
         const {inputs, enabled, count} = this.#token(sids, options.denyOnly);
         const asked = isWhy ? this.#asker(options) : this.#asked(options);
-        return {inputs: addAll(inputs, asked.inputs), enabled, count, numbers: asked.numbers, flags: asked.flags};
+        return {inputs: addAll(inputs, asked.inputs), enabled, count, numbers: asked.numbers};
     }
 
     // Writes the request of a question. Gives its place.
-    #request({numbers, flags}) {
+    #request({numbers}) {
         const request = this.#room + REQUEST;
         for (let index = 0; index < numbers.length; index += 1)
             setU32(this.#view, request + 4 * index, numbers[index], true);
-        for (let index = 0; index < flags.length; index += 1)
-            setU8(this.#view, request + 4 * numbers.length + index, flags[index]);
         return request;
     }
 

@@ -12,25 +12,26 @@ _STATUS_STOPPED, _STATUS_NO_MEMORY = 3, 4
 _NO_MEMORY = 72
 _MOST_MESSAGE, _MOST_SIDS, _RIGHTS, _MOST_DERIVED_ACES = 64, 1024, 25, 4095
 _U8, _U16, _U32, _SIZE, _BOOL = ctypes.c_uint8, ctypes.c_uint16, ctypes.c_uint32, ctypes.c_size_t, ctypes.c_bool
-_FAULT: List[Tuple[str, Any]] = [("fault", _U32), ("part", _U32), ("other_part", _U32)]
+# The options of who asks, and the one of a request.
+_HAS_LEVEL, _SECURITY, _TAKE_OWNERSHIP = 1, 2, 4
+_MAXIMUM = 1
 
 
 class _Outcome(ctypes.Structure):
-    _fields_ = [*_FAULT, ("argument", _U32), ("entry", _SIZE), ("length", _SIZE)]
+    _fields_ = [("fault", _U32), ("part", _U32), ("other_part", _U32), ("argument", _U32), ("entry", _SIZE),
+                ("length", _SIZE)]
 
 
 class _Verdict(ctypes.Structure):
-    _fields_ = [*_FAULT, ("argument", _U32), ("entry", _SIZE), ("mask", _U32), ("granted", _BOOL)]
-
-
-class _Request(ctypes.Structure):
-    _fields_ = [("wanted", _U32), ("mapping", _U32), ("level", _U32), ("has_level", _BOOL), ("maximum", _BOOL),
-                ("security", _BOOL), ("take_ownership", _BOOL)]
+    _fields_ = [("outcome", _Outcome), ("mask", _U32), ("granted", _BOOL)]
 
 
 class _Asker(ctypes.Structure):
-    _fields_ = [("mapping", _U32), ("level", _U32), ("has_level", _BOOL), ("security", _BOOL),
-                ("take_ownership", _BOOL)]
+    _fields_ = [("mapping", _U32), ("level", _U32), ("options", _U32)]
+
+
+class _Request(ctypes.Structure):
+    _fields_ = [("asker", _Asker), ("wanted", _U32), ("options", _U32)]
 
 
 class _Reason(ctypes.Structure):
@@ -42,7 +43,7 @@ class _Origin(ctypes.Structure):
 
 
 class _Origins(ctypes.Structure):
-    _fields_ = [*_FAULT, ("argument", _U32), ("entry", _SIZE), ("sacl_count", _SIZE), ("dacl_count", _SIZE)]
+    _fields_ = [("outcome", _Outcome), ("sacl_count", _SIZE), ("dacl_count", _SIZE)]
 
 
 class _Ending(ctypes.Structure):
@@ -62,8 +63,8 @@ class _AclPlace(ctypes.Structure):
 
 
 class _Contents(ctypes.Structure):
-    _fields_ = [*_FAULT, ("control", _U16), ("resource_manager", _U8), ("owner", _Place), ("group", _Place),
-                ("sacl", _AclPlace), ("dacl", _AclPlace)]
+    _fields_ = [("outcome", _Outcome), ("control", _U16), ("resource_manager", _U8), ("owner", _Place),
+                ("group", _Place), ("sacl", _AclPlace), ("dacl", _AclPlace)]
 
 
 class _Ace(ctypes.Structure):
@@ -213,6 +214,11 @@ def _refuse(outcome: Any, given: Optional[bytes] = None, domain: Optional[bytes]
     _raises(outcome.fault, outcome.part, outcome.other_part, outcome.argument, outcome.entry, given, domain)
 
 
+def _fault_told(outcome: Any, given: Optional[bytes], domain: Optional[bytes]) -> Any:
+    """The Fault that _refuse raises."""
+    return _fault_of(outcome.fault, outcome.part, outcome.other_part, outcome.argument, outcome.entry, given, domain)
+
+
 def _answer(call: Callable[..., Any], *arguments: Any, given: Optional[bytes] = None,
             domain: Optional[bytes] = None) -> bytes:
     """What a call gives. The fault may be one of the descriptor, or of the text under a domain, that was given."""
@@ -304,8 +310,8 @@ def origins(parent: bytes, creator: Optional[bytes], owner: bytes, group: bytes,
     sacl, dacl = (_Origin * _MOST_DERIVED_ACES)(), (_Origin * _MOST_DERIVED_ACES)()
     told = _library.sdtool_derive_origins(*_in(parent), *_in(creator), *_in(owner), *_in(group), kind, mapping,
                                           sacl, len(sacl), dacl, len(dacl))
-    if told.fault != _OK:
-        _refuse(told)
+    if told.outcome.fault != _OK:
+        _refuse(told.outcome)
     size = ctypes.sizeof(_Origin)
     return ctypes.string_at(sacl, size * told.sacl_count), ctypes.string_at(dacl, size * told.dacl_count)
 
@@ -362,8 +368,9 @@ def token(sids: bytes, entries: bytes) -> Any:
 
 def question(token: Any, object_type: Optional[bytes], principal_self: Optional[bytes], wanted: int,
              mapping: int, level: int, has_level: bool, maximum: bool, security: bool, take_ownership: bool) -> Any:
-    return token, (*_in(object_type), *_in(principal_self),
-                   _Request(wanted, mapping, level, has_level, maximum, security, take_ownership))
+    options = _HAS_LEVEL * has_level | _SECURITY * security | _TAKE_OWNERSHIP * take_ownership
+    asker = _Asker(mapping, level, options)
+    return token, (*_in(object_type), *_in(principal_self), _Request(asker, wanted, _MAXIMUM * maximum))
 
 
 def ask(checker: Any, question: Any) -> bool:
@@ -378,8 +385,8 @@ def check(question: Any, descriptor: Any) -> Any:
     data = _read_layout("descriptor", descriptor)
     (numbers, _), asked = question
     verdict = _library.sdtool_check_with(data, len(data), *numbers, *asked)
-    if verdict.fault != _OK:
-        _refuse(verdict, data)
+    if verdict.outcome.fault != _OK:
+        _refuse(verdict.outcome, data)
     return _verdict_of(verdict)
 
 
@@ -396,8 +403,7 @@ def check_many(question: Any, descriptors: Iterable[Any]) -> List[Any]:
     outcome = _library.sdtool_check_many(given, count, *sids, *asked, verdicts, count)
     if outcome.fault != _OK:
         _refuse(outcome)
-    return [_verdict_of(verdict) if verdict.fault == _OK else
-            _fault_of(verdict.fault, verdict.part, verdict.other_part, verdict.argument, verdict.entry, data, None)
+    return [_verdict_of(verdict) if verdict.outcome.fault == _OK else _fault_told(verdict.outcome, data, None)
             for verdict, data in zip(verdicts, layouts)]
 
 
@@ -405,9 +411,8 @@ def reasons(question: Any, descriptor: Any) -> bytes:
     """The reasons for all rights, as struct sdtool_reason has them."""
     data = _read_layout("descriptor", descriptor)
     (numbers, _), (*asked, request) = question
-    asker = _Asker(request.mapping, request.level, request.has_level, request.security, request.take_ownership)
     told = (_Reason * _RIGHTS)()
-    outcome = _library.sdtool_reasons_with(data, len(data), *numbers, *asked, asker, told)
+    outcome = _library.sdtool_reasons_with(data, len(data), *numbers, *asked, request.asker, told)
     if outcome.fault != _OK:
         _refuse(outcome, data)
     return bytes(told)
@@ -433,8 +438,8 @@ def parts(descriptor: Any) -> Tuple[Any, ...]:
         return answer
     data = _read_layout("descriptor", descriptor)
     found = _library.sdtool_parts(data, len(data))
-    if found.fault != _OK:
-        _raises(found.fault, found.part, found.other_part, 0, 0, data, None)
+    if found.outcome.fault != _OK:
+        _refuse(found.outcome, data)
     answer = (found.control, found.resource_manager, _sid_at(data, found.owner), _sid_at(data, found.group),
               _acl_at(data, found.sacl), _acl_at(data, found.dacl))
     _found.put(descriptor, answer)
@@ -552,8 +557,8 @@ def _plain_answer(descriptor: Any, domain: Optional[bytes], kept: _Kept, room: A
     else:
         data = _read_layout("descriptors", descriptor)
     found = _library.sdtool_parts(data, len(data))
-    if found.fault != _OK:
-        return _fault_of(found.fault, found.part, found.other_part, 0, 0, data, None)
+    if found.outcome.fault != _OK:
+        return _fault_told(found.outcome, data, None)
     return tuple.__new__(_plain_type, (
         _plain_sid(data, found.owner, kept), _plain_sid(data, found.group, kept), _plain_acl(data, found.dacl, kept),
         _plain_acl(data, found.sacl, kept), found.control, found.resource_manager))
@@ -563,7 +568,7 @@ def _plain_fault(outcome: Any, text: bytes, domain: Optional[bytes]) -> Any:
     """The Fault of a text. What is no fault of its is raised."""
     if outcome.fault in _FAULTS_OF_CALLS:
         _refuse(outcome)
-    return _fault_of(outcome.fault, outcome.part, outcome.other_part, outcome.argument, outcome.entry, text, domain)
+    return _fault_told(outcome, text, domain)
 
 
 def _keep(values: _Values, key: bytes, made: Any) -> Any:

@@ -16,8 +16,9 @@ struct outcome {
 };
 
 struct verdict {
-    uint32_t fault, part, other_part, argument, entry, mask;
-    bool granted;
+    struct outcome outcome;
+    uint32_t mask;
+    uint8_t granted;
 };
 
 struct acl_order {
@@ -30,7 +31,8 @@ struct ending {
 };
 
 struct origins {
-    uint32_t fault, part, other_part, argument, entry, sacl_count, dacl_count;
+    struct outcome outcome;
+    uint32_t sacl_count, dacl_count;
 };
 
 struct place {
@@ -43,7 +45,7 @@ struct acl_place {
 };
 
 struct contents {
-    uint32_t fault, part, other_part;
+    struct outcome outcome;
     uint16_t control;
     uint8_t resource_manager;
     struct place owner, group;
@@ -83,9 +85,9 @@ struct new_descriptor {
 };
 
 // sdtool.mjs has these numbers.
-_Static_assert(sizeof(struct verdict) == 28, "the verdict of a check");
-_Static_assert(sizeof(struct origins) == 28, "what sdtool_derive_origins answers");
-_Static_assert(sizeof(struct contents) == 64 && offsetof(struct contents, owner) == 16, "what sdtool_parts finds");
+_Static_assert(sizeof(struct verdict) == 32, "the verdict of a check");
+_Static_assert(sizeof(struct origins) == 32, "what sdtool_derive_origins answers");
+_Static_assert(sizeof(struct contents) == 76 && offsetof(struct contents, owner) == 28, "what sdtool_parts finds");
 _Static_assert(sizeof(struct ace) == 48 && offsetof(struct ace, place) == 16, "what sdtool_next_ace finds");
 _Static_assert(sizeof(struct fault_place) == 24, "what sdtool_place and sdtool_sddl_place find");
 _Static_assert(sizeof(struct new_ace) == 32 && sizeof(struct new_descriptor) == 44, "what sdtool_build reads");
@@ -93,7 +95,7 @@ _Static_assert(sizeof(struct new_ace) == 32 && sizeof(struct new_descriptor) == 
 _Static_assert(sizeof(struct acl_order) == 32 && sizeof(struct sdtool_change) == 208,
                "what sdtool_edit and _order read");
 
-_Static_assert(sizeof(struct sdtool_request) == 16, "as on a 32-bit machine");
+_Static_assert(sizeof(struct sdtool_request) == 20, "as on a 32-bit machine");
 _Static_assert(sizeof(struct sdtool_asker) == 12 && sizeof(struct sdtool_reason) == 4, "as on a 32-bit machine");
 _Static_assert(sizeof(struct sdtool_origin) == 4, "as on a 32-bit machine");
 
@@ -145,11 +147,15 @@ static void *at(uint32_t place)
     return (void *)(uintptr_t)place;
 }
 
+static struct outcome outcome_of(const struct sdtool_outcome *told)
+{
+    return (struct outcome){told->fault,           told->part, told->other_part, told->argument, (uint32_t)told->entry,
+                            (uint32_t)told->length};
+}
+
 static void tell(uint32_t place, const struct sdtool_outcome *outcome)
 {
-    *(struct outcome *)at(place) = (struct outcome){outcome->fault,           outcome->part,
-                                                    outcome->other_part,      outcome->argument,
-                                                    (uint32_t)outcome->entry, (uint32_t)outcome->length};
+    *(struct outcome *)at(place) = outcome_of(outcome);
 }
 
 static void tell_no_memory(uint32_t place)
@@ -159,8 +165,7 @@ static void tell_no_memory(uint32_t place)
 
 static struct verdict verdict_of(const struct sdtool_verdict *told)
 {
-    return (struct verdict){told->fault,           told->part, told->other_part, told->argument,
-                            (uint32_t)told->entry, told->mask, told->granted};
+    return (struct verdict){outcome_of(&told->outcome), told->mask, told->granted};
 }
 
 static struct place place_of(const struct sdtool_place *told)
@@ -288,12 +293,7 @@ void derive_origins(uint32_t origins, uint32_t parent, uint32_t parent_size, uin
     struct sdtool_origins told;
     proved_derive_origins(&told, at(parent), parent_size, at(creator), creator_size, at(owner), owner_size, at(group),
                           group_size, kind, mapping, at(sacl), sacl_room, at(dacl), dacl_room);
-    *(struct origins *)at(origins) = (struct origins){told.fault,
-                                                      told.part,
-                                                      told.other_part,
-                                                      told.argument,
-                                                      (uint32_t)told.entry,
-                                                      (uint32_t)told.sacl_count,
+    *(struct origins *)at(origins) = (struct origins){outcome_of(&told.outcome), (uint32_t)told.sacl_count,
                                                       (uint32_t)told.dacl_count};
 }
 
@@ -323,15 +323,9 @@ EXPORT(sdtool_parts) void parts(uint32_t contents, uint32_t descriptor, uint32_t
 {
     struct sdtool_contents told;
     proved_parts(&told, at(descriptor), descriptor_size);
-    *(struct contents *)at(contents) = (struct contents){told.fault,
-                                                         told.part,
-                                                         told.other_part,
-                                                         told.control,
-                                                         told.resource_manager,
-                                                         place_of(&told.owner),
-                                                         place_of(&told.group),
-                                                         acl_of(&told.sacl),
-                                                         acl_of(&told.dacl)};
+    *(struct contents *)at(contents) = (struct contents){
+        outcome_of(&told.outcome), told.control,       told.resource_manager, place_of(&told.owner),
+        place_of(&told.group),     acl_of(&told.sacl), acl_of(&told.dacl)};
 }
 
 EXPORT(sdtool_next_ace) uint32_t next_ace(uint32_t acl, uint32_t acl_size, uint32_t ace)

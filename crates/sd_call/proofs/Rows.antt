@@ -31,8 +31,8 @@ arguments_of_checks = (refl, refl, refl, refl, refl, refl)
 other_arguments : (argument_number which.Creator ≡ 7) × (argument_number which.Owner ≡ 8)
     × (argument_number which.Group ≡ 9) × (argument_number which.Kind ≡ 10) × (argument_number which.Fault ≡ 11)
     × (argument_number which.Sid ≡ 12) × (argument_number which.Sacl ≡ 13) × (argument_number which.Dacl ≡ 14)
-    × (argument_number which.Token ≡ 15)
-other_arguments = (refl, refl, refl, refl, refl, refl, refl, refl, refl)
+    × (argument_number which.Token ≡ 15) × (argument_number which.Options ≡ 16)
+other_arguments = (refl, refl, refl, refl, refl, refl, refl, refl, refl, refl)
 
 -- struct sdtool_outcome
 third_sid : failed (call.Argument which.Sids 3)

@@ -170,9 +170,14 @@ list state count offset size = record { state = state; ace_count = count; place 
 
 abbrev nothing_but : ℕ → ℕ → ℕ → Contents
 nothing_but fault_number first_part second_part = record {
-  fault = fault_number;
-  part = first_part;
-  other_part = second_part;
+  outcome = record {
+    fault = fault_number;
+    part = first_part;
+    other_part = second_part;
+    argument = 0;
+    entry = 0;
+    length = 0;
+  };
   control = 0;
   resource_manager = 0;
   owner = place 0 0;

@@ -47,6 +47,7 @@ argument_number which.Sacl = 13
 argument_number which.Dacl = 14
 argument_number which.Token = 15
 argument_number which.Changes = 16
+argument_number which.Options = 17
 
 -- the argument that a fault is about, as a number; 0 where it is about none
 abbrev pub argument_of : CallFault → ℕ

@@ -32,6 +32,8 @@ pub enum Argument {
     Token,
     /// The changes of an edit.
     Changes,
+    /// The options of a request, or of who asks.
+    Options,
 }
 
 /// The number of an argument.
@@ -55,5 +57,6 @@ pub fn argument_number(argument: Argument) -> u32
         Argument::Dacl => 14,
         Argument::Token => 15,
         Argument::Changes => 16,
+        Argument::Options => 17,
     }
 }

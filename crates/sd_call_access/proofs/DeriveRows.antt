@@ -136,33 +136,21 @@ too_large from why h = rw h refl
 
 -- Too few cells: the counts say how many are needed. After any other fault there are none.
 counts_are_told : refused (TooSmall (record { sacl = 3; dacl = 4095 })) ≡ record {
-  fault = 71;
-  part = 0;
-  other_part = 0;
-  argument = 0;
-  entry = 0;
+  outcome = record { fault = 71; part = 0; other_part = 0; argument = 0; entry = 0; length = 0 };
   sacl_count = 3;
   dacl_count = 4095;
 }
 counts_are_told = refl
 
 no_counts : map (λ w. refused (Derive (DerivedTooLarge w))) (Sacl ∷ Dacl ∷ []) ≡ map (λ part. record {
-  fault = 40;
-  part = part;
-  other_part = 0;
-  argument = 0;
-  entry = 0;
+  outcome = record { fault = 40; part = part; other_part = 0; argument = 0; entry = 0; length = 0 };
   sacl_count = 0;
   dacl_count = 0;
 }) (3 ∷ 4 ∷ [])
 no_counts = refl
 
 no_counts_of_a_wrong_creator : nothing_derived (call.Argument which.Creator 0) ≡ record {
-  fault = 70;
-  part = 0;
-  other_part = 0;
-  argument = 7;
-  entry = 0;
+  outcome = record { fault = 70; part = 0; other_part = 0; argument = 7; entry = 0; length = 0 };
   sacl_count = 0;
   dacl_count = 0;
 }
