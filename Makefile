@@ -30,7 +30,7 @@ export MAKE
 
 need_toolchain = $(if $(shell command -v rt 2>&1),,$(error the Rattle toolchain is missing: there is no command 'rt' on the PATH))
 
-.PHONY: help program library run quick check rows format lint test edits figures bench bench-library install uninstall systems $(SYSTEMS) deb dist page clean
+.PHONY: help program library run quick check rows format lint test edits figures bench bench-library install uninstall systems $(SYSTEMS) deb dist page dotnet clean
 
 # The first target, so `make` alone lists the targets.
 help:
@@ -43,11 +43,11 @@ help:
 	@echo 'make test              runs the gate and all tests of the built program (about an hour); ends with N passed, M failed'
 	@echo 'make edits             tries every edit that the check must refuse, also those that the gate leaves out (an hour or two);'
 	@echo '                       CRATE=NAME tries those of a crate, EDIT=WORD those with WORD in their names (10 to 30 seconds each)'
-	@echo 'make format            formats Python, JavaScript and C (half a minute)'
+	@echo 'make format            formats Python, JavaScript, C, Rust and Go (half a minute)'
 	@echo 'make lint              says what make format would change, and what linters find (half a minute)'
 	@echo 'make figures           rewrites what is written by scripts: the places of aliases in sd_alias, the cells of names and the'
 	@echo '                       usual texts in sd_kinds and sd_rights, the completions of three shells, the list of tests, and'
-	@echo '                       what is written from windows/; then prints the size of each crate (seconds)'
+	@echo '                       what is written from windows/ and from the header; then prints the size of each crate (seconds)'
 	@echo 'make bench             measures the program against a plain one in Rust, and cat (8 minutes)'
 	@echo 'make bench-library     measures calls of the library beside those of Samba, from C and Python (a minute)'
 	@echo 'make install           installs the program, its man page, documents and completions below PREFIX ($(PREFIX)),'
@@ -56,9 +56,11 @@ help:
 	@echo 'make systems           builds program and library for other systems too, in out/systems (minutes if both are built); or one:'
 	@echo '                       make $(SYSTEMS)'
 	@echo 'make page              builds out/sdtool.html, the page that shows permissions, of the module that make wasm builds (seconds)'
+	@echo 'make dotnet            builds the assembly out/dotnet/Sdtool.dll and, of what make systems built, its NuGet package and the'
+	@echo '                       PowerShell module in out/dist (seconds)'
 	@echo 'make deb               builds Debian packages of them in out/ (seconds if program and library are built)'
-	@echo 'make dist              builds an archive for each system, Python wheels, and Debian packages for amd64 and arm64 in out/dist,'
-	@echo '                       with checksums (a minute if all is built)'
+	@echo 'make dist              builds an archive for each system, Python wheels, a NuGet package, a PowerShell module, and Debian'
+	@echo '                       packages for amd64 and arm64 in out/dist, with checksums (a minute if all is built)'
 	@echo 'make clean             removes what was built'
 
 program: $(PROGRAM)
@@ -108,6 +110,7 @@ lint:
 
 figures:
 	windows/write.py
+	tools/languages.py
 	tools/alias_places.py
 	tools/name_cells.py
 	tools/usual_texts.py
@@ -194,6 +197,10 @@ page: $(filter wasm,$(SYSTEMS))
 	$(if $(wildcard $(PAGE_MODULE) $(filter wasm,$(SYSTEMS))),,$(error the page needs $(PAGE_MODULE)))
 	web/build.py $(PAGE_MODULE) out/sdtool.html
 
+# The assembly for .NET, and its packages.
+dotnet:
+	packaging/nuget.py
+
 # Package the tree that install makes.
 deb: program library
 	packaging/deb.sh
@@ -203,4 +210,4 @@ dist: systems $(if $(call missing_tools,wasm)$(call missing_tools,page),,page)
 	packaging/dist.sh
 
 clean:
-	rm -rf crates/*/out out python/sdtool/_native.abi3.so
+	rm -rf crates/*/out out rust/target python/sdtool/_native.abi3.so

@@ -59,7 +59,7 @@ static size_t domain_size, sids_size, sid_count;
 static uint32_t token[SDTOOL_TOKEN_WORDS(MOST_SIDS)];
 static struct dom_sid *domain_of_samba;
 static struct security_token token_of_samba;
-static struct sdtool_request request = {.mapping = SDTOOL_MAPPING_FILE};
+static struct sdtool_request request = {.asker = {.mapping = SDTOOL_MAPPING_FILE}};
 
 static uint8_t output[SDTOOL_MOST_TEXT], other[SDTOOL_MOST_BYTES], third[SDTOOL_MOST_BYTES];
 static size_t sum; /* of what the calls give, so that none of them is left out */
@@ -98,7 +98,7 @@ static bool our_check(struct item *item)
     struct sdtool_verdict v = verdict_on(item);
 
     sum += v.granted;
-    return v.fault == SDTOOL_OK;
+    return v.outcome.fault == SDTOOL_OK;
 }
 
 static struct sdtool_verdict verdict_with_token(const struct item *item)
@@ -111,7 +111,7 @@ static bool our_check_with(struct item *item)
     struct sdtool_verdict v = verdict_with_token(item);
 
     sum += v.granted;
-    return v.fault == SDTOOL_OK;
+    return v.outcome.fault == SDTOOL_OK;
 }
 
 static bool push(TALLOC_CTX *memory, const struct security_descriptor *sd, DATA_BLOB *blob)

@@ -18,7 +18,7 @@ static void show_aces(const struct sdtool_bytes *descriptor)
     const uint8_t *acl = descriptor->bytes + contents.dacl.place.offset;
     struct sdtool_ace ace = {0};
 
-    if (contents.fault != SDTOOL_OK)
+    if (contents.outcome.fault != SDTOOL_OK)
         return;
     if (contents.dacl.state != SDTOOL_ACL_LIST) {
         puts("    no DACL, so everyone may do everything");
@@ -38,7 +38,7 @@ int main(void)
 {
     static const char *const groups[GROUPS] = {"BU", "WD", "AU"};
     uint8_t sids[GROUPS * SDTOOL_MOST_SID], entries[GROUPS] = {SDTOOL_ENABLED};
-    struct sdtool_request request = {.wanted = 0x120089, .mapping = SDTOOL_MAPPING_FILE};
+    struct sdtool_request request = {.asker = {.mapping = SDTOOL_MAPPING_FILE}, .wanted = 0x120089};
     size_t sids_size = 0, count = 0;
     char line[1000];
 
@@ -70,7 +70,7 @@ int main(void)
     for (size_t i = 0; i < count; i++) {
         const char *answer = verdicts[i].granted ? "yes" : "no";
 
-        printf("line %zu: %s\n", i + 1, verdicts[i].fault == SDTOOL_OK ? answer : "unknown");
+        printf("line %zu: %s\n", i + 1, verdicts[i].outcome.fault == SDTOOL_OK ? answer : "unknown");
         show_aces(&descriptors[i]);
     }
     return 0;

@@ -125,7 +125,7 @@ static size_t unwrap(uint8_t *bytes, size_t size)
 /* What a token with this SID and Everyone is granted. */
 static struct sdtool_verdict check(const uint8_t *descriptor, size_t size, const char *sid)
 {
-    const struct sdtool_request all = {.mapping = SDTOOL_MAPPING_FILE, .maximum = true};
+    const struct sdtool_request all = {.asker = {.mapping = SDTOOL_MAPPING_FILE}, .options = SDTOOL_MAXIMUM};
     const uint8_t enabled[2] = {SDTOOL_ENABLED, SDTOOL_ENABLED};
     uint8_t text[MOST_SID_TEXT], owned[HEADER + MOST_SID], sids[sizeof everyone + MOST_SID];
     size_t length = (size_t)snprintf((char *)text, sizeof text, "O:%s", sid);
@@ -133,7 +133,7 @@ static struct sdtool_verdict check(const uint8_t *descriptor, size_t size, const
     struct sdtool_outcome outcome = sdtool_from_sddl(text, length, NULL, 0, owned, sizeof owned);
 
     if (outcome.fault != SDTOOL_OK)
-        return (struct sdtool_verdict){.fault = outcome.fault};
+        return (struct sdtool_verdict){.outcome = outcome};
     memcpy(sids, everyone, sizeof everyone);
     memcpy(sids + sizeof everyone, owned + HEADER, outcome.length - HEADER);
     return sdtool_check(descriptor, size, sids, sizeof everyone + outcome.length - HEADER, enabled, 2, NULL, 0, NULL, 0,
@@ -168,8 +168,8 @@ static bool answer(const char *path, const uint8_t *descriptor, size_t size)
     for (const char *sid = "S-1-1-0"; sid != NULL; sid = next_sid(&lines)) {
         struct sdtool_verdict verdict = check(descriptor, size, sid);
 
-        if (verdict.fault != SDTOOL_OK)
-            return faulty(path, verdict.fault, verdict.part, verdict.other_part);
+        if (verdict.outcome.fault != SDTOOL_OK)
+            return faulty(path, verdict.outcome.fault, verdict.outcome.part, verdict.outcome.other_part);
         snprintf(word, sizeof word, " %s,", sid);
         if (verdict.granted && (verdict.mask & CHANGES) != 0 && strstr(found, word) == NULL)
             end = stpcpy(end, word);

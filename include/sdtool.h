@@ -15,8 +15,8 @@
  * has to take a fault that it does not know as one, and never as an answer. A program that needs a function of a later
  * version can compare sdtool_version_number() with the SDTOOL_VERSION that it was compiled with.
  *
- * Sizes and lengths are in bytes. Texts are bytes without a final NUL. A pointer may be null if its size is 0. What an
- * output holds behind its answer is unspecified.
+ * Sizes, lengths and offsets are in bytes. Texts are bytes without a final NUL. A pointer may be null if its size is 0.
+ * What an output holds behind its answer is unspecified. A struct of zeros is `= {0}` in C and `= {}` in C++.
  *
  * An output must not overlap an input or another output. Until a call returns, no other thread may write to its inputs,
  * or read or write its outputs. Else the call may answer anything, or end the process.
@@ -144,13 +144,13 @@ enum sdtool_argument {
     SDTOOL_ARGUMENT_DOMAIN = 1,
     /* The bytes of the SIDs have no SID at ENTRY, or with ENTRY = SID_COUNT bytes behind the last one. */
     SDTOOL_ARGUMENT_SIDS = 2,
-    /* The byte at ENTRY is none of enum sdtool_entry, or there are more than SDTOOL_MOST_SIDS. */
+    /* The byte at ENTRY is none of enum sdtool_entry, or ENTRY is SDTOOL_MOST_SIDS and there are more. */
     SDTOOL_ARGUMENT_ENTRIES = 3,
     /* OBJECT is neither empty nor 16 bytes. */
     SDTOOL_ARGUMENT_OBJECT = 4,
     /* PRINCIPAL_SELF is neither empty nor a SID. */
     SDTOOL_ARGUMENT_PRINCIPAL_SELF = 5,
-    /* MAPPING, or that of a request, is none of enum sdtool_mapping. */
+    /* MAPPING, or that of an asker, is none of enum sdtool_mapping. */
     SDTOOL_ARGUMENT_MAPPING = 6,
     /* CREATOR is neither empty nor a descriptor. */
     SDTOOL_ARGUMENT_CREATOR = 7,
@@ -173,7 +173,15 @@ enum sdtool_argument {
     /* TOKEN holds no token that sdtool_token_read has read, or not all of it. */
     SDTOOL_ARGUMENT_TOKEN = 15,
     /* There are more than SDTOOL_MOST_CHANGES, or the change at ENTRY is none or can't be made. */
-    SDTOOL_ARGUMENT_CHANGES = 16
+    SDTOOL_ARGUMENT_CHANGES = 16,
+    /* The options of a request, or of its asker, have a bit that means nothing. */
+    SDTOOL_ARGUMENT_OPTIONS = 17,
+    /* ACE is not the bytes of one ACE. */
+    SDTOOL_ARGUMENT_ACE = 18,
+    /* FLAGS has a bit that is no flag of an ACE. */
+    SDTOOL_ARGUMENT_FLAGS = 19,
+    /* GUID is not 16 bytes. */
+    SDTOOL_ARGUMENT_GUID = 20
 };
 
 enum sdtool_part {
@@ -217,6 +225,10 @@ enum {
     SDTOOL_MOST_SID = 68,
     /* No text of a SID has more bytes. */
     SDTOOL_MOST_SID_TEXT = 183,
+    /* No ACE that sdtool_ace_from_text gives has more bytes. */
+    SDTOOL_MOST_ACE = 112,
+    /* No text of an ACE, of its rights, its flags or a GUID has more bytes. */
+    SDTOOL_MOST_ACE_TEXT = 312,
     /* No text of sdtool_fault_text has more bytes. */
     SDTOOL_MOST_FAULT_TEXT = 32,
     /* No text of sdtool_describe has more bytes. */
@@ -240,7 +252,8 @@ uint32_t sdtool_version_number(void);
 /*
  * Gives a descriptor as SDDL: 'sdtool convert'. DOMAIN is empty or a SID in binary; then aliases of that domain, such
  * as DA, are printed. In each call a domain of 15 sub-authorities is full: it has no room for one more, and counts as
- * none. With NUMERIC no aliases are printed. It allocates no memory.
+ * none. With NUMERIC no aliases are printed. SDTOOL_ARGUMENT comes first, then the faults of the descriptor. It
+ * allocates no memory.
  */
 struct sdtool_outcome sdtool_to_sddl(const uint8_t *descriptor, size_t descriptor_size, const uint8_t *domain,
                                      size_t domain_size, bool numeric, uint8_t *text, size_t text_size);
@@ -270,38 +283,52 @@ struct sdtool_outcome sdtool_normalize(const uint8_t *descriptor, size_t descrip
 struct sdtool_outcome sdtool_from_sddl(const uint8_t *text, size_t text_size, const uint8_t *domain, size_t domain_size,
                                        uint8_t *output, size_t output_size);
 
-/* What an access check asks for. Each bool has to be false or true. */
-struct sdtool_request {
-    /* The rights that are wanted, an access mask (MS-DTYP 2.4.3). It may be 0 with MAXIMUM. */
-    uint32_t wanted;
+/* The options of an asker. */
+enum sdtool_asker_option {
+    /* The token has the integrity level LEVEL. */
+    SDTOOL_HAS_LEVEL = 1,
+    /* It has SeSecurityPrivilege. */
+    SDTOOL_SECURITY = 2,
+    /* It has SeTakeOwnershipPrivilege. */
+    SDTOOL_TAKE_OWNERSHIP = 4
+};
+
+/* Who asks, beside the SIDs. */
+struct sdtool_asker {
     /* One of enum sdtool_mapping. */
     uint32_t mapping;
-    /* The integrity level of the token, such as 8192 for medium. It counts only with HAS_LEVEL. */
+    /* The integrity level of the token, such as 8192 for medium. It counts only with SDTOOL_HAS_LEVEL. */
     uint32_t level;
-    bool has_level;
+    /* Bits of enum sdtool_asker_option. */
+    uint32_t options;
+};
+
+/* The options of a request. */
+enum sdtool_request_option {
     /* Asks also for each right that is granted. */
-    bool maximum;
-    /* The token has SeSecurityPrivilege. */
-    bool security;
-    /* The token has SeTakeOwnershipPrivilege. */
-    bool take_ownership;
+    SDTOOL_MAXIMUM = 1
+};
+
+/* What an access check asks for. */
+struct sdtool_request {
+    struct sdtool_asker asker;
+    /* The rights that are wanted, an access mask (MS-DTYP 2.4.3). It may be 0 with SDTOOL_MAXIMUM. */
+    uint32_t wanted;
+    /* SDTOOL_MAXIMUM or 0. */
+    uint32_t options;
 };
 
 /* What an access check answers. */
 struct sdtool_verdict {
-    /* SDTOOL_OK, or why there is no verdict; the next four members are as in struct sdtool_outcome. */
-    uint32_t fault;
-    uint32_t part;
-    uint32_t other_part;
-    uint32_t argument;
-    size_t entry;
+    /* SDTOOL_OK, or why there is no verdict. Its length is 0. */
+    struct sdtool_outcome outcome;
     /*
-     * With GRANTED the rights that are granted: those that are wanted and, with MAXIMUM, each other that is granted.
-     * Without GRANTED, those of the wanted rights that are missing. 0 after a fault.
+     * With GRANTED the rights that are granted: those that are wanted and, with SDTOOL_MAXIMUM, each other that is
+     * granted. Without GRANTED, those of the wanted rights that are missing. 0 after a fault.
      */
     uint32_t mask;
-    /* Whether each wanted right is granted. */
-    bool granted;
+    /* 1 if each wanted right is granted, else 0. */
+    uint8_t granted;
 };
 
 /*
@@ -315,9 +342,9 @@ struct sdtool_verdict {
  *
  * SDTOOL_ARGUMENT comes first, then 50 and 51, then the faults of the descriptor. SDTOOL_ARGUMENT means that there are
  * more than SDTOOL_MOST_SIDS, that an entry or its SID is none of the above, that bytes are behind the last SID, or
- * that the mapping, OBJECT or PRINCIPAL_SELF is none of the above, in this order. Entries and SIDs are looked at in
- * pairs: the first pair with a fault counts, and in it the entry. It allocates less than 128 KiB. SDTOOL_NO_MEMORY
- * comes last, in place of a verdict alone.
+ * that the mapping, the options, OBJECT or PRINCIPAL_SELF is none of the above, in this order. Entries and SIDs are
+ * looked at in pairs: the first pair with a fault counts, and in it the entry. It allocates less than 128 KiB.
+ * SDTOOL_NO_MEMORY comes last, in place of a verdict alone.
  */
 struct sdtool_verdict sdtool_check(const uint8_t *descriptor, size_t descriptor_size, const uint8_t *sids,
                                    size_t sids_size, const uint8_t *entries, size_t sid_count, const uint8_t *object,
@@ -346,20 +373,19 @@ enum {
 struct sdtool_origin {
     /* The place of the ACE that it was made of, from 0 on among all ACEs of its ACL. */
     uint16_t place;
-    /* That ACL is CREATOR's. Else it is PARENT's. */
-    bool from_creator;
-    /* This is the copy for what is made in the new object. It has the flag inherit-only, and no other copy has it. */
-    bool inherit_only;
+    /* 1 if that ACL is CREATOR's, 0 if it is PARENT's. */
+    uint8_t from_creator;
+    /*
+     * 1 if this is the copy for what is made in the new object, else 0. It has the flag inherit-only, and no other copy
+     * has it.
+     */
+    uint8_t inherit_only;
 };
 
 /* How many origins a derivation has. */
 struct sdtool_origins {
-    /* SDTOOL_OK, or why there are none; the next four members are as in struct sdtool_outcome. */
-    uint32_t fault;
-    uint32_t part;
-    uint32_t other_part;
-    uint32_t argument;
-    size_t entry;
+    /* SDTOOL_OK, or why there are none. Its length is 0. */
+    struct sdtool_outcome outcome;
     /*
      * With SDTOOL_OK how many ACEs the SACL and the DACL have, and with SDTOOL_TOO_SMALL how many origins they need
      * room for; else 0. An ACL that is null or absent has no ACEs.
@@ -434,9 +460,7 @@ struct sdtool_acl_place {
 /* What is in a descriptor. */
 struct sdtool_contents {
     /* SDTOOL_OK, or why the bytes are no descriptor, as for sdtool_normalize. After a fault all else is 0. */
-    uint32_t fault;
-    uint32_t part;
-    uint32_t other_part;
+    struct sdtool_outcome outcome;
     /* The control word (MS-DTYP 2.4.6), as it stands in the bytes. */
     uint16_t control;
     uint8_t resource_manager;
@@ -515,9 +539,9 @@ struct sdtool_fault_place sdtool_sddl_place(const uint8_t *text, size_t text_siz
  *
  *     error 27 rights: rights that are not in the tables, at byte 17, ACE 3 of the DACL, rights
  *
- * OUTCOME is what a call has answered. PLACE is what sdtool_place or sdtool_sddl_place has found, or all zeros; the
- * place of another fault counts as none. Bytes count from 0, and ACEs from 1. With SDTOOL_ARGUMENT the argument is in
- * front: 'domain: '.
+ * OUTCOME is what a call has answered, or begins with. PLACE is what sdtool_place or sdtool_sddl_place has found, or
+ * all zeros; the place of another fault counts as none. Bytes count from 0, and ACEs from 1. With SDTOOL_ARGUMENT the
+ * argument is in front: 'domain: '.
  *
  * SDTOOL_MOST_DESCRIPTION bytes always suffice. SDTOOL_ARGUMENT means that the fault of OUTCOME is none of enum
  * sdtool_fault, or SDTOOL_OK. It allocates no memory.
@@ -554,7 +578,8 @@ struct sdtool_ace {
  * place that sdtool_parts names. ACE is what the last call left, and all zeros before the first; NUMBER and PLACE say
  * how far the walk is, so a caller changes neither. A whole walk takes time in proportion to the bytes of the ACL.
  *
- * After the last ACE it returns false with fault SDTOOL_OK. It returns false with a fault from SDTOOL_FAULT_SID to
+ * Bytes behind the ACL, as long as its size field says, are not looked at. After the last ACE it returns false with
+ * fault SDTOOL_OK, each time that it is called. It returns false with a fault from SDTOOL_FAULT_SID to
  * SDTOOL_FAULT_ACE_FLAGS if the bytes are no ACL or the next ACE can't be read; in an ACL of a descriptor that
  * sdtool_parts has read there is none. It allocates no memory.
  *
@@ -563,6 +588,79 @@ struct sdtool_ace {
  *     if (ace.fault != SDTOOL_OK) the ACL is not whole;
  */
 bool sdtool_next_ace(const uint8_t *acl, size_t acl_size, struct sdtool_ace *ace);
+
+/*
+ * Says where the parts of the ACE at the front of some bytes are, as sdtool_next_ace does of the first ACE of an ACL:
+ * the places are in BYTES, and NUMBER is 1. Bytes behind the ACE, as long as its size field says, are not looked at. If
+ * it can't be read, the fault is one from SDTOOL_FAULT_SID to SDTOOL_FAULT_ACE_FLAGS, and all else is 0. It allocates
+ * no memory.
+ */
+struct sdtool_ace sdtool_ace_read(const uint8_t *bytes, size_t bytes_size);
+
+/*
+ * Gives the bytes of an ACE from its text in SDDL, such as (A;OICI;FR;;;BU). TEXT begins with its parenthesis; behind
+ * it there may be blanks. DOMAIN is as for sdtool_from_sddl. SDTOOL_MOST_ACE bytes always suffice.
+ *
+ * SDTOOL_ARGUMENT for DOMAIN comes first, then SDTOOL_FAULT_TOO_LONG, then SDTOOL_FAULT_SHAPE if TEXT does not begin
+ * with a parenthesis, then SDTOOL_NO_MEMORY: it allocates 131,226 bytes. Then the faults of sdtool_from_sddl for D: and
+ * TEXT, and SDTOOL_FAULT_SHAPE if these are not one ACE alone. sdtool_sddl_place says where a fault of D: and TEXT is.
+ */
+struct sdtool_outcome sdtool_ace_from_text(const uint8_t *text, size_t text_size, const uint8_t *domain,
+                                           size_t domain_size, uint8_t *ace, size_t ace_size);
+
+/*
+ * Gives the text in SDDL of the bytes of an ACE. DOMAIN and NUMERIC are as for sdtool_sid_to_text.
+ * SDTOOL_MOST_ACE_TEXT bytes always suffice. SDTOOL_ARGUMENT means that ACE, looked at first, is not the bytes of one
+ * ACE alone, or that DOMAIN is no SID; sdtool_ace_read says what is wrong with an ACE. It allocates no memory.
+ */
+struct sdtool_outcome sdtool_ace_to_text(const uint8_t *ace, size_t ace_size, const uint8_t *domain, size_t domain_size,
+                                         bool numeric, uint8_t *text, size_t text_size);
+
+/* What the text of a number means. */
+struct sdtool_number {
+    /* SDTOOL_OK, or why the text is none. Its length is 0. */
+    struct sdtool_outcome outcome;
+    /* The number; 0 after a fault. */
+    uint32_t number;
+};
+
+/*
+ * Gives the access mask that the rights of an ACE mean in SDDL, such as FRWD or 0x1f01ff; the empty text is 0. As in
+ * SDDL, digits behind 0x are hex, and behind another 0 octal: 010 is 8. The fault is SDTOOL_FAULT_RIGHTS. It allocates
+ * no memory.
+ */
+struct sdtool_number sdtool_rights_from_text(const uint8_t *text, size_t text_size);
+
+/*
+ * Gives the rights of an ACE in SDDL. With LABEL they are those of a mandatory label, such as NW, and else those of any
+ * other ACE: SDDL does not know for which kind of object they are. SDTOOL_MOST_ACE_TEXT bytes always suffice. It
+ * allocates no memory.
+ */
+struct sdtool_outcome sdtool_rights_to_text(uint32_t mask, bool label, uint8_t *text, size_t text_size);
+
+/*
+ * Gives the flags of an ACE that a text means in SDDL, such as OICI; the empty text is 0. The fault is
+ * SDTOOL_FAULT_FLAGS. It allocates no memory.
+ */
+struct sdtool_number sdtool_flags_from_text(const uint8_t *text, size_t text_size);
+
+/*
+ * Gives the flags of an ACE in SDDL; no flags are the empty text. SDTOOL_MOST_ACE_TEXT bytes always suffice.
+ * SDTOOL_ARGUMENT means that FLAGS has 0x20 or a bit behind 0x80. It allocates no memory.
+ */
+struct sdtool_outcome sdtool_flags_to_text(uint32_t flags, uint8_t *text, size_t text_size);
+
+/*
+ * Gives the 16 bytes of a GUID, as they stand in an ACE, from its 36 characters. The fault is SDTOOL_FAULT_GUID, also
+ * for the empty text and for a GUID in braces. It allocates no memory.
+ */
+struct sdtool_outcome sdtool_guid_from_text(const uint8_t *text, size_t text_size, uint8_t *guid, size_t guid_size);
+
+/*
+ * Gives the 36 characters of a GUID, in lower case. SDTOOL_ARGUMENT means that GUID is not 16 bytes. It allocates no
+ * memory.
+ */
+struct sdtool_outcome sdtool_guid_to_text(const uint8_t *guid, size_t guid_size, uint8_t *text, size_t text_size);
 
 /* Some bytes. BYTES may be null if SIZE is 0. */
 struct sdtool_bytes {
@@ -654,15 +752,6 @@ struct sdtool_reason {
     uint16_t kind;
     /* The place of the ACE, from 0 among all ACEs of the SACL for a label and else of the DACL, or SDTOOL_NO_PLACE. */
     uint16_t place;
-};
-
-/* Who asks, beside the SIDs: the members of struct sdtool_request that say nothing of what is wanted. */
-struct sdtool_asker {
-    uint32_t mapping;
-    uint32_t level;
-    bool has_level;
-    bool security;
-    bool take_ownership;
 };
 
 /*
@@ -894,10 +983,35 @@ struct sdtool_ending sdtool_run(const uint8_t *words, size_t words_size, const u
                                 uint8_t *output, size_t output_size, uint8_t *message, size_t message_size);
 
 /*
- * Gives the name of a fault, such as sid-form for SDTOOL_FAULT_SID_FORM. It is SDTOOL_ARGUMENT if no fault has the
- * number. SDTOOL_MOST_FAULT_TEXT bytes always suffice.
+ * Gives the name of a fault, such as sid-form for SDTOOL_FAULT_SID_FORM or no-memory for SDTOOL_NO_MEMORY. It is
+ * SDTOOL_ARGUMENT if no fault has the number, as for SDTOOL_OK. SDTOOL_MOST_FAULT_TEXT bytes always suffice.
  */
 struct sdtool_outcome sdtool_fault_text(uint32_t fault, uint8_t *text, size_t text_size);
+
+/*
+ * The size of each struct on a 64-bit machine, and the offsets of its members:
+ *
+ *     sdtool_outcome         32: 0 4 8 12 16 24
+ *     sdtool_asker           12: 0 4 8
+ *     sdtool_request         20: 0 12 16
+ *     sdtool_verdict         40: 0 32 36
+ *     sdtool_origin           4: 0 2 3
+ *     sdtool_origins         48: 0 32 40
+ *     sdtool_place           16: 0 8
+ *     sdtool_acl_place       24: 0 4 8
+ *     sdtool_contents       120: 0 32 34 40 56 72 96
+ *     sdtool_fault_place     32: 0 4 8 12 16
+ *     sdtool_ace             80: 0 4 8 12 13 16 32 48 64
+ *     sdtool_number          40: 0 32
+ *     sdtool_bytes           16: 0 8
+ *     sdtool_reason           4: 0 2
+ *     sdtool_new_ace         56: 0 16 32 48 52 53
+ *     sdtool_new_acl         24: 0 8 16
+ *     sdtool_new_descriptor  88: 0 16 32 56 80 82
+ *     sdtool_change         208: 0 4 8 12 16 20 24 28 30 32 33 34 35 36 37 38 39 40 56 72 140
+ *     sdtool_acl_order       40: 0 32 36
+ *     sdtool_ending          24: 0 8 16
+ */
 
 #ifdef __cplusplus
 }

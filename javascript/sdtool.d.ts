@@ -337,6 +337,22 @@ export interface Sdtool {
     sidToText(sid: Uint8Array, options?: TextOptions): string;
     /** How many bytes the SID at the front of some bytes has. It is 0 if they begin with no SID. */
     sidSize(bytes: Uint8Array): number;
+    /** The bytes of an ACE from its text in SDDL. A text that is not one ACE alone is fault 20. */
+    aceFromText(text: string, options?: DomainOptions): Uint8Array;
+    /** The text in SDDL of the bytes of an ACE. */
+    aceToText(ace: Uint8Array, options?: TextOptions): string;
+    /** The ACE at the front of some bytes, and how many bytes it has. */
+    aceRead(bytes: Uint8Array): Ace&{size: number};
+    /** The access mask that the rights of an ACE mean in SDDL. */
+    rightsFromText(text: string): number;
+    /** The rights of an ACE in SDDL: of a mandatory label, or of any other kind. */
+    rightsToText(mask: number, options?: {label?: boolean}): string;
+    /** The flags of an ACE that a text means in SDDL. */
+    flagsFromText(text: string): number;
+    flagsToText(flags: number): string;
+    /** The 16 bytes of a GUID, as they stand in an ACE. */
+    guidFromText(text: string): Uint8Array;
+    guidToText(guid: Uint8Array): string;
     /** What is in a descriptor. */
     parts(descriptor: Uint8Array): Parts;
     /** The ACEs of an ACL in binary. */

@@ -30,7 +30,7 @@ const IN_WORDS = {
 };
 const ARGUMENTS = [
     null, "domain", "sids", "entries", "objectType", "principalSelf", "mapping", "creator", "owner", "group", "kind",
-    "number", "sid", "sacl", "dacl", "token", "changes"
+    "number", "sid", "sacl", "dacl", "token", "changes", "options", "ace", "flags", "guid"
 ];
 const LISTS = {
     __proto__: null,
@@ -45,14 +45,14 @@ const STATES = {
     null: 1,
     list: 2
 };
-// Where a call writes the numbers of its outcome, and a check its verdict. The module has the structs of sdtool.h as a
-// 32-bit machine lays them out.
-const FAULT_AT = 0, PART_AT = 4, OTHER_PART_AT = 8, ARGUMENT_AT = 12, ENTRY_AT = 16, LENGTH_AT = 20, MASK_AT = 20,
-      GRANTED_AT = 24;
+// Where a call writes the numbers of its outcome, and a check its verdict behind them. The module has the structs of
+// sdtool.h as a 32-bit machine lays them out.
+const FAULT_AT = 0, PART_AT = 4, OTHER_PART_AT = 8, ARGUMENT_AT = 12, ENTRY_AT = 16, LENGTH_AT = 20, MASK_AT = 24,
+      GRANTED_AT = 28;
 // Where sdtool_place and sdtool_sddl_place write a place.
 const OF_PART_AT = 4, OF_ACE_AT = 8, OF_FIELD_AT = 12, OFFSET_AT = 16, RANGE_AT = 20;
 // Where sdtool_parts writes what it finds. A place is an offset and a size, and that of an ACL is behind its state.
-const CONTROL_AT = 12, MANAGER_AT = 14, OWNER_AT = 16, GROUP_AT = 24, SACL_AT = 32, DACL_AT = 48, PLACE_OF_ACL = 8;
+const CONTROL_AT = 24, MANAGER_AT = 26, OWNER_AT = 28, GROUP_AT = 36, SACL_AT = 44, DACL_AT = 60, PLACE_OF_ACL = 8;
 // Where sdtool_next_ace does.
 const ACE_MASK_AT = 4, KIND_AT = 12, FLAGS_AT = 13, OBJECT_AT = 24, INHERITED_AT = 32, SID_AT = 40, ACE_SIZE = 48;
 // Where sdtool_build reads a descriptor and an ACE to build. SIDs and GUIDs are a pointer and a size.
@@ -66,9 +66,10 @@ const CHANGE_SIZE = 208, CHANGE_ACL_AT = 4, CHANGE_PLACE_AT = 8, COMPARE_AT = 12
 const COMPARE_KIND = 1, COMPARE_MASK = 2, TYPE_NONE = 1, TYPE_GIVEN = 2;
 // Where sdtool_order writes what it finds.
 const SACL_ORDER_AT = 24, DACL_ORDER_AT = 28;
-const BYTES_SIZE = 8, VERDICT_SIZE = 28, REASON_SIZE = 4;
+const NUMBER_AT = 24; // where a call writes the number that a text means
+const BYTES_SIZE = 8, VERDICT_SIZE = 32, REASON_SIZE = 4;
 // Where sdtool_derive_origins writes how many origins there are, and an origin what it says.
-const SACL_COUNT_AT = 20, DACL_COUNT_AT = 24, FROM_CREATOR_AT = 2, INHERIT_ONLY_AT = 3, ORIGIN_SIZE = 4;
+const SACL_COUNT_AT = 24, DACL_COUNT_AT = 28, FROM_CREATOR_AT = 2, INHERIT_ONLY_AT = 3, ORIGIN_SIZE = 4;
 const RIGHTS = 25, NO_PLACE = 0xffff; // right by right a reason, and what stands in it for no ACE
 // The faults that have a place.
 const OF_BYTES = {
@@ -121,16 +122,18 @@ const CHANGES = {
     control: {number: 10, setControl: false, clearControl: false},
 };
 const DENY_ONLY = 1;
+const HAS_LEVEL = 1, SECURITY = 2, TAKE_OWNERSHIP = 4, MAXIMUM = 1; // options of who asks, and that of a request
 const MOST_SIDS = 1024, TOKEN_FRONT = 2, TOKEN_SID = 20; // numbers of 32 bits that a token has, and has for each SID
 const MOST_TOKEN = 4 * (TOKEN_FRONT + TOKEN_SID * MOST_SIDS);
 const MOST_BYTES = 131226, MOST_TEXT = 1049872, MOST_SID = 68, MOST_SID_TEXT = 183, MOST_MESSAGE = 64;
+const MOST_ACE = 112, MOST_ACE_TEXT = 312, HEAD_OF_ACE = "D:";
 const MOST_U8 = 0xff, MOST_U16 = 0xffff, MOST_NUMBER = 0xffffffff;
 const GUID = 16;
 const SHORT_TEXT = 64;                                   // the version, or the name of a fault
 const FIRST_ANSWERS = 4096;                              // of a run; more take a second call
 const MOST_OF_CALL = 1024, MOST_BYTES_OF_CALL = 1 << 20; // descriptors that one call checks, if it is not one
 const STRUCTS = 80;               // bytes for what a call returns, and for the request of a check
-const REQUEST = 64;               // where in them the request is
+const REQUEST = 48;               // where in them the request is
 const MOST_ROOM = 0xffff0000;     // the module's memory has no more
 const MOST_INPUT = MOST_ROOM / 5; // of a run, with the least room for its answers
 const MOST_ACL = 0xffff;          // bytes
@@ -646,7 +649,10 @@ const ofRequest = {
     ...ofAsker
 };
 const DOMAIN = namesFor({domain: optional(sidOf)});
-const PRINTING = namesFor({domain: optional(sidOf), numeric: optional(flagOf)});
+const PRINTING = namesFor({domain: optional(sidOf), numeric: optional(flagOf)}),
+      RIGHTS_TEXT = namesFor({label: optional(flagOf)});
+const optionsOf = (level, security, takeOwnership) =>
+    (level === null ? 0 : HAS_LEVEL) + security * SECURITY + takeOwnership * TAKE_OWNERSHIP;
 const TOKEN = namesFor({...ofToken}), REQUESTED = namesFor({...ofRequest}),
       ASKED = namesFor({...ofRequest, ...ofToken});
 const ASKER = namesFor({...ofAsker}), ASKERS = namesFor({...ofAsker, ...ofToken});
@@ -911,15 +917,30 @@ class Sdtool {
 
     #domain({domain = NONE}) { return this.#sid(domain, "domain"); }
 
-    // The SID of a text, the whole of which is the place of its fault.
     #sidOfText(text, domain, argument = null, entry = null) {
+        return this.#field(text, "sid",
+            () => this.#bytes("sdtool_sid_from_text", listOf(text, domain), list(), MOST_SID, list()), argument, entry);
+    }
+
+    // What the text of a field means, the whole of which is the place of its fault.
+    #field(text, field, read, argument = null, entry = null) {
         try {
-            return this.#bytes("sdtool_sid_from_text", listOf(text, domain), list(), MOST_SID, list());
+            return read();
         } catch (fault) {
             if (!(fault instanceof Fault)) throw fault;
-            const place = {part: null, ace: null, field: "sid", offset: 0, size: text.length};
+            const place = {part: null, ace: null, field, offset: 0, size: text.length};
             throw new Fault(fault.number, fault.name, null, null, argument, entry, place, text, fault.meaning);
         }
+    }
+
+    // The number that the text of a field means.
+    #numberOf(call, text, field) {
+        return this.#field(text, field, () => {
+            const places = this.#put(listOf(text), 0);
+            this.#call(call, listOf(places[0], places[1]));
+            this.#judge();
+            return this.#number(NUMBER_AT);
+        });
     }
 
     version() { return this.#text(this.#answer("sdtool_version", list(), list(), SHORT_TEXT)); }
@@ -972,8 +993,7 @@ class Sdtool {
     }) {
         return {
             inputs: listOf(objectType, this.#sid(principalSelf, "principalSelf")),
-            numbers: listOf(wanted, mapping, level ?? 0),
-            flags: listOf(level === null ? 0 : 1, maximum, security, takeOwnership),
+            numbers: listOf(mapping, level ?? 0, optionsOf(level, security, takeOwnership), wanted, maximum * MAXIMUM),
         };
     }
 
@@ -988,8 +1008,7 @@ class Sdtool {
     }) {
         return {
             inputs: listOf(objectType, this.#sid(principalSelf, "principalSelf")),
-            numbers: listOf(mapping, level ?? 0),
-            flags: listOf(level === null ? 0 : 1, security, takeOwnership),
+            numbers: listOf(mapping, level ?? 0, optionsOf(level, security, takeOwnership)),
         };
     }
 
@@ -997,16 +1016,14 @@ class Sdtool {
     #question(sids, options, isWhy = false) {
         const {inputs, enabled, count} = this.#token(sids, options.denyOnly);
         const asked = isWhy ? this.#asker(options) : this.#asked(options);
-        return {inputs: addAll(inputs, asked.inputs), enabled, count, numbers: asked.numbers, flags: asked.flags};
+        return {inputs: addAll(inputs, asked.inputs), enabled, count, numbers: asked.numbers};
     }
 
     // Writes the request of a question. Gives its place.
-    #request({numbers, flags}) {
+    #request({numbers}) {
         const request = this.#room + REQUEST;
         for (let index = 0; index < numbers.length; index += 1)
             setU32(this.#view, request + 4 * index, numbers[index], true);
-        for (let index = 0; index < flags.length; index += 1)
-            setU8(this.#view, request + 4 * numbers.length + index, flags[index]);
         return request;
     }
 
@@ -1212,6 +1229,66 @@ class Sdtool {
     sidSize(bytes) {
         const places = this.#put(listOf(bytesOf(bytes, MOST_SID, "bytes")), 0);
         return this.#enter("sdtool_sid_size", listOf(places[0], places[1]));
+    }
+
+    aceFromText(text, options = {}) {
+        const given = cutText(textOf(text, "text"), 0, MOST_TEXT + 1);
+        const domain = this.#domain(namedOf(options, DOMAIN, "options"));
+        try {
+            return this.#bytes("sdtool_ace_from_text", listOf(given, domain), list(), MOST_ACE, list());
+        } catch (fault) {
+            if (!(fault instanceof Fault)) throw fault;
+            const place = cutText(given, 0, 1) === "(" ? this.#placeInAce(given, domain) : null;
+            throw new Fault(
+                fault.number, fault.name, fault.part, null, null, null, place, place && given, fault.meaning);
+        }
+    }
+
+    // Where the fault of an ACE's text is, which is read behind the head of a DACL that was not given.
+    #placeInAce(text, domain) {
+        const found = this.#place(HEAD_OF_ACE + text, domain);
+        if (found === null) return null;
+        const {part, ace, field, size} = found, offset = found.offset - HEAD_OF_ACE.length, isGiven = part !== "dacl";
+        return {part: isGiven ? part : null, ace: isGiven ? ace : null, field, offset, size};
+    }
+
+    aceToText(ace, options = {}) {
+        const bytes = bytesOf(ace, MOST_ACL, "ace"), asked = namedOf(options, PRINTING, "options");
+        const inputs = listOf(bytes, this.#domain(asked));
+        return this.#text(this.#answer("sdtool_ace_to_text", inputs, listOf(asked.numeric ?? 0), MOST_ACE_TEXT));
+    }
+
+    aceRead(bytes) {
+        const given = bytesOf(bytes, MOST_ACL, "bytes"), places = this.#put(listOf(given), 0);
+        this.#call("sdtool_ace_read", listOf(places[0], places[1]));
+        const fault = this.#number(FAULT_AT);
+        if (fault !== OK) throw this.#fault(fault, 0, 0, null);
+        return {...this.#ace(places[0]), size: this.#number(RANGE_AT)};
+    }
+
+    rightsFromText(text) { return this.#numberOf("sdtool_rights_from_text", textOf(text, "text"), "rights"); }
+
+    rightsToText(mask, options = {}) {
+        const number = numberOf(mask, "mask"), {label = 0} = namedOf(options, RIGHTS_TEXT, "options");
+        return this.#text(this.#answer("sdtool_rights_to_text", list(), listOf(number, label), MOST_ACE_TEXT));
+    }
+
+    flagsFromText(text) { return this.#numberOf("sdtool_flags_from_text", textOf(text, "text"), "flags"); }
+
+    flagsToText(flags) {
+        return this.#text(
+            this.#answer("sdtool_flags_to_text", list(), listOf(numberOf(flags, "flags")), MOST_ACE_TEXT));
+    }
+
+    guidFromText(text) {
+        const given = textOf(text, "text");
+        return this.#field(
+            given, null, () => this.#bytes("sdtool_guid_from_text", listOf(given), list(), GUID, list()));
+    }
+
+    guidToText(guid) {
+        const bytes = bytesOf(guid, GUID + 1, "guid");
+        return this.#text(this.#answer("sdtool_guid_to_text", listOf(bytes), list(), MOST_ACE_TEXT));
     }
 
     parts(descriptor) { return this.#parts(descriptorOf(descriptor, "descriptor")); }

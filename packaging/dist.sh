@@ -5,6 +5,7 @@
 #   linux-x86_64, linux-aarch64   the tree of `make install`, with a program that needs no C library; .tar.gz
 #   windows-x86_64                program, library and what a C compiler needs to use it; .zip
 #   wasm                          the JavaScript module, and the program for WASI; .tar.gz
+# Without a word it also makes the NuGet package and the PowerShell module, where mcs is.
 set -euo pipefail
 shopt -s nullglob
 cd "$(dirname "$0")/.."
@@ -77,8 +78,11 @@ for system in "${systems[@]}"; do
     [[ $system == wasm ]] || packaging/wheels.py "$system"
     pack "$name"
 done
+if (($# == 0)) && command -v mcs > /dev/null; then
+    packaging/nuget.py
+fi
 if (($# == 0)) && command -v dpkg-deb > /dev/null && command -v dpkg-architecture > /dev/null; then
     packaging/deb.sh amd64 out/dist
     [[ ! -d out/systems/linux-aarch64 ]] || packaging/deb.sh arm64 out/dist
 fi
-(cd "$dist" && sha256sum -- *.tar.gz *.zip *.whl *.deb > SHA256SUMS)
+(cd "$dist" && sha256sum -- *.tar.gz *.zip *.whl *.nupkg *.deb > SHA256SUMS)

@@ -1,7 +1,7 @@
 #!/usr/bin/env bash
 # Tests of the sources, the gate, and then the tests of the built program. Each part ends with a line
 # 'N passed, M failed', and the last line of all is their sum. A part without such a line counts as one that failed.
-# At the end it says what was skipped, and which parts took longest. If RESULTS names a file, it gets the time of each part.
+# At the end it says what was skipped, and which parts took longest.
 set -u
 cd "$(dirname "$0")/.." || exit 2
 program=$PWD/crates/sdtool/out/sdtool
@@ -87,13 +87,6 @@ show_notes() {
     fi
     echo "The longest parts, in seconds:"
     sort -rn "$logs/times" | head -n 10 | sed 's/^/    /'
-    if [[ -n ${RESULTS-} ]]; then
-        {
-            echo "# tests/all.sh at $(git rev-parse --short=12 HEAD), on $(nproc) processors" \
-                "($(sed -n 's/^model name[^:]*: //p' /proc/cpuinfo | head -n 1)), after $((SECONDS / 60)) minutes"
-            sort -rn "$logs/times"
-        } >"$RESULTS"
-    fi
 }
 
 # Runs the parts of a lane one after the other. What a part prints comes out whole when it has ended, with its time, since
@@ -192,7 +185,7 @@ start_library
 count rt ci
 count tests/run run_rows --reference
 if "${MAKE:-make}" --no-print-directory program; then
-    # Eight lanes, none much longer than the others. What starts a browser or another system's programs is in one, so that
+    # Nine lanes, none much longer than the others. What starts a browser or another system's programs is in one, so that
     # no two of these wait for each other.
     start_lane compare
     start_lane run_rows "run_rows --one-byte" refused_allocations tables neighbours run_examples door_examples \
@@ -202,13 +195,14 @@ if "${MAKE:-make}" --no-print-directory program; then
         build_page
         build_extension
         start_lane c_library c_objects fault_places fault_words c_neighbours c_comparisons c_stacks c_reasons \
-            c_origins c_edits c_install c_examples instructions bench_run
+            c_origins c_edits c_texts c_install c_examples instructions bench_run
         start_lane python_calls python_objects python_plain python_lies python_wheels page_growth
+        start_lane dotnet_requests dotnet_loading dotnet_package
         start_lane audit audit_sources audit_directory audit_reports audit_stopping audit_reasons audit_inherited \
             audit_package
         start_lane audit_forms hostile_lists audit_terminal audit_growth risk_rows abilities severities many_types
-        start_lane distributed distributed_faults distributed_scale
-        start_lane page page_kinds page_questions page_verdicts page_units "risk_rows --page" lowering systems
+        start_lane distributed distributed_faults distributed_scale rust go
+        start_lane page page_commands page_kinds page_questions page_verdicts page_units "risk_rows --page" lowering systems
     else
         echo "the library is not built, so its tests have not run"
         ((failed += 1))

@@ -15,6 +15,8 @@ from typing import Dict, List, Optional
 TOP = pathlib.Path(__file__).resolve().parent.parent
 BEGINS = re.compile(r"rt: chose --jobs \d+ for (\w+)$")
 LAST_LINES = 40  # of what rt said, where it fails
+START = 800  # lines that are proved in the time in which a crate's libraries are loaded
+SAYS_FROM = 0.1  # of all, and no time is told before
 
 
 def dependencies() -> Dict[str, List[str]]:
@@ -49,7 +51,7 @@ class Progress:
 
     def __init__(self, crate: str) -> None:
         order = in_order(crate, dependencies())
-        self.weights = {name: lines_of(name) for name in order}
+        self.weights = {name: START + lines_of(name) for name in order}
         self.order, self.began = order, time.monotonic()
         self.first: Optional[int] = None
 
@@ -59,7 +61,7 @@ class Progress:
         self.first = at if self.first is None else self.first
         done = sum(self.weights[name] for name in self.order[self.first:at])
         left = sum(self.weights[name] for name in self.order[at:])
-        if not done:
+        if done < SAYS_FROM * (done + left):
             return f"{at} of {len(self.order)} crates are proved: {crate}"
         seconds = (time.monotonic() - self.began) * left / done
         return f"{at} of {len(self.order)} crates are proved, {in_words(seconds)} left: {crate}"

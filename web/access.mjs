@@ -123,7 +123,7 @@ export function tokenSids(sid, model, common) {
 }
 
 // The rights that the ACEs of a list name, and those of an owner: no others are granted by them.
-function namedRights(model) {
+export function namedRights(model) {
     const named = model.dacl.aces.reduce((mask, ace) => (mask | ace.meaning) >>> 0, OF_AN_OWNER);
     return model.dacl.state === "list" ? (named & EVERY_BIT) >>> 0 : EVERY_BIT;
 }
@@ -162,12 +162,9 @@ export function gridOf(
     };
 }
 
-// What a token gets of each object type for which ACEs are, and of the object as a whole.
-export function grantedByType(library, descriptor, types, token, mapping, model) {
-    const rights = namedRights(model);
-    return types.map(
-        (object) => grantedOf(library, descriptor, token, {mapping, objectType: guidBytes(library, object)}, rights));
-}
+// What of some rights a token gets of each object type for which ACEs are, and of the object as a whole.
+export const grantedByType = (library, descriptor, types, token, mapping, rights) => types.map(
+    (object) => grantedOf(library, descriptor, token, {mapping, objectType: guidBytes(library, object)}, rights));
 
 // The object types that ACEs are for, and those for each SID. Without one of them asked for, such an ACE does not
 // apply.

@@ -8,7 +8,7 @@ import {commaed, formatted, say, WORDS} from "./words.mjs";
 const MOST_ADDRESS = 30_000;  // characters; some browsers and most programs take no longer link
 const MOST_UNREAD = 8;        // words of an address that are named
 const MOST_UNREAD_TEXT = 100; // characters of each
-const VIEWS = ["look", "ask", "inherit", "compare", "lines"]; // a report is not in an address, and so its view isn't
+const VIEWS = ["look", "ask", "inherit", "compare", "edit", "lines"]; // a report is in no address
 const KINDS = Object.keys(TABLE_OF_KINDS);
 const FORMS = ["auto", "sddl", "hex", "base64"];
 const MOST_LEVEL = 0xffffffff;

@@ -4,7 +4,7 @@ import {box, button, byId, input, labelled, make, select, show} from "./dom.mjs"
 import {maskText} from "./library.mjs";
 import {reasonKey} from "./look_view.mjs";
 import {faultInWords, rightsInWords, rightsOf, shownName, visible} from "./naming.mjs";
-import {longField, plainName} from "./parts_view.mjs";
+import {longField, plainName, rightBoxes} from "./parts_view.mjs";
 import {MOST_LIST} from "./state.mjs";
 import {valueIn} from "./tables.mjs";
 import {PRIVILEGES} from "./windows.mjs";
@@ -24,21 +24,18 @@ function tokenButtons(asked, put, refresh) {
         Object.entries(WORDS.ask.groups).map(([alias, name]) => [button(name, add(alias), {class: "add"}), " "]));
 }
 
-function rightBoxes(asked, kind, refresh) {
-    return rightsOf(kind).map(
-        (right) => box(`ask-right-${right.bit}`, right.name, asked.rights.includes(right.bit), (checked) => {
-            asked.rights = checked ? [...asked.rights, right.bit] : asked.rights.filter((bit) => bit !== right.bit);
-            refresh();
-        }));
-}
-
 // The rights to choose from are those of the kind of object, so they change with it. Without a kind there are none.
 export function showAskRights(asked, kind, refresh) {
     if (kind) {
         const known = rightsOf(kind).map((right) => right.bit);
         asked.rights = asked.rights.filter((bit) => known.includes(bit));
     }
-    show(byId("ask-rights"), kind && rightBoxes(asked, kind, refresh));
+    const choose = (bit, checked) => {
+        asked.rights = checked ? [...asked.rights, bit] : asked.rights.filter((one) => one !== bit);
+        refresh();
+    };
+    show(byId("ask-rights"),
+        kind && rightBoxes("ask-right", rightsOf(kind), (bit) => asked.rights.includes(bit), choose));
 }
 
 export function makeAsk(asked, refresh) {

@@ -22,12 +22,12 @@ import tempfile
 FOLDER = pathlib.Path(__file__).resolve().parent
 FIRST = "main.mjs"
 MOST = 1_000_000  # bytes of the page
-MOST_PACKED = 320_000
+MOST_PACKED = 350_000
 # What the page calls of the module, by way of the library.
 CALLED = ["memory", "allocate", "release"] + [
     f"sdtool_{name}"
     for name in ("version to_sddl from_sddl sid_to_text sid_from_text sid_size normalize parts next_ace build check "
-                 "reasons derive derive_origins place sddl_place run fault_text describe").split()
+                 "reasons derive derive_origins place sddl_place run fault_text describe edit order").split()
 ]
 FEATURES = ["--enable-sign-ext", "--enable-mutable-globals", "--enable-bulk-memory", "--enable-simd"]
 # The page runs as a script, and has the module inside.

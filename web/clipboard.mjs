@@ -4,6 +4,15 @@
 import {listingIn} from "./icacls.mjs";
 import {hexOf} from "./library.mjs";
 import {between, decimalBytes, endOfHex, endOfPairs, endOfQuoted, without} from "./scanning.mjs";
+import {
+    isBetween as isBetweenObjects,
+    isElement,
+    isOfDescriptor,
+    nameAmong,
+    spread,
+    tableBelow,
+    valuesAround
+} from "./titles.mjs";
 import {DESCRIPTORS} from "./windows.mjs";
 
 // What is in front of a value: hex(3):01,00,.. of a .reg file, and what reg query prints. A name is looked for in front
@@ -241,39 +250,38 @@ const isMark = (character) => isBlank(character) || MARKS.includes(character);
 const isBetween = (character) => isMark(character) || ",;=:|".includes(character);
 const nameIn = (before) => between(/^\s*"[^"]*"(?=,)/.exec(before)?.[0] ?? before, isMark, isBetween);
 
-// What Get-Acl lists before the descriptor has the path of the object, also in JSON, and an entry of LDIF its name.
-function pathIn(lines) {
-    const paths = lines.map((line) => {
-        const [front, quote] = /^("?)Path\1\s*:\s*/.exec(line) ?? [];
-        if (front === undefined) {
-            return nameOfEntry(line);
-        }
-        const path = line.slice(front.length).replace(/^"/, "").replace(/,$/, "").replace(/"$/, "");
-        return quote ? path.replace(/\\\\/g, "\\") : path;
-    });
-    return paths.filter(Boolean).at(-1);
+// What an object is called: by the titles around its descriptor, by its entry of LDIF, by what stands before the
+// descriptor, or by the line above, where icacls /save writes it. An attribute has that of its object before its own.
+function nameOf(line, own, values, others) {
+    const named = nameAmong(values) || (others.map(nameOfEntry).filter(Boolean).at(-1) ?? "");
+    if (BESIDE.has(own.toLowerCase())) {
+        return [named, own].filter(Boolean).join(": ");
+    }
+    const above = others.at(-1) ?? "";
+    return named || (isOfDescriptor(own) || isElement(line) ? "" : own) ||
+        (values.size || isBetweenObjects(above) ? "" : above);
 }
 
 function ofSddl(text) {
-    const lines = linesOf(text);
+    const all = spread(text).split(/\r\n|\r|\n/);
+    const lines = all.filter((line) => line.trim() !== "");
+    const values = valuesAround(all);
     const found = [];
-    let others = [];
+    let [others, table] = [[], null];
     for (let at = 0; at < lines.length; at += 1) {
         const one = ofSddlLine(lines, at);
         if (!one) {
+            table = tableBelow(lines[at]) ?? table;
             others.push(lines[at].trim());
             continue;
         }
+        one.name = nameOf(lines[at], one.name, table?.(lines[at]) ?? values[at], others);
         const folded = one.isClosed ? [] : continuationOf(one.line, lines, at + 1);
         if (folded.length) {
             one.line = [one.line, ...folded].join("");
             one.dropped.push({what: "folds"});
             at += folded.length;
         }
-        // icacls /save writes the name of the object in a line of its own.
-        const path = pathIn(others);
-        one.name = BESIDE.has(one.name.toLowerCase()) ? [path, one.name].filter(Boolean).join(": ") :
-                                                        path ?? (one.name || (others.at(-1) ?? ""));
         one.dropped.unshift(...leftOut("before", others.join(" ")));
         const {name} = one;
         found.push(Object.assign(one, {strays: found.length ? others.filter((line) => line !== name) : []}));

@@ -1,40 +1,11 @@
 // The command line with the same answer as a view, as a POSIX shell reads it.
 import {wordsOf} from "./lines_view.mjs";
 import {hasOwnMapping, mappingOf, rightsOfKind} from "./meanings.mjs";
-import {HIDDEN} from "./naming.mjs";
-import {between} from "./scanning.mjs";
+import {posixQuoted} from "./quoting.mjs";
 import {valueIn} from "./tables.mjs";
 import {WORDS} from "./words.mjs";
 
 const MAXIMUM_ALLOWED = 0x2000000;
-
-const octal =
-    (text) => [...new TextEncoder().encode(text)].map((byte) => `\\0${byte.toString(8).padStart(3, "0")}`).join("");
-
-const plainQuoted = (text) => `'${text.replace(/'/g, "'\\''")}'`;
-
-// A text with characters that don't show, such as the escape that ends a bracketed paste: printf makes it of numbers.
-function spelledQuoted(text) {
-    const known = new Map();
-    const spell = (character) => {
-        if (!known.has(character)) {
-            known.set(character, octal(character));
-        }
-        return known.get(character);
-    };
-    return `"$(printf '%b' ${plainQuoted(text.replace(/\\/g, "\\\\").replace(HIDDEN, spell))})"`;
-}
-
-// A word as a POSIX shell reads it. Line ends at its end, which printf would lose, stay as they are inside the
-// quotation marks.
-function quoted(word) {
-    if (/^[A-Za-z0-9_,.:=@%+-]+$/.test(word)) {
-        return word;
-    }
-    const text = between(word, () => false, (character) => character === "\n");
-    const ends = word.slice(text.length);
-    return text.search(HIDDEN) < 0 ? plainQuoted(word) : spelledQuoted(text) + (ends && plainQuoted(ends));
-}
 
 const domainWords = (state) => (state.domain.trim() ? ["--domain", state.domain.trim()] : []);
 const formWords = (form) => (form === "hex" ? [] : ["--from", form]);
@@ -89,10 +60,10 @@ export function commandOf(state, look, asked) {
 
 export function commandLine(state, look, asked) {
     if (state.view === "lines") {
-        return ["sdtool", ...wordsOf(state.lines).map(quoted), "< FILE"].join(" ");
+        return ["sdtool", ...wordsOf(state.lines).map(posixQuoted), "< FILE"].join(" ");
     }
     const {words, lines} = commandOf(state, look, asked);
-    return `printf '%s\\n' ${lines.map(quoted).join(" ")} | ${["sdtool", ...words.map(quoted)].join(" ")}`;
+    return `printf '%s\\n' ${lines.map(posixQuoted).join(" ")} | ${["sdtool", ...words.map(posixQuoted)].join(" ")}`;
 }
 
 // Why there is no command with the page's answer: the kind is open, or something of it is unknown or is not at all.

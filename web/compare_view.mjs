@@ -4,10 +4,10 @@ import {byId, labelled, make, show, showParts, someRows} from "./dom.mjs";
 import {kindQuestion} from "./kind_view.mjs";
 import {maskText} from "./library.mjs";
 import {foundText} from "./look_view.mjs";
-import {faultInWords, guidInWords, rightsInWords, whereOf} from "./naming.mjs";
-import {aceRights, faultBox, kindClass, longField, who} from "./parts_view.mjs";
+import {faultInWords, whereOf} from "./naming.mjs";
+import {aceRights, faultBox, kindClass, longField, rightsDiffering, rightsSection, who} from "./parts_view.mjs";
 import {valueIn} from "./tables.mjs";
-import {commaed, formatted, say, WORDS} from "./words.mjs";
+import {commaed, say, WORDS} from "./words.mjs";
 
 // The parts of the view, and what puts a text into its field.
 export function makeCompare(other, refresh) {
@@ -87,42 +87,6 @@ function partLines(result, names) {
     return lines.length ? make("ul", {class: "differences"}, lines) : null;
 }
 
-function difference({gained, lost}, kind) {
-    const words = (name, mask) =>
-        (mask === 0 ? null :
-                      make("span", {class: name},
-                          say(valueIn(WORDS.compare, name), {rights: commaed(rightsInWords(kind, mask))}), " "));
-    return [words("gained", gained), words("lost", lost)];
-}
-
-// What differs for one property, right or class.
-const typedLine = (typed, kind) => make("li", {"data-object": typed.object}, difference(typed, kind),
-    say(WORDS.object, {name: guidInWords(typed.object, typed.gained | typed.lost)}));
-
-const rightsItem = (row, kind, names) => make("li",
-    {"data-sid": row.sid, "data-gained": row.gained, "data-lost": row.lost}, who(row.sid, row.alias, names), " ",
-    difference(row, kind), row.typed.length ? make("ul", {}, row.typed.map((typed) => typedLine(typed, kind))) : null);
-
-// Whether rights of some trustees were not compared, which is no sign that they are the same.
-const areLeft = ({compared, trustees}) => compared < trustees;
-
-const rightsLeft = ({compared, trustees}) =>
-    say(WORDS.compare.rightsLeft, {count: formatted(compared), all: formatted(trustees)});
-
-function rightsSection(result, kind, names, later) {
-    const list = make("ul", {class: "differences"});
-    const more = someRows(list, linesOf(result.rights), (line) => rightsItem(JSON.parse(line), kind, names),
-        (count) => say(WORDS.grid.more, {count}), {later});
-    return make("section", {"aria-labelledby": "compare-rights"},
-        make("h3", {id: "compare-rights"}, WORDS.compare.rights),
-        result.changed > 0  ? [list, more] :
-            areLeft(result) ? null :
-                              make("p", {}, WORDS.compare.rightsNone),
-        result.areBelowSame ? null : make("p", {class: "hint"}, WORDS.compare.below),
-        result.areTypesLeft ? make("p", {class: "fault-name"}, WORDS.warnings.manyTypes) : null,
-        areLeft(result) ? make("p", {class: "fault-name"}, rightsLeft(result)) : null);
-}
-
 // Shows it. Returns what a screen reader says of it, and a promise that ends when all is shown.
 export function showCompare(result, {kind, names, onKind}, isOver) {
     const place = byId("compare-result");
@@ -142,12 +106,11 @@ export function showCompare(result, {kind, names, onKind}, isOver) {
         () => make("div", {},
             make("p", {class: `verdict ${result.isSame ? "same" : "differs"}`}, make("strong", {}, verdict)),
             make("p", {class: "hint"}, foundText(result.other)), partLines(result, names)),
-        (later) => (asksKind ? kindQuestion("compare", result, onKind) : rightsSection(result, kind, names, later)),
+        (later) => (asksKind ? kindQuestion("compare", result, onKind) :
+                               rightsSection("compare", WORDS.compare.rights, result, {kind, names}, later)),
         (later) => make("div", {}, aceTable("dacl", result.dacl, kind, names, later)),
         (later) => make("div", {}, aceTable("sacl", result.sacl, kind, names, later))
     ];
     const shown = showParts(place, result.count + changed, parts, isOver);
-    const known = changed ? say(WORDS.compare.rightsCount, {count: changed}) : WORDS.compare.rightsNone;
-    const rights = asksKind ? valueIn(WORDS.kindAsked, asksKind) : areLeft(result) ? rightsLeft(result) : known;
-    return [`${verdict} ${rights}`, shown];
+    return [`${verdict} ${asksKind ? valueIn(WORDS.kindAsked, asksKind) : rightsDiffering(result)}`, shown];
 }

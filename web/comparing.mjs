@@ -1,21 +1,31 @@
 // What differs between two descriptors. Same content means the same canonical layout; rights are answers of check.
-import {DECIDING, grantedByType, isBroad, tokenOf, tokenSids, typesFor, typesOf} from "./access.mjs";
+import {DECIDING, grantedByType, isBroad, namedRights, tokenOf, tokenSids, typesFor, typesOf} from "./access.mjs";
 import {aceText, aclFlags, hexOf} from "./library.mjs";
 
 const MOST_CELLS = 4_000_000; // of the table that finds what two lists have in common
 const MOST_WORK = 4_000_000;  // ACEs that all questions together go through
 const OWNER_RIGHTS = "S-1-3-4";
+const EVERYONE = {
+    sid: "S-1-1-0",
+    alias: "WD"
+}; // gets everything where there is no list
 
-// The pairs of places of a longest common subsequence of two lists.
+// The pairs of places of a longest common subsequence of two lists, which often begin and end alike.
 function commonOf(one, other) {
+    const most = Math.min(one.length, other.length);
     let from = 0;
-    while (from < one.length && from < other.length && one[from] === other[from]) {
+    while (from < most && one[from] === other[from]) {
         from += 1;
     }
-    const [rows, columns] = [one.length - from, other.length - from];
+    let same = 0;
+    while (same < most - from && one.at(-1 - same) === other.at(-1 - same)) {
+        same += 1;
+    }
+    const [rows, columns] = [one.length - from - same, other.length - from - same];
+    const ends = Array.from({length: same}, (_, at) => [from + rows + at, from + columns + at]);
     const pairs = Array.from({length: from}, (_, at) => [at, at]);
     if (rows * columns > MOST_CELLS) {
-        return pairs; // the rest counts as moved, which is true of any order
+        return [...pairs, ...ends]; // the rest counts as moved, which is true of any order
     }
     const width = columns + 1;
     const lengths = new Uint32Array((rows + 1) * width);
@@ -38,7 +48,7 @@ function commonOf(one, other) {
             column += 1;
         }
     }
-    return pairs;
+    return [...pairs, ...ends];
 }
 
 // Takes pairs of places out of two sets of places, each with the first that has the same key.
@@ -94,7 +104,8 @@ function trusteesOf(sides) {
     const trustees = new Map();
     for (const {model} of sides) {
         const aces = model.dacl.aces.filter((ace) => DECIDING.includes(ace.kind) && ace.sid !== OWNER_RIGHTS);
-        for (const who of [model.owner, ...aces].filter(Boolean)) {
+        const anyone = model.dacl.state === "list" ? null : EVERYONE;
+        for (const who of [model.owner, anyone, ...aces].filter(Boolean)) {
             trustees.set(who.sid, {sid: who.sid, alias: who.alias ?? trustees.get(who.sid)?.alias ?? null});
         }
     }
@@ -103,9 +114,9 @@ function trusteesOf(sides) {
 
 // For a trustee the rights that check grants to the token of its row in the grid: of the object as a whole or the type
 // that is asked for, and if none is, what differs beyond that for each type that an ACE of either is for.
-function compareTrustee(library, sides, who, types, {mapping, object}) {
-    const [ones, others] = sides.map(({asked, model}, at) => grantedByType(library, asked, [object, ...types],
-                                         tokenOf(library, who.tokens[at]), mapping, model));
+function compareTrustee(library, sides, who, types, {mapping, object, rights}) {
+    const [ones, others] = sides.map(({asked}, at) => grantedByType(library, asked, [object, ...types],
+                                         tokenOf(library, who.tokens[at]), mapping, rights));
     const [whole, ...rest] =
         ones.map((one, at) => ({gained: (others[at] & ~one) >>> 0, lost: (one & ~others[at]) >>> 0}));
     const typed = rest.map(({gained, lost}, at) => ({
@@ -117,9 +128,18 @@ function compareTrustee(library, sides, who, types, {mapping, object}) {
     return {sid, alias, ...whole, typed: typed.filter(({gained, lost}) => gained || lost)};
 }
 
+// What decides about a trustee: the ACEs for a SID of its token, or for whoever owns the object.
+function decidingOf({model: {owner, dacl}}, token) {
+    const sids = new Set([...token, OWNER_RIGHTS]);
+    return [dacl.state, token.includes(owner?.sid), ...dacl.aces.filter(({sid}) => sids.has(sid)).map(aceText)].join();
+}
+
 // Groups that nearly everybody is in come first. The others are asked about in their order, as long as the questions
-// are not too many for two descriptors of this length.
-export function compareRights(library, sides, {mapping, object, common}) {
+// are not too many for two descriptors of this length. About whom the same ACEs decide nobody has to be asked.
+export function compareRights(library, sides, {mapping, object, common, rights: ofKind}) {
+    // Without a list there are all rights, also those that have no meaning.
+    const rights =
+        sides.reduce((all, {model}) => (all | (model.dacl.state === "list" ? namedRights(model) : ofKind)) >>> 0, 0);
     const types = sides.map(({model}) => typesOf(model, mapping));
     const trustees =
         trusteesOf(sides).map((who) => ({...who, tokens: sides.map(({model}) => tokenSids(who.sid, model, common))}));
@@ -128,12 +148,17 @@ export function compareRights(library, sides, {mapping, object, common}) {
     const rows = new Map();
     let work = 0;
     for (const who of inOrder) {
+        const [one, other] = sides.map((side, at) => decidingOf(side, who.tokens[at]));
+        if (one === other) {
+            rows.set(who.sid, {sid: who.sid, alias: who.alias, gained: 0, lost: 0, typed: []});
+            continue;
+        }
         const asked = object ? [] : [...new Set(types.flatMap((one) => typesFor(one, who.tokens.flat())))];
         work += cost * (1 + asked.length);
         if (work > MOST_WORK) {
             break;
         }
-        rows.set(who.sid, compareTrustee(library, sides, who, asked, {mapping, object}));
+        rows.set(who.sid, compareTrustee(library, sides, who, asked, {mapping, object, rights}));
     }
     return {
         rights: trustees.map(({sid}) => rows.get(sid)).filter(Boolean),

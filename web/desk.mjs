@@ -5,6 +5,7 @@ import {descriptorsIn, straysIn} from "./clipboard.mjs";
 import {placeOf as placeOfObject} from "./classes.mjs";
 import {compare, compareRights} from "./comparing.mjs";
 import {asIf} from "./conditions.mjs";
+import {aboveOf, edited} from "./editing.mjs";
 import {bytesOf, placeOf} from "./faults.mjs";
 import {inherit} from "./inheriting.mjs";
 import {aceTexts, descriptorOf, guidBytes, hexOf, isFault, maskOfText, modelOf, sidBytes, sidText} from "./library.mjs";
@@ -19,6 +20,7 @@ import {
     withoutGeneric
 } from "./meanings.mjs";
 import {writtenAces} from "./scanning.mjs";
+import {commandsFor, forCommand} from "./set_command.mjs";
 import {valueIn} from "./tables.mjs";
 import {MOST_SIDS, readToken} from "./tokens.mjs";
 import {usualOf, verdictOf, verdictOfConditions, verdictOfKinds} from "./verdict.mjs";
@@ -526,8 +528,7 @@ function compareWith(library, {state: given, other}) {
             return {otherFault: second};
         }
         const otherModel = explained(library, second.descriptor, domain, state.kind);
-        const sides = [[descriptor, model], [second.descriptor, otherModel]].map(
-            ([bytes, one]) => ({descriptor: bytes, asked: asked(library, bytes, one, state.kind), model: one}));
+        const sides = sidesOf(library, [[descriptor, model], [second.descriptor, otherModel]], state.kind);
         const found = compare(library, sides);
         const shown = {
             ...found,
@@ -539,21 +540,73 @@ function compareWith(library, {state: given, other}) {
                 form: second.form,
                 chosen: second.chosen
             },
-            areBelowSame: !found.dacl.some((row) => isBelow(row, inheritedBy(state.kind))),
+            ...belowOf(found, state.kind),
             ...inLists((list) => found[list]),
         };
-        if (shown.asksKind) {
-            return shown;
-        }
-        const rights = compareRights(library, sides, optionsOf(library, state, domain));
-        const changed = rights.rights.filter((row) => row.gained || row.lost || row.typed.length);
-        return {...shown, ...rights, rights: packed(changed), changed: changed.length};
+        return shown.asksKind ? shown : {...shown, ...rightsOf(library, sides, state, domain)};
     });
 }
+
+// What is compared: two descriptors, each with what the library is asked about, and what it says.
+const sidesOf = (library, both, kind) =>
+    both.map(([descriptor, model]) => ({descriptor, asked: asked(library, descriptor, model, kind), model}));
+
+// Whose rights differ.
+function rightsOf(library, sides, state, domain) {
+    const found = compareRights(library, sides, optionsOf(library, state, domain));
+    const changed = found.rights.filter((row) => row.gained || row.lost || row.typed.length);
+    return {...found, rights: packed(changed), changed: changed.length};
+}
+
+const belowOf = ({dacl}, kind) => ({areBelowSame: !dacl.some((row) => isBelow(row, inheritedBy(kind)))});
 
 // Whether a row of a comparison has an ACE that differs and that children inherit.
 const isBelow = ({state, one, other}, inherited) =>
     state !== "same" && [one, other].some((ace) => ace && inherited.some((flag) => ace.flags.includes(flag)));
+
+// An edit: NOW is the descriptor so far, or null, and STEPS are those to come. The answer has the descriptor after
+// each, and tells the last one beside that of the text.
+function edit(library, {state: given, now, steps}) {
+    return about(library, given, ({state, descriptor, found, model, domain}) => {
+        const open = openKind(state, [model]);
+        if (open) {
+            return open;
+        }
+        const {made, last, refused} = edited(library, now ?? descriptor, steps, domain.text);
+        const after = explained(library, last, domain, state.kind);
+        const sides = sidesOf(library, [[descriptor, model], [last, after]], state.kind);
+        const differing = compare(library, sides);
+        const written = writtenIn(library, after, domain);
+        const texts = sides.map((side) => library.toSddl(side.descriptor, domain.option));
+        const name = state.name || found.entry.name;
+        const commands = sides.map((side) => forCommand(library, side.descriptor, domain));
+        const {codes, dacl, sacl} = after;
+        const stoppedIn = (list, code) =>
+            (model.codes.includes(code) || !codes.includes(code) ? [] : inheritedOf(model[list].aces));
+        return {
+            made,
+            refused: refused && {...plainFault(refused.fault), field: refused.fault.field ?? null, step: refused.step},
+            ...inLists((list) => differing[list].map(
+                           (row) => ({...row, text: row.other && written[list][row.other.number - 1]}))),
+            ...rightsOf(library, sides, state, domain),
+            ...belowOf(differing, state.kind),
+            isSame: differing.isSame,
+            owner: after.owner,
+            group: after.group,
+            codes,
+            states: {dacl: dacl.state, sacl: sacl.state},
+            order: library.order(last),
+            judged: verdictOfAny(library, last, after, state, domain),
+            before: texts[0],
+            sddl: texts[1],
+            stopped: {dacl: stoppedIn("dacl", "PD"), sacl: stoppedIn("sacl", "PS")},
+            above: aboveOf(name, state.kind),
+            commands: commandsFor(state.kind, name, ...commands),
+        };
+    });
+}
+
+const inheritedOf = (aces) => aces.filter(({flags}) => flags.includes("ID")).map(({number}) => number);
 
 const QUESTIONS = {
     look,
@@ -563,6 +616,7 @@ const QUESTIONS = {
     askMany,
     inherit: inheritFrom,
     compare: compareWith,
+    edit,
     version: (library) => library.version(),
 };
 

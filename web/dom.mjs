@@ -45,6 +45,9 @@ export const byId = (id) => /** @type {any} */ (document.getElementById(id));
 // Whether a place takes what is typed or pasted itself.
 export const isField = (target) => Boolean(target.closest?.("textarea, input, select"));
 
+// Whether it is a field of a text, in which keys such as Ctrl+Z mean that text.
+export const isTyped = (target) => Boolean(target.closest?.("textarea, input[type='text']"));
+
 export function show(element, ...children) {
     element.replaceChildren(...children.flat(Infinity).filter(Boolean));
     element.hidden = element.childNodes.length === 0;
@@ -84,7 +87,7 @@ export function input(id, value, oninput,
     };
     const field =
         make("input", {id, type: "text", autocomplete: "off", spellcheck: "false", ...attributes, oninput: type});
-    field.value = value;
+    field.defaultValue = value;
     return field;
 }
 
@@ -116,19 +119,37 @@ const ROWS_OF_A_TURN = 20;
 const AT_ONCE = 300; // rows and cells that are shown in one turn of the page
 
 // The first rows of a long list, and a button for more, so that thousands of rows never stop the page. With LATER, a
-// list of functions for later turns of the page, only a few rows are made at once.
+// list of functions for later turns of the page, only a few rows are made at once. The button keeps the focus, or what
+// it adds last has it.
 export function someRows(body, items, makeRow, moreText, {step = 60, later = null, turn = ROWS_OF_A_TURN} = {}) {
     let shown = 0;
     const place = make("div", {class: "more"});
+    const onPaper = make("span", {class: "on-paper"});
     const first = Math.min(step, items.length);
     const add = (count) => {
-        body.append(...items.slice(shown, shown + count).map(makeRow));
+        const rows = items.slice(shown, shown + count).map(makeRow);
+        body.append(...rows);
         shown = Math.min(items.length, shown + count);
         const left = items.length - shown;
-        const isButton = left > 0 && shown >= first;
-        const onPaper = make("span", {class: "on-paper"}, say(WORDS.summary.left, {count: left}));
-        place.replaceChildren(...(isButton ? [button(moreText(Math.min(step, left)), () => add(step)), onPaper] : []));
+        more.textContent = moreText(Math.min(step, left));
+        onPaper.textContent = say(WORDS.summary.left, {count: left});
+        if (left > 0 && shown >= first && !more.isConnected) {
+            place.replaceChildren(more, onPaper);
+        }
+        return {rows, left};
     };
+    const ask = () => {
+        const hadFocus = document.activeElement === more;
+        const {rows: [row], left} = add(step);
+        if (left === 0) {
+            place.replaceChildren();
+        }
+        if (left === 0 && hadFocus) {
+            row.tabIndex = -1;
+            row.focus();
+        }
+    };
+    const more = button("", ask);
     add(later ? turn : step);
     for (let at = turn; later && at < first; at += turn) {
         later.push(() => add(Math.min(turn, first - at)));
@@ -188,7 +209,7 @@ export function moveByArrows(table, css) {
     table.addEventListener("keydown", (event) => {
         const rows = cells();
         const row = rows.findIndex((all) => all.includes(document.activeElement));
-        if (row < 0) {
+        if (row < 0 || event.altKey || event.ctrlKey || event.metaKey) {
             return;
         }
         const column = rows[row].indexOf(document.activeElement);

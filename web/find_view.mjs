@@ -73,6 +73,7 @@ function foundRow({name, typeName, bits}, rows, names) {
 // The section, whose field keeps what FOUND has of it. NAMED are the GUIDs of ACEs, and ONFIND asks about some.
 export function findSection({names, found, onFind}, named) {
     const place = make("div", {id: "found-rows"});
+    const status = make("p", {id: "find-status", class: "hint", role: "status"});
     const search = async (text) => {
         found.text = text;
         const all = matching(text, named);
@@ -81,9 +82,13 @@ export function findSection({names, found, onFind}, named) {
         if (found.text !== text) {
             return;
         }
-        const told = all.length > some.length ? say(words.count, {count: some.length, all: all.length}) : "";
+        const isAsked = text.trim() !== "";
+        status.textContent = !isAsked ? "" :
+            !all.length               ? words.none :
+            all.length > some.length  ? say(words.count, {count: some.length, all: all.length}) :
+                                        say(all.length === 1 ? words.one : words.found, {count: all.length});
         const rows = answer?.found ? linesOf(answer.found).map((line) => JSON.parse(line)) : [];
-        show(place, text.trim() && !all.length && make("p", {}, words.none), told && make("p", {class: "hint"}, told),
+        show(place,
             rows.length > 0 &&
                 make("table", {class: "trustees", "aria-labelledby": "find-heading"},
                     make("thead", {},
@@ -95,5 +100,5 @@ export function findSection({names, found, onFind}, named) {
         search(found.text);
     }
     return make("section", {"aria-labelledby": "find-heading"}, make("h2", {id: "find-heading"}, words.heading),
-        labelled(words.label, field, words.hint), place);
+        labelled(words.label, field, words.hint), status, place);
 }

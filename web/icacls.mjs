@@ -113,3 +113,140 @@ export function listingIn(text) {
     }
     return aces.length ? {name, line: `D:${aces.join("")}`} : null;
 }
+
+// What icacls does to a list of ACEs, one operation a line, where that gives exactly another list.
+
+const SIMPLE = ["F", "M", "RX", "R"]; // of which a listing and a grant have the same mask
+const GENERIC = 0xf0000000;
+const LEVELS = new Map([["S-1-16-4096", "L"], ["S-1-16-8192", "M"], ["S-1-16-12288", "H"]]);
+const keyOf = ({flags}) => flags.join("");
+const textOf =
+    ({kind, flags, mask, object, inherited, sid}) => [kind, flags.join(""), mask, object, inherited, sid].join(";");
+const isInherited = ({flags}) => flags.includes("ID");
+const isAlike = (one, other) =>
+    one.length === other.length && one.map(textOf).sort().join("\n") === other.map(textOf).sort().join("\n");
+
+// The order that icacls keeps: denied, allowed, inherited. What it does to another one nobody says.
+const rankOf = (ace) => (isInherited(ace) ? 2 : ace.kind.endsWith("A") ? 1 : 0);
+const isInOrder = (aces) => aces.every((ace, at) => at === 0 || rankOf(aces[at - 1]) <= rankOf(ace));
+
+// Rights in letters, or null if some bit has none.
+function lettersOf(mask) {
+    const simple = SIMPLE.find((name) => RIGHTS.get(name) === mask);
+    if (simple) {
+        return simple;
+    }
+    const single = [...RIGHTS].filter(([name, bits]) => name !== "N" && (bits & (bits - 1)) === 0);
+    const names = single.filter(([, bit]) => (mask & bit) !== 0);
+    const all = names.reduce((bits, [, bit]) => (bits | bit) >>> 0, 0);
+    return all === mask && mask !== 0 ? names.map(([name]) => name).join(",") : null;
+}
+
+// A trustee with flags and rights, as icacls reads them.
+const entryOf = ({sid, flags, mask}) => `*${sid}:${flags.map((flag) => `(${flag})`).join("")}(${lettersOf(mask)})`;
+
+// Why icacls can't make an ACE, or null. Only folders have flags, and those that hand on nothing are refused.
+function whyNotAce({kind, flags, mask}, isFolder) {
+    const isOdd = flags.some((flag) => !["OI", "CI", "NP", "IO"].includes(flag)) ||
+        (flags.length > 0 && (!isFolder || !flags.some((flag) => flag === "OI" || flag === "CI")));
+    return kind !== "A" && kind !== "D" ? "kind" : isOdd ? "flags" : lettersOf(mask) === null ? "rights" : null;
+}
+
+const isBoth = (one, other) => (one & other) !== 0 || ((one | other) & GENERIC) !== 0;
+
+// The operations that make the explicit ACEs of a trustee others. A denial takes the same rights out of what is
+// granted, and two ACEs with the same flags become one.
+function stepsOf(sid, before, after, isFolder) {
+    const why = after.map((ace) => whyNotAce(ace, isFolder)).find(Boolean) ??
+        (before.some(({kind}) => kind !== "A" && kind !== "D") ? "kind" : null);
+    if (why) {
+        return {why};
+    }
+    const [[denied, denies], [allowed, allows]] =
+        ["D", "A"].map((one) => [before, after].map((aces) => aces.filter(({kind}) => kind === one)));
+    if (new Set(after.map((ace) => ace.kind + keyOf(ace))).size < after.length) {
+        return {why: "twice"};
+    }
+    if (denies.some((one) => allows.some((other) => isBoth(one.mask, other.mask)))) {
+        return {why: "both"};
+    }
+    const steps = [];
+    const add = (step, ace) => steps.push([step, ace ? entryOf(ace) : `*${sid}`]);
+    const isDenied = isAlike(denied, denies);
+    if (!isDenied) {
+        if (denied.length) {
+            add("/remove:d");
+        }
+        denies.forEach((ace) => add("/deny", ace));
+    }
+    const isCut = !isDenied && denies.some((one) => allowed.some((other) => isBoth(one.mask, other.mask)));
+    if (isAlike(allowed, allows) && !isCut) {
+        return {steps};
+    }
+    const has = (ace) => allows.find((one) => keyOf(one) === keyOf(ace));
+    const isMore = !isCut && new Set(allowed.map(keyOf)).size === allowed.length &&
+        allowed.every((ace) => has(ace) && (ace.mask & ~has(ace).mask) === 0);
+    const [only] = allowed;
+    if (!isMore && allowed.length === 1 && has(only) && !denied.length && !denies.length) {
+        add("/grant:r", has(only));
+        allows.filter((ace) => ace !== has(only)).forEach((ace) => add("/grant", ace));
+        return {steps};
+    }
+    if (!isMore) {
+        add("/remove:g");
+    }
+    const isSame = (ace) => isMore && allowed.some((one) => textOf(one) === textOf(ace));
+    allows.filter((ace) => !isSame(ace)).forEach((ace) => add("/grant", ace));
+    return {steps};
+}
+
+function stepsOfLists(before, after, isFolder) {
+    if (!isInOrder(before)) {
+        return {why: "order"};
+    }
+    const bySid = new Map();
+    for (const [at, aces] of [after, before].entries()) {
+        for (const ace of aces) {
+            bySid.set(ace.sid, bySid.get(ace.sid) ?? [[], []]);
+            bySid.get(ace.sid)[at].push(ace);
+        }
+    }
+    const all = [...bySid].filter(([, [one, other]]) => !isAlike(one, other)).map(([sid,
+        [one, other]]) => stepsOf(sid, other, one, isFolder));
+    const refused = all.find(({why}) => why);
+    return refused ?? {steps: all.flatMap(({steps}) => steps)};
+}
+
+/**
+ * The operations, each as its words, that make one list another: {steps}, or {why} there are none.
+ * @param {{aces: any[], isProtected: boolean}} before
+ */
+export function stepsBetween(before, after, isFolder) {
+    const [inherited, others] = [before, after].map(({aces}) => aces.filter(isInherited));
+    const own = before.aces.filter((ace) => !isInherited(ace));
+    const wanted = after.aces.filter((ace) => !isInherited(ace));
+    if (!isInOrder(after.aces)) {
+        return {why: "order"};
+    }
+    if (before.isProtected && !after.isProtected) {
+        return {why: "inherits"};
+    }
+    if (before.isProtected === after.isProtected) {
+        return isAlike(inherited, others) ? stepsOfLists(own, wanted, isFolder) : {why: "inherited"};
+    }
+    if (others.length) {
+        return {why: "inherited"};
+    }
+    const copies = inherited.map((ace) => ({...ace, flags: ace.flags.filter((flag) => flag !== "ID")}));
+    const [kept, dropped] =
+        [["d", [...own, ...copies]], ["r", own]].map(([how, aces]) => ({how, ...stepsOfLists(aces, wanted, isFolder)}));
+    const best = !kept.why && (dropped.why || kept.steps.length <= dropped.steps.length) ? kept : dropped;
+    return best.why ? best : {steps: [[`/inheritance:${best.how}`], ...best.steps]};
+}
+
+// The operation that sets a label, or null.
+export function stepOfLabel([label, ...more], isFolder) {
+    const level = more.length ? null : LEVELS.get(label?.sid);
+    const isPlain = label?.mask === 1 && label.flags.every((flag) => isFolder && (flag === "OI" || flag === "CI"));
+    return level && isPlain ? ["/setintegritylevel", label.flags.map((flag) => `(${flag})`).join("") + level] : null;
+}

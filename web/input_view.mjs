@@ -12,9 +12,18 @@ import {MOST_LIST} from "./state.mjs";
 import {valueIn} from "./tables.mjs";
 import {showAce, showText, showWritten} from "./text_view.mjs";
 import {makeVerdict} from "./verdict_view.mjs";
-import {say, WORDS} from "./words.mjs";
+import {formatted, say, WORDS} from "./words.mjs";
 
-const MOST_NAME = 60; // characters in the list of several descriptors
+const MOST_NAME = 60;         // characters in the list of several descriptors
+const MOST_FILE = 10_000_000; // bytes of a file of names
+
+// The text of a file: UTF-16 with a mark, as PowerShell writes it, or UTF-8.
+function textOf(bytes) {
+    const form = bytes[0] === 0xff && bytes[1] === 0xfe ? "utf-16le" :
+        bytes[0] === 0xfe && bytes[1] === 0xff          ? "utf-16be" :
+                                                          "utf-8";
+    return new TextDecoder(form).decode(bytes);
+}
 
 export class InputView {
     // ACTS are what the page does: 'type' and 'open' a text, 'set' an option, and what leaves it by the name of a
@@ -32,8 +41,8 @@ export class InputView {
         this.chosenKey = null;
         this.text =
             longField("text", state.text, type, {"aria-describedby": "text-hint found", clear: () => open("", "auto")});
-        const names =
-            longField("names", state.names, setter("names"), {most: MOST_LIST, "aria-describedby": "names-hint"});
+        const names = longField("names", state.names, (text) => this.takeNames(() => this.acts.set("names", text)),
+            {most: MOST_LIST, "aria-describedby": "names-hint"});
         const openExample = (name) => {
             const [kind, text] = valueIn(EXAMPLES, name);
             open(text, "auto", kind);
@@ -57,8 +66,40 @@ export class InputView {
                             null,
             make("details", {id: "more-options", open: this.store.hasOptions}, make("summary", {}, WORDS.moreOptions),
                 this.options(setter), box("common", WORDS.commonLabel, state.common, setter("common")),
-                labelled(WORDS.namesLabel, names.field, WORDS.namesHint), names.note));
+                labelled(WORDS.namesLabel, names.field, WORDS.namesHint), names.note, this.makeNamesFile(),
+                make("p", {id: "names-told", role: "status"})));
         this.fold(state.text !== "");
+    }
+
+    // The control for a file of names.
+    makeNamesFile() {
+        const take = async ({target}) => {
+            const [file] = target.files;
+            const isLong = file?.size > MOST_FILE;
+            const text = !file || isLong ? null : textOf(new Uint8Array(await file.arrayBuffer()));
+            this.takeNames(() => {
+                this.store.takeNamesOfFile(text);
+                this.acts.set("names", this.store.state.names);
+            });
+            byId("names-told").append(isLong ? say(WORDS.nameList.tooLong, {most: formatted(MOST_FILE)}) : "");
+        };
+        return labelled(WORDS.nameList.file, make("input", {id: "names-file", type: "file", onchange: take}));
+    }
+
+    // Takes names, and says what was read.
+    takeNames(take) {
+        take();
+        const {names, typedNames, ofFile} = this.store;
+        const all = [typedNames, ofFile].filter(Boolean);
+        const told = [
+            ["read", all.reduce((count, one) => count + one.names.size, 0)],
+            ...["known", "unread", "left"].map((key) => [key, all.reduce((count, one) => count + one[key], 0)])
+        ];
+        byId("names-told").textContent = !names.size && told.every(([, count]) => count === 0) ?
+            "" :
+            told.filter(([key, count]) => key === "read" || count > 0)
+                .map(([key, count]) => say(valueIn(WORDS.nameList, key), {count: formatted(count)}))
+                .join(" ");
     }
 
     options(setter) {

@@ -1,6 +1,7 @@
 // The kind of object that a pasted text tells of, where it shows: by what stands around the descriptor, or by rights
 // and object types that only one kind has.
 import {isDirectory, tableOf} from "./meanings.mjs";
+import {isOfShare, tableBelow, valuesAround} from "./titles.mjs";
 import {DESCRIPTORS, HINTS, KINDS} from "./windows.mjs";
 
 const SYNCHRONIZE = 0x100000;
@@ -46,6 +47,11 @@ export function kindIn(text) {
     }
     if (OF_A_SERVICE.test(text) && !OTHER_RIGHTS.test(text)) {
         return "service";
+    }
+    const lines = text.split(/\r\n|\r|\n/);
+    if ([...valuesAround(lines), ...lines.map((line) => tableBelow(line)?.(line))].some(
+            (one) => one && isOfShare(one))) {
+        return "share";
     }
     const around = AROUND.find(({patterns}) => patterns.every((pattern) => pattern.test(text)));
     if (around) {

@@ -167,6 +167,29 @@ export function modelOf(library, descriptor, options = {}) {
     };
 }
 
+const bitsOf = (names, some) => some.reduce((bits, name) => bits | (1 << names.indexOf(name)), 0);
+
+// An ACE as the library builds it, of one as the views have it, whose SID, GUIDs and rights may be as somebody typed
+// them. A fault tells the field.
+export function newAceOf(library, {kind, flags, mask, rights, sid, object, inherited}, domain) {
+    const read = (field, act) => {
+        try {
+            return act();
+        } catch (fault) {
+            fault.field = field;
+            throw fault;
+        }
+    };
+    return {
+        kind: KINDS.indexOf(kind),
+        flags: bitsOf(FLAGS, flags),
+        mask: read("rights", () => (rights === undefined ? mask : maskOfText(library, rights.trim()))),
+        sid: read("sid", () => sidBytes(library, sid, domain)),
+        objectType: read("object", () => guidBytes(library, object ?? "") ?? null),
+        inheritedObjectType: read("inherited", () => guidBytes(library, inherited ?? "") ?? null),
+    };
+}
+
 // An ACE in SDDL, without any name.
 export const aceText = ({kind, flags, mask, object, inherited, sid}) =>
     `(${kind};${flags.join("")};0x${mask.toString(16)};${object ?? ""};${inherited ?? ""};${sid})`;

@@ -18,6 +18,7 @@ const MOST_GROUPS = 15; // of trustees
 const MOST_NAMES = 3;   // of a group
 const MOST_RIGHTS = 3;  // in a sentence
 const MOST_TYPED = 2;
+const MOST_REASONS = 20;  // of a cell
 const MOST_SHOWN = 4;     // numbers of ACEs behind a trustee
 const MOST_NUMBERS = 30;  // of ACEs in a sentence
 const MOST_DROPPED = 160; // characters of what was left out
@@ -93,47 +94,61 @@ function orderOf({granted, typed, sid}, {change, read}, isUsual) {
     return (all & change) !== 0 ? (isUsual || isTrusted(sid, "") ? 1 : 0) : (all & read) !== 0 ? 2 : all !== 0 ? 3 : 4;
 }
 
-// The rows of the grid, those alike together: {rows, can, order, all}. What is granted for an object type is told of
-// the trustee whose ACE names it.
-function trusteesOf(result, kind) {
-    const {grid} = result;
+// The rows of the grid, each with how unusual it is, and with what is granted for an object type to the trustee whose
+// ACE names it.
+function rankedRows(result, kind) {
     const masks = {change: maskDoing(kind, "change"), read: maskDoing(kind, "read")};
     const aces =
         new Map(linesOf(result.model.dacl.aces).map((text) => JSON.parse(text)).map((ace) => [ace.number, ace]));
     const inherited = new Set([...aces.values()].filter(({flags}) => flags.includes("ID")).map(({number}) => number));
-    const groups = new Map();
-    for (const row of grid.rows) {
+    return result.grid.rows.map((row) => {
         const granted = ownOf(row);
         const own = row.numbers.map((number) => aces.get(number));
         const typed = row.typed.filter(({object}) => own.some((ace) => ace.object === object));
-        const can = canInWords({...row, typed}, granted, kind, grid.rights);
         const order = orderOf({granted, typed, sid: row.sid}, masks, own.length > 0 && own.every(({usual}) => usual));
-        const key = `${order} ${can}`;
-        const group = groups.get(key) ?? {rows: [], can, order, all: []};
-        group.rows.push(row);
-        group.all.push(becauseOf({...row, typed}, granted, inherited));
+        return {row, granted, order, because: becauseOf({...row, typed}, granted, inherited), typed};
+    });
+}
+
+// Those that are alike together, unusual ones first, and before these whom the verdict is about: {rows, order, all}.
+function groupsOf(ranked, result, keyOf) {
+    const groups = new Map();
+    for (const one of [...ranked].sort((other, another) => other.order - another.order)) {
+        const key = keyOf(one);
+        const group = groups.get(key) ?? {rows: [], order: one.order, all: [], first: one};
+        group.rows.push(one.row);
+        group.all.push(one.because);
         groups.set(key, group);
     }
     const isFirst = ({rows}) => rows.some(({sid}) => sid === result.judged.who?.[0]);
     return [...groups.values()].sort((one, other) => isFirst(other) - isFirst(one) || one.order - other.order);
 }
 
-function trusteeRow({rows, can, order, all}, names) {
-    const {columns} = WORDS.summary;
-    const shown = (some) => some.map((row, at) => [at ? ", " : "", who(row.sid, row.alias, names),
-                                         row.isOwner ? make("span", {class: "tag"}, WORDS.grid.owner) : null]);
+// The names of trustees that are alike, of which a few are seen at once. ATTRIBUTES are those of each.
+function namesShown(rows, names, attributesOf = (_) => ({})) {
+    const shown = (some) =>
+        some.map((row, at) => [at ? ", " : "", make("span", attributesOf(row), who(row.sid, row.alias, names)),
+                     row.isOwner ? make("span", {class: "tag"}, WORDS.grid.owner) : null]);
     const left = rows.slice(MOST_NAMES);
-    const more = left.length ? make("details", {class: "others"},
-                                   make("summary", {}, say(WORDS.summary.left, {count: left.length})), shown(left)) :
-                               null;
+    return [
+        shown(rows.slice(0, MOST_NAMES)),
+        left.length ? make("details", {class: "others"},
+                          make("summary", {}, say(WORDS.summary.left, {count: left.length})), shown(left)) :
+                      null
+    ];
+}
+
+function trusteeRow({rows, first, order, all}, kind, rights, names) {
+    const {columns} = WORDS.summary;
+    const can = canInWords({...first.row, typed: first.typed}, first.granted, kind, rights);
     const numbers = new Set(all.flatMap((one) => [...one.numbers, ...one.denying]));
     return make("tr", {class: `trustee order-${order}`, "data-aces": [...numbers].join(" ")},
-        make("th", {scope: "row", "data-label": columns.who}, shown(rows.slice(0, MOST_NAMES)), more),
+        make("th", {scope: "row", "data-label": columns.who}, namesShown(rows, names)),
         make("td", {"data-label": columns.can}, can),
         make("td", {"data-label": columns.because}, becauseInWords(all, rows)));
 }
 
-function trustees(result, kind, names) {
+function trustees(result, kind, names, ranked) {
     const {summary: words} = WORDS;
     const {grid} = result;
     if (!grid.isList) {
@@ -142,9 +157,10 @@ function trustees(result, kind, names) {
             make("p", {}, words.everyoneWhy));
     }
     const body = make("tbody");
-    const groups = trusteesOf(result, kind);
-    const more = someRows(body, groups, (group) => trusteeRow(group, names), (count) => say(WORDS.grid.more, {count}),
-        {step: MOST_GROUPS});
+    const canOf = ({row, granted, typed}) => canInWords({...row, typed}, granted, kind, grid.rights);
+    const groups = groupsOf(ranked, result, (one) => `${one.order} ${canOf(one)}`);
+    const more = someRows(body, groups, (group) => trusteeRow(group, kind, grid.rights, names),
+        (count) => say(WORDS.grid.more, {count}), {step: MOST_GROUPS});
     return make("section", {class: "summary", "aria-labelledby": "summary-heading"},
         heading(words.heading, "summary-heading", words.note),
         groups.length ?
@@ -160,7 +176,7 @@ const acesInWords = (numbers) =>
     say(numbers.length === 1 ? WORDS.acesOne : WORDS.acesMany, {numbers: firstOf(numbers, MOST_NUMBERS, String)});
 
 // What a warning says, with the classes that it depends on.
-function warningText(warning, kind, names) {
+export function warningText(warning, kind, names) {
     const {onlyOf, exceptOf} = warning;
     const text = plainText(warning, kind, names);
     const classes = (onlyOf ?? exceptOf ?? []).join(WORDS.or);
@@ -203,31 +219,35 @@ function jumpTo(list, number) {
         {class: "jump", "aria-label": say(WORDS.error.ace, {number, part: valueIn(WORDS.parts, list)})});
 }
 
-const stateWord = (state, grid) => (state === "rule" ? (grid.isList ? WORDS.grid.ruleOwner : WORDS.grid.ruleNoDacl) :
-                                                       valueIn(WORDS.grid.states, state));
+export const stateWord = (state, grid) =>
+    (state === "rule" ? (grid.isList ? WORDS.grid.ruleOwner : WORDS.grid.ruleNoDacl) :
+                        valueIn(WORDS.grid.states, state));
 
-function gridCell(row, right, name, context, isFirst) {
+function gridCell(rows, right, name, context, isFirst) {
     const {grid} = context;
-    const state = cellOf(row, right.bit);
+    const state = cellOf(rows[0], right.bit);
     const text = say(WORDS.grid.cell, {who: name, right: right.name, state: stateWord(state, grid)});
     return make("td", {class: `state ${state} group-${right.group}`},
-        button(valueIn(WORDS.grid.signs, state), (event) => context.onCell(row, right, event.currentTarget), {
+        button(valueIn(WORDS.grid.signs, state), (event) => context.onCell(rows, right, event.currentTarget), {
             class: "cell",
             "aria-label": text,
             title: text,
             tabindex: isFirst ? "0" : "-1",
-            "data-sid": row.sid,
+            "data-sid": rows[0].sid,
             "data-bit": right.bit,
             "data-state": state
         }));
 }
 
-function gridRow(row, rights, context, isFirst) {
-    const name = plainName(row.sid, context.names);
-    return make("tr", {"data-token": row.token.join(" ")},
-        make("th", {scope: "row"}, who(row.sid, row.alias, context.names),
-            row.isOwner ? make("span", {class: "tag"}, WORDS.grid.owner) : null),
-        rights.map((right, column) => gridCell(row, right, name, context, isFirst && column === 0)));
+// The names of some trustees in a sentence.
+const plainNames = (rows, names) => firstOf(rows, MOST_NAMES, ({sid}) => plainName(sid, names));
+
+function gridRow(rows, rights, context, isFirst) {
+    const name = plainNames(rows, context.names);
+    return make("tr", {},
+        make("th", {scope: "row"},
+            namesShown(rows, context.names, ({sid, token}) => ({"data-sid": sid, "data-token": token.join(" ")}))),
+        rights.map((right, column) => gridCell(rows, right, name, context, isFirst && column === 0)));
 }
 
 function groupHeadings(rights) {
@@ -241,7 +261,13 @@ function groupHeadings(rights) {
                        valueIn(WORDS.grid.groups, group))));
 }
 
-function gridSection(result, context, later) {
+// The rows of the grid: trustees with the same cells have one.
+export function alikeRows(result, kind, ranked = rankedRows(result, kind)) {
+    const rights = rightsOf(kind).filter((right) => has(result.grid.rights, right.bit));
+    return groupsOf(ranked, result, ({row}) => rights.map(({bit}) => cellOf(row, bit)).join());
+}
+
+function gridSection(result, context, ranked, later) {
     const {grid} = result;
     const {kind, isCommon} = context;
     const rights = rightsOf(kind).filter((right) => has(grid.rights, right.bit));
@@ -253,8 +279,8 @@ function gridSection(result, context, later) {
                 rights.map((right) => make("th", {scope: "col", class: `group-${right.group}`, title: right.name},
                                make("span", {}, right.short))))),
         body);
-    const more = someRows(body, grid.rows.map((row, index) => [row, index]),
-        ([row, index]) => gridRow(row, rights, {...context, grid}, index === 0),
+    const groups = alikeRows(result, kind, ranked);
+    const more = someRows(body, groups, (group) => gridRow(group.rows, rights, {...context, grid}, group === groups[0]),
         (count) => say(WORDS.grid.more, {count}), {step: MOST_ROWS, later, turn: ROWS_OF_A_TURN});
     moveByArrows(table, "button.cell");
     return make("section", {"aria-labelledby": "grid-heading"}, heading(WORDS.grid.heading, "grid-heading"),
@@ -262,6 +288,13 @@ function gridSection(result, context, later) {
         make("div", {class: "scroll", tabindex: "0", role: "region", "aria-labelledby": "grid-heading"}, table), more,
         grid.left ? make("p", {}, button(WORDS.grid.all, context.onAll, {id: "grid-all"})) : null,
         make("div", {id: "why", class: "why", role: "status", "aria-live": "polite"}));
+}
+
+// Gives the focus to the grid, where the button that asked for more of it is gone.
+export function focusGrid() {
+    if (document.activeElement === document.body) {
+        /** @type {HTMLElement} */ (document.querySelector(".scroll[aria-labelledby='grid-heading']"))?.focus();
+    }
 }
 
 const legend = (grid) => make("p", {class: "legend", "aria-hidden": "true"},
@@ -287,19 +320,28 @@ function reasonInWords(reason, name, kind, texts) {
     });
 }
 
-// What decided about a cell of the grid, in a row below the cell's.
-export function showReason(row, bit, context, cell) {
-    const reason = reasonIn(row, bit);
+// What decided about a cell of the grid, in a row below the cell's: a sentence for those with one reason.
+export function showReason(rows, bit, {names, kind, texts}, cell) {
     const place = byId("why");
     const own = cell.closest("tr");
     place.closest("tr")?.remove();
     const columns = own.childElementCount;
     own.after(make("tr", {class: "reason-row"}, make("td", {colspan: columns}, place)));
-    place.replaceChildren(
-        make("p", {}, reasonInWords(reason, plainName(row.sid, context.names), context.kind, context.texts),
-            reason.by === "ace" ? [" ", jumpTo("dacl", reason.number)] : null));
+    const byReason = new Map();
+    for (const row of rows) {
+        const reason = reasonIn(row, bit);
+        const key = `${reason.by} ${reason.number}`;
+        byReason.set(key, {reason, rows: [...(byReason.get(key)?.rows ?? []), row]});
+    }
+    const all = [...byReason.values()];
+    const sentences = all.slice(0, MOST_REASONS)
+                          .map(({reason, rows: some}) => make("p", {"data-sids": some.map(({sid}) => sid).join(" ")},
+                                   reasonInWords(reason, plainNames(some, names), kind, texts),
+                                   reason.by === "ace" ? [" ", jumpTo("dacl", reason.number)] : null));
+    place.replaceChildren(...sentences,
+        ...(all.length > MOST_REASONS ? [say(WORDS.summary.left, {count: all.length - MOST_REASONS})] : []));
     document.querySelectorAll("tr.ace.found").forEach((other) => other.classList.remove("found"));
-    if (reason.by === "ace") {
+    for (const {reason} of all.filter((one) => one.reason.by === "ace")) {
         byId(`dacl-${reason.number}`)?.classList.add("found");
     }
 }
@@ -353,10 +395,11 @@ export function showLook(place, result, context, isOver) {
     const {kind, names} = context;
     const {rows, rights} = result.grid;
     const count = rows.length * bitsOf(rights).length;
+    const ranked = rankedRows(result, kind);
     const parts = [
-        () => trustees(result, kind, names), () => warnings(result, kind, names),
+        () => trustees(result, kind, names, ranked), () => warnings(result, kind, names),
         ...(isDirectory(kind) ? [() => findSection(context, objectsOf(result))] : []),
-        (later) => gridSection(result, context, later)
+        (later) => gridSection(result, context, ranked, later)
     ];
     return showParts(place, count, parts, isOver);
 }

@@ -4,19 +4,21 @@ import {hasVectors} from "../javascript/sdtool.mjs";
 import {makeAsk, showAsk, showAskRights} from "./ask_view.mjs";
 import {makeCompare, showCompare} from "./compare_view.mjs";
 import {linesOf} from "./desk.mjs";
-import {button, byId, isField, make, show} from "./dom.mjs";
+import {button, byId, isField, isTyped, make, show} from "./dom.mjs";
+import {EditView} from "./edit_view.mjs";
+import {Editing} from "./editing.mjs";
 import {makeInherit, showInherit} from "./inherit_view.mjs";
 import {InputView} from "./input_view.mjs";
 import {tabBehind, tie} from "./keyboard.mjs";
 import {kindQuestion} from "./kind_view.mjs";
 import {LinesView} from "./lines_view.mjs";
-import {foundText, showFault, showLook, showReason} from "./look_view.mjs";
+import {focusGrid, foundText, showFault, showLook, showReason} from "./look_view.mjs";
 import {askAll, ManyView} from "./many_view.mjs";
 import {faultInWords, shownName} from "./naming.mjs";
 import {showPrintHead, unfold} from "./paper.mjs";
 import {isLarge} from "./parts_view.mjs";
 import {nameOfObject, objectWords, placeOfObject, ReportView} from "./report_view.mjs";
-import {copyCommand, copyLink, copyText} from "./share_view.mjs";
+import {copy, copyCommand, copyLink, copyMarkdown, copyText} from "./share_view.mjs";
 import {speak} from "./speech.mjs";
 import {Store} from "./store.mjs";
 import {valueIn} from "./tables.mjs";
@@ -28,7 +30,7 @@ import {say, WORDS} from "./words.mjs";
 import {FileDesk, SECONDS_TO_ANSWER, serve, startDesk, TooSlow} from "./worker.mjs";
 
 const MILLISECONDS_TO_TELL = 300;
-const ANSWERED = ["ask", "inherit", "compare"]; // views that ask a question of their own
+const ANSWERED = ["ask", "inherit", "compare", "edit"]; // views that ask a question of their own
 
 // Why there is no answer.
 const errorWords = (error) => (error instanceof TooSlow ? say(WORDS.tooSlow, {seconds: SECONDS_TO_ANSWER}) :
@@ -61,6 +63,13 @@ class Page {
             onOpen: (at) => this.set("chosen", at),
             onCompare: (one, other) => this.compareTwo(one, other),
         });
+        this.editing = new Editing();
+        this.editView = new EditView({
+            step: (step) => this.step(step),
+            undo: () => this.turn("undo"),
+            redo: () => this.turn("redo"),
+            copy,
+        });
         this.input = new InputView(this.store, {
             type: (text) => this.type(text),
             open: (text, form, kind) => this.open(text, form, kind),
@@ -71,6 +80,7 @@ class Page {
                 link: () => copyLink(this.state),
                 command: () => copyCommand(
                     this.state, {result: this.result, asked: this.asked, isKindShown: Boolean(this.shownKind)}),
+                markdown: () => copyMarkdown(this.result, this.context),
                 print: () => window.print(),
             },
         });
@@ -94,10 +104,13 @@ class Page {
             isCommon: this.state.common,
             texts: linesOf(this.result?.texts),
             made: this.state.made,
-            onCell: (row, right, cell) => showReason(row, right.bit, this.context, cell),
+            onCell: (rows, right, cell) => showReason(rows, right.bit, this.context, cell),
             onAce: (ace) => showAce(ace, this.context),
             onKind: (kind) => this.answerKind(kind),
-            onAll: () => this.set("all", true),
+            onTake: (numbers) => this.take(numbers),
+            editing: this.editing,
+            judged: this.result?.judged,
+            onAll: () => this.set("all", true).then(focusGrid),
             found: this.found,
             onFind: (objects) => this.desk.ask("find", {state: this.store.shared, objects}).catch(() => null),
         };
@@ -108,7 +121,7 @@ class Page {
         if (name === "kind") {
             this.showKind(value);
         }
-        this.refresh();
+        return this.refresh();
     }
 
     makeViews() {
@@ -133,6 +146,7 @@ class Page {
 
     listen() {
         byId("tabs").addEventListener("keydown", (event) => this.moveTab(event));
+        window.addEventListener("keydown", (event) => this.key(event));
         window.addEventListener("beforeprint", unfold);
         window.addEventListener("dragover", (event) => event.preventDefault());
         window.addEventListener("drop", (event) => this.drop(event));
@@ -159,6 +173,42 @@ class Page {
             this.choose(view);
             byId(`tab-${view}`).focus();
         }
+    }
+
+    // Undoes a step of an edit, or does it again. A field of a text has an undo of its own.
+    key(event) {
+        const isMeant = (event.ctrlKey || event.metaKey) && !event.altKey && this.state.view === "edit";
+        const name = event.key.toLowerCase();
+        const way = name === "y" || (name === "z" && event.shiftKey) ? "redo" : name === "z" ? "undo" : "";
+        if (isMeant && way && !isTyped(event.target)) {
+            event.preventDefault();
+            this.turn(way);
+        }
+    }
+
+    beginEdit() {
+        const {text, form, chosen, domain} = this.state;
+        this.editing.begin([text, form, chosen, domain]);
+    }
+
+    step(step) {
+        this.beginEdit();
+        this.editing.add(step);
+        this.refreshView();
+    }
+
+    turn(way) {
+        if (this.editing[way]()) {
+            this.editView.said = valueIn(WORDS.edit.did, way);
+            this.refreshView();
+        }
+    }
+
+    // Takes the ACEs of a verdict away, as the first step of an edit.
+    take(numbers) {
+        this.state.view = "edit";
+        this.showView();
+        this.editView.take("dacl", numbers);
     }
 
     choose(view) {
@@ -298,6 +348,7 @@ class Page {
     broke(error) {
         this.result = null;
         this.showKind(this.state.kind);
+        byId("page").classList.remove("has-edit");
         clearTimeout(this.slow);
         for (const view of ["look", ...ANSWERED]) {
             this.turns.show(view, make("p", {class: "fault-name"}, errorWords(error)));
@@ -373,13 +424,21 @@ class Page {
 
     async askView(view, turn) {
         const {shared: state} = this.store;
-        const questions = new Map([
-            ["ask", [{state, asked: this.state.ask}, showAsk]],
-            ["inherit", [{state, made: this.state.made}, showInherit]],
-            ["compare", [{state, other: this.state.other}, showCompare]],
-        ]);
-        const [about, showAnswer] = questions.get(view);
+        this.beginEdit();
+        const {ask, made, other} = this.state;
+        /** @type {Record<string, [any, (...given: any[]) => any[]]>} */
+        const questions = {
+            ask: [{state, asked: ask}, showAsk],
+            inherit: [{state, made}, showInherit],
+            compare: [{state, other}, showCompare],
+            edit: [
+                {state, now: this.editing.now, steps: [...this.editing.waiting]},
+                (...given) => this.editView.show(...given)
+            ],
+        };
+        const [about, showAnswer] = valueIn(questions, view);
         const result = await this.desk.ask(view, about).catch((error) => ({error}));
+        await (view === "edit" && this.editView.released());
         if (result && !turn.isOver(view)) {
             await this.showAnswer(view, result, showAnswer, () => turn.isOver(view));
         }
@@ -397,6 +456,10 @@ class Page {
     async showAnswer(view, result, showAnswer, isOver) {
         const {turns} = this;
         let shown = null;
+        if (view === "edit") {
+            this.editing.take(result);
+            byId("page").classList.toggle("has-edit", Boolean(result.made));
+        }
         if (result.error) {
             turns.show(view, make("p", {class: "fault-name"}, errorWords(result.error)));
             speak(errorWords(result.error));

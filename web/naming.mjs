@@ -2,7 +2,6 @@
 import {bitsOf, has} from "./access.mjs";
 import {maskText} from "./library.mjs";
 import {isForNothing, relativeOf} from "./meanings.mjs";
-import {afterBlanks} from "./scanning.mjs";
 import {guidNames} from "./schema.mjs";
 import {valueIn} from "./tables.mjs";
 import {KINDS} from "./windows.mjs";
@@ -23,28 +22,6 @@ const MOST_NAME = 500; // characters: Windows has no longer ones of accounts
 // A name as the page shows it again and again.
 export const shownName = (name) => visible(shortened(name, MOST_NAME));
 
-// Where a name begins, behind the blanks and signs between a SID and it.
-function afterSeparators(line, from) {
-    let at = afterBlanks(line, from);
-    while (at < line.length && "=,;:".includes(line[at])) {
-        at = afterBlanks(line, at + 1);
-    }
-    return at;
-}
-
-// The user's own names: lines of a SID and a name.
-export function ownNames(text) {
-    const names = new Map();
-    for (const line of text.split(/\r?\n/)) {
-        const [front, sid] = /^\s*(S-1-[0-9-]+)(?=[\s=,;:])/i.exec(line) ?? [];
-        const name = front === undefined ? "" : line.slice(afterSeparators(line, front.length)).trim();
-        if (name) {
-            names.set(sid.toUpperCase(), shownName(name));
-        }
-    }
-    return names;
-}
-
 function familyName(sid) {
     for (const [pattern, text] of WORDS.families) {
         const found = pattern.exec(sid);
@@ -60,12 +37,26 @@ function nameOfWindows(sid) {
     return valueIn(WORDS.names, sid) ?? (relative && valueIn(WORDS.relativeNames, relative.number));
 }
 
-// The names that a report has of SIDs, each told as the report's. None stands for one of Windows.
-export const namesOfReport = (names) => new Map(names.filter(([sid]) => !nameOfWindows(sid)).map(([sid,
+// Whether Windows itself names a SID, for which no other name is taken.
+export const isOfWindows = (sid) => Boolean(nameOfWindows(sid));
+
+// The names that a report has of SIDs, each told as the report's.
+export const namesOfReport = (names) => new Map(names.filter(([sid]) => !isOfWindows(sid)).map(([sid,
     name]) => [sid, say(WORDS.report.named, {name: shownName(name)})]));
 
 // The name of a SID: the user's own or a report's, a well-known one, or what kind of SID it is.
 export const nameOf = (sid, names) => names.get(sid) ?? nameOfWindows(sid) ?? familyName(sid);
+
+const OF_SID = /^(?:S-1-|[A-Z]{2}$)/i; // what a SID or an alias begins with
+
+// The SID that a text names, if it is the name of one SID alone, or the text.
+export function sidNamed(text, names) {
+    const typed = text.trim();
+    const wanted = typed.toLowerCase();
+    const all = OF_SID.test(typed) ? [] : [...names, ...Object.entries(WORDS.names)];
+    const sids = new Set(all.filter(([, name]) => name.toLowerCase() === wanted).map(([sid]) => sid));
+    return sids.size === 1 ? [...sids][0] : typed;
+}
 
 function rightsInOrder(words, rights) {
     const named = rights.filter(([bit]) => Object.hasOwn(words, bit));

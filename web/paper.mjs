@@ -2,6 +2,7 @@
 import {byId, make, show} from "./dom.mjs";
 import {shownName, visible} from "./naming.mjs";
 import {valueIn} from "./tables.mjs";
+import {openFold} from "./text_view.mjs";
 import {formatted, say, WORDS} from "./words.mjs";
 
 const MOST_TEXT = 3000; // characters of a descriptor
@@ -39,7 +40,12 @@ export function unfold() {
         (css) => [...document.querySelectorAll(css)].filter((element) => !element.closest("[hidden]:not(#lines)"));
     const next = () => shown("#page .more button, #page tr.fold button")[0];
     while (next() && document.querySelectorAll("#page tr, #page li").length < MOST_ROWS) {
-        next().click();
+        const fold = next().closest("tr.fold");
+        if (fold) {
+            openFold(fold);
+        } else {
+            next().click();
+        }
     }
     const closed = shown("#page details:not([open], #more-options)");
     closed.forEach((one) => { one.open = true; });

@@ -1,5 +1,6 @@
 // Pieces that several views share: a SID, an ACE, a list of ACEs, a fault.
-import {area, button, make, show, tooLong} from "./dom.mjs";
+import {linesOf} from "./desk.mjs";
+import {area, box, button, make, show, someRows, tooLong} from "./dom.mjs";
 import {maskText} from "./library.mjs";
 import {
     faultInWords,
@@ -91,8 +92,11 @@ export function wordOfKind(ace) {
     return valueIn(WORDS.aceKinds, ace.kind) + (isAudit && audits.length ? ` ${commaed(audits)}` : "");
 }
 
+export const rightsOfAce = (ace, kind) =>
+    (ace.kind === "ML" ? labelInWords(ace.mask) : rightsInWords(kind, ace.meaning));
+
 export function aceRights(ace, kind) {
-    const words = ace.kind === "ML" ? labelInWords(ace.mask) : rightsInWords(kind, ace.meaning);
+    const words = rightsOfAce(ace, kind);
     const generic = ace.meaning === ace.mask ? null : make("small", {}, ` (${commaed(rightsInWords(kind, ace.mask))})`);
     const object = ace.object ?
         make("div", {class: "object"}, say(WORDS.object, {name: guidInWords(ace.object, ace.meaning)})) :
@@ -123,3 +127,50 @@ export function faultBox(fault, place, ...more) {
         make("p", {}, where ? say(WORDS.error.place, {place: where}) : WORDS.error.unplaced), markedText(place),
         suggestion ? make("p", {}, say(WORDS.error.suggestion, {text: suggestion})) : null, ...more);
 }
+
+const differing = ({gained, lost}) => ({"data-gained": gained, "data-lost": lost});
+
+function difference({gained, lost}, kind) {
+    const words = (name, mask) =>
+        (mask === 0 ? null :
+                      make("span", {class: name},
+                          say(valueIn(WORDS.compare, name), {rights: commaed(rightsInWords(kind, mask))}), " "));
+    return [words("gained", gained), words("lost", lost)];
+}
+
+// What differs for one property, right or class.
+const typedLine = (typed, kind) => make("li", {"data-object": typed.object, ...differing(typed)},
+    difference(typed, kind), say(WORDS.object, {name: guidInWords(typed.object, typed.gained | typed.lost)}));
+
+const rightsItem = (row, kind, names) =>
+    make("li", {"data-sid": row.sid, ...differing(row)}, who(row.sid, row.alias, names), " ", difference(row, kind),
+        row.typed.length ? make("ul", {}, row.typed.map((typed) => typedLine(typed, kind))) : null);
+
+// Whether rights of some trustees were not compared, which is no sign that they are the same.
+const areLeft = ({compared, trustees}) => compared < trustees;
+
+const rightsLeft = ({compared, trustees}) =>
+    say(WORDS.compare.rightsLeft, {count: formatted(compared), all: formatted(trustees)});
+
+// Whose rights a comparison found to differ, and what it did not ask about.
+export function rightsSection(id, heading, result, {kind, names}, later = null) {
+    const list = make("ul", {class: "differences"});
+    const more = someRows(list, linesOf(result.rights), (line) => rightsItem(JSON.parse(line), kind, names),
+        (count) => say(WORDS.grid.more, {count}), {later});
+    return make("section", {"aria-labelledby": `${id}-rights`}, make("h3", {id: `${id}-rights`}, heading),
+        result.changed > 0  ? [list, more] :
+            areLeft(result) ? null :
+                              make("p", {}, WORDS.compare.rightsNone),
+        result.areBelowSame ? null : make("p", {class: "hint"}, WORDS.compare.below),
+        result.areTypesLeft ? make("p", {class: "fault-name"}, WORDS.warnings.manyTypes) : null,
+        areLeft(result) ? make("p", {class: "fault-name"}, rightsLeft(result)) : null);
+}
+
+// The same in a sentence.
+export const rightsDiffering = (result) => (areLeft(result) ? rightsLeft(result) :
+        result.changed > 0                                  ? say(WORDS.compare.rightsCount, {count: result.changed}) :
+                                                              WORDS.compare.rightsNone);
+
+// A box for each right, of which some are chosen.
+export const rightBoxes = (id, rights, isChosen, choose) =>
+    rights.map(({bit, name}) => box(`${id}-${bit}`, name, isChosen(bit), (checked) => choose(bit, checked)));

@@ -190,10 +190,10 @@ const isFolder = ({kind, isGuess}, aces) => (kind === "folder" && !isGuess) || (
     "folder"].includes(kind) && aces.some(({flags}) => inheritedBy(kind).some((flag) => flags.includes(flag))));
 
 // What is asked about a descriptor: the trustees here and below, those of a folder who get no right to change its files
-// by what counts here, and what is left of the list without Windows' own ACEs.
+// by what counts here, those of Windows' own ACEs, and what is left of the list without these.
 export function caseOf(model, options) {
     const {kind, domain} = options;
-    const [here, filing, below, kept] = [new Set(), new Set(), new Map(), []];
+    const [here, filing, excused, below, kept] = [new Set(), new Set(), new Set(), new Map(), []];
     const inherited = inheritedBy(kind);
     // What an ACE that denies takes here, children may get all the same; and a generic right may mean more for them.
     const isDenied = model.dacl.aces.some((ace) => DENIES.includes(ace.kind));
@@ -205,6 +205,9 @@ export function caseOf(model, options) {
         const given = (isBelow ? 0 : mask) | (goesOn ? ofChildren : 0);
         if (ALLOWS.includes(ace.kind) && sid && concerns(ace, given, sid, kind, domain)) {
             if (isDefault(ace, mask, ofChildren, options)) {
+                if (!isBelow) {
+                    excused.add(sid);
+                }
                 continue;
             }
             if (!isBelow) {
@@ -222,7 +225,7 @@ export function caseOf(model, options) {
     }
     const adding =
         isFolder(options, model.dacl.aces) ? new Set([...here].filter((sid) => !filing.has(sid))) : new Set();
-    return {here, adding, below, kept};
+    return {here, adding, excused, below, kept};
 }
 
 function concerns(ace, mask, sid, kind, domain) {
@@ -329,9 +332,9 @@ function asked(question) {
 
 function ofList(library, model, options) {
     const {kind, domain, classes, hasAccounts} = options;
-    const {here, adding, below, kept} = caseOf(model, options);
+    const {here, adding, excused, below, kept} = caseOf(model, options);
     const owner = askedOwner(model, kind, domain);
-    if (!here.size && !below.size && !owner) {
+    if (!here.size && !below.size && !excused.size && !owner) {
         return [];
     }
     const ownerSid = model.owner?.sid ?? null;
@@ -364,7 +367,12 @@ function ofList(library, model, options) {
         const got = beyond(own, sid, adding.has(sid) ? here : telling);
         found.push(...ofSid(sid, sid === owner ? without(got, {mask: ofOwner, typed: []}) : got));
     }
-    return [...found, ...ofBelow(library, {below, kept, own, beyond, wanted, ofSid}, options)];
+    const ofWindows = [...(isDirectory(kind) ? [] : excused)].flatMap((sid) => {
+        const known = here.has(sid) ? own.mask(sid, "") : 0;
+        const mask = (whole.mask(sid, "") & wanted(sid).mask & ~known) >>> 0;
+        return ofMask("given-by-windows", kind, sid, whole, {mask, typed: []});
+    });
+    return [...found, ...ofBelow(library, {below, kept, own, beyond, wanted, ofSid}, options), ...ofWindows];
 }
 
 // What answers about a trustee, of an object without what is excused and of all of it.

@@ -74,6 +74,15 @@ export function endOfQuoted(text, from) {
     return at < 0 ? text.length : at;
 }
 
+// Where a text of JSON ends, behind its quotation mark.
+export function endOfJson(text, from) {
+    let at = from;
+    while (at < text.length && text.charCodeAt(at) !== QUOTE) {
+        at += text.charCodeAt(at) === BACKSLASH ? 2 : 1;
+    }
+    return at + 1;
+}
+
 // A text of ASCII without blanks and some other characters; one that has other characters is given back.
 export function without(text, others) {
     if (text === "") {

@@ -14,7 +14,8 @@ const SYSTEM = "S-1-5-18";
 const RUN = ["file", "task"]; // kinds of objects that are run
 const NO_SHAPE = 20;          // the error of a text that is no SDDL as a whole
 
-const acesIn = (numbers, one, many) => say(numbers.length === 1 ? one : many,
+// The numbers of ACEs in words for one and for many.
+export const acesIn = (numbers, one, many) => say(numbers.length === 1 ? one : many,
     {numbers: [...numbers.slice(0, MOST_NUMBERS), ...(numbers.length > MOST_NUMBERS ? [".."] : [])].join(", ")});
 
 // Several names: the first ones, and how many more.

@@ -3,6 +3,7 @@ import {addressOf} from "./address.mjs";
 import {commandLine, whyNoCommand} from "./command.mjs";
 import {STAND_IN_DOMAIN} from "./desk.mjs";
 import {area, button, byId, make, show} from "./dom.mjs";
+import {markdownOf} from "./markdown.mjs";
 import {freshState} from "./state.mjs";
 import {formatted, say, WORDS} from "./words.mjs";
 
@@ -10,8 +11,9 @@ const MOST_COPIED = 200_000; // characters that are shown at once of what is cop
 
 const status = (text) => make("p", {role: "status"}, text);
 
-async function copy(text, what) {
-    const place = byId("copied");
+// Copies a text, and shows it in a place.
+export async function copy(text, what, place = byId("copied")) {
+    show(byId("copied"));
     try {
         await navigator.clipboard.writeText(text);
         show(place, status(say(WORDS.copied, {what})));
@@ -31,6 +33,11 @@ async function copy(text, what) {
         showText();
     }
 }
+
+// What the page shows of an answer as Markdown.
+export const copyMarkdown = (result, context) =>
+    (result?.judged ? copy(markdownOf(result, context), WORDS.share.markdown) :
+                      show(byId("copied"), status(WORDS.waiting)));
 
 export const copyText = (state, result) => copy(result?.sddl ?? state.text, WORDS.share.text);
 

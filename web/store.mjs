@@ -1,7 +1,8 @@
 // The state of the page, and how a text, a choice, an address or a report changes it. Nothing here knows the document.
 import {takeAddress} from "./address.mjs";
 import {isDirectory} from "./meanings.mjs";
-import {namesOfReport, ownNames} from "./naming.mjs";
+import {namesIn} from "./name_lists.mjs";
+import {namesOfReport} from "./naming.mjs";
 import {freshState} from "./state.mjs";
 
 export class Store {
@@ -9,6 +10,7 @@ export class Store {
         this.first = view;
         this.state = {...freshState(), view};
         this.ofReport = new Map();
+        this.ofFile = null;
         this.namesText = null;
     }
 
@@ -70,11 +72,18 @@ export class Store {
         this.namesText = null;
     }
 
-    // The user's names of SIDs, and those of a report, which may have very many.
+    // Takes the names of a file, or none.
+    takeNamesOfFile(text) {
+        this.ofFile = text === null ? null : namesIn(text);
+        this.namesText = null;
+    }
+
+    // The user's names of SIDs, typed or of a file, and those of a report, which may have very many.
     get names() {
         if (this.namesText !== this.state.names) {
             this.namesText = this.state.names;
-            this.known = new Map([...this.ofReport, ...ownNames(this.state.names)]);
+            this.typedNames = namesIn(this.state.names);
+            this.known = new Map([...this.ofReport, ...this.ofFile?.names ?? [], ...this.typedNames.names]);
         }
         return this.known;
     }

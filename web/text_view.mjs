@@ -80,6 +80,9 @@ function foldLine(group, context) {
     return row;
 }
 
+// Opens a folded line, and leaves the focus where it is.
+export const openFold = (row) => OPENERS.get(row)(Number(row.dataset.from));
+
 const groupLine = (group, context) => (group.fold ? foldLine(group, context) : aceLine(group.aces[0], context));
 
 const FLAGS = {

@@ -8,6 +8,7 @@ import {ATTRIBUTES, PRIVILEGES} from "./windows.mjs";
 
 export const MOST_SIDS = 1024;
 const MOST_FAULTS = 20; // of which fewer are shown
+const MOST_LEVEL = 0xffffffff;
 const SID = /\bS-1-\d+(?:-\d+)+(?![\w-])/i;
 const LEVEL = /^S-1-16-(\d+)$/i;
 const PRIVILEGE = /^(?:"|[^":]*:\s+)?(Se[A-Z]\w*Privilege)\b/;
@@ -95,7 +96,7 @@ class Reader {
     // A SID that whoami lists. The user's alone has nothing behind it.
     addListed(sid, name, attributes) {
         const level = LEVEL.exec(sid);
-        if (level) {
+        if (level && Number(level[1]) <= MOST_LEVEL) {
             this.token.level = Number(level[1]);
             return;
         }

@@ -4,6 +4,7 @@ import {byId, show} from "./dom.mjs";
 import {hush, speak} from "./speech.mjs";
 
 const OLDER = "older";
+const PARTLY = "partly-older"; // an edit, whose controls keep the focus while the next step is asked about
 
 // What else is shown of a text.
 const OF_TEXT = ["found", "print-head", "first", "text-name", "lines", "ace-words"];
@@ -19,7 +20,7 @@ export class Turns {
         const turn = {isOver: (view) => this.newest.get(view) !== turn};
         for (const view of views) {
             this.newest.set(view, turn);
-            placeOf(view).classList.add(OLDER);
+            placeOf(view).classList.add(view === "edit" && views.length === 1 ? PARTLY : OLDER);
         }
         if (views.includes("ask")) {
             show(byId("ask-all"));
@@ -38,7 +39,7 @@ export class Turns {
     }
 
     isNew(view) {
-        placeOf(view).classList.remove(OLDER);
+        placeOf(view).classList.remove(OLDER, PARTLY);
         byId("view-look").hidden = document.body.dataset.view !== "look";
     }
 

@@ -223,14 +223,17 @@ def read_rules():
 
 
 def read_hints(kinds):
-    given = table("hints")["hints"]
+    found = table("hints")
+    given, titles = found["hints"], found["titles"]
+    expect(set(titles) == {"descriptor", "name", "share"}, "hints.toml: other titles")
+    expect(all(re.fullmatch("[a-z]+", title) for row in titles.values() for title in row), "hints.toml: a title")
     for row in given:
         expect(set(row) <= {"kind", "property", "key", "value", "name", "before", "text"}, f"{row}: another key")
         expect(row["kind"] in kinds, f"{row}: no such kind")
         patterns = [row[key] for key in ("key", "name", "before", "text") if key in row]
         expect(not any(re.compile(pattern).groups for pattern in patterns), f"{row}: a group that captures")
     return {"HINTS": tuple({key: tuple(value) if isinstance(value, list) else value for key, value in row.items()}
-                           for row in given)}
+                           for row in given), "TITLES": {what: tuple(row) for what, row in titles.items()}}
 
 
 def read_listings():
@@ -246,6 +249,28 @@ def read_listings():
     distinct((row["name"] for row in given["privilege"]), "a privilege")
     return {"ATTRIBUTES": words, "PRIVILEGES": {row["name"]: (row.get("check", ""), row.get("lets", ""))
                                                 for row in given["privilege"]}}
+
+
+PARTS = ("owner", "group", "dacl", "sacl", "label")
+PLACES_OF_FORMS = ("name", "sddl", "hex", "sections", "audit", "step", "directory", "key")
+
+
+def read_commands(kinds):
+    given = table("commands")["command"]
+    for row in given:
+        expect({"tool", "shell", "kinds", "form", "sets"} <= set(row), f"{row}: a key is missing")
+        expect(set(row) <= {"tool", "shell", "kinds", "at", "name", "form", "sets", "needs", "by", "native",
+                            "numbers", "sorts"}, f"{row}: another key")
+        expect(row["shell"] in ("powershell", "posix"), f"{row}: no such shell")
+        expect(set(row["kinds"]) <= set(kinds), f"{row}: no such kind")
+        expect(row.get("at", "unix") in ("windows", "unix", "network"), f"{row}: no such place")
+        expect(set(row["sets"]) | set(row.get("needs", ())) <= set(PARTS), f"{row}: no such part")
+        expect(row.get("by", "steps") in ("sections", "steps", "grant", "bytes", "whole"), f"{row}: by")
+        places = re.findall(r"(?<!@)\{[^{}]*?(\w+)\}", row["form"])
+        expect(set(places) <= set(PLACES_OF_FORMS) and ("name" in places) == ("name" in row), f"{row}: form")
+    missing = {"at": "", "name": "", "needs": (), "by": "", "native": False, "numbers": False, "sorts": False}
+    return {"COMMANDS": tuple({**missing, **{key: tuple(value) if isinstance(value, list) else value
+                                             for key, value in row.items()}} for row in given)}
 
 
 def read_errors():
@@ -280,7 +305,8 @@ def all_tables():
     schema = Schema()
     kinds = read_kinds()
     tables = {**read_sids(), **kinds, **read_directory(schema, kinds["KINDS"]), **read_defaults(schema, kinds["KINDS"]),
-              **read_rules(), **read_listings(), **read_hints(kinds["KINDS"]), **read_report(), **read_errors()}
+              **read_rules(), **read_listings(), **read_hints(kinds["KINDS"]), **read_commands(kinds["KINDS"]),
+              **read_report(), **read_errors()}
     return tables, schema
 
 
@@ -371,6 +397,8 @@ def python_text(tables, schema):
         "RISKS_OF": ("Dict[str, Tuple[str, ...]]", "and the risks of rights that count for it."),
         "QUIET": ("Tuple[str, ...]", "Classes whose having a right is no finding."),
         "HINTS": ("Tuple[Dict[str, Any], ...]", "What tells the kind of an object, the first that fits."),
+        "TITLES": ("Dict[str, Tuple[str, ...]]",
+                   "Titles of columns and members with descriptors, with names, and of shares."),
         "REPORT": ("Dict[str, Any]",
                    "The report in the page: its version, and of each row the columns with their types."),
     }
@@ -458,7 +486,7 @@ def script_text(tables, schema):
              "windows/write.py."]
     for name in ("SIDS", "OF_A_DOMAIN", "FAMILIES", "PLURAL", "USUAL", "KINDS", "ABILITIES", "HARMLESS", "DESCRIPTORS",
                  "PROTECTING", "CONDITION", "DEFAULTS", "CONTAINERS", "SEVERITIES", "RULES", "RULE_OF", "RISKS_OF",
-                 "QUIET", "ATTRIBUTES", "PRIVILEGES", "HINTS", "REPORT", "ERRORS"):
+                 "QUIET", "ATTRIBUTES", "PRIVILEGES", "HINTS", "TITLES", "COMMANDS", "REPORT", "ERRORS"):
         value = plain(of_page(name, tables))
         if name in ("PROTECTING", "DEFAULTS"):
             lines.append(f"/** @type {{{script_type(value)}}} */")

@@ -15,7 +15,7 @@ from typing import Any, Dict, Iterable, Iterator, List, Mapping, Optional, Tuple
 
 from . import _library
 from ._errors import ArgumentFault, Fault, WrongType, shown
-from ._places import InSid
+from ._places import InField
 from ._slots import not_made, type_name
 
 BytesLike = Union[bytes, bytearray, memoryview]
@@ -193,7 +193,7 @@ def sid(name: str, value: Union[str, BytesLike], index: Optional[int] = None, *,
         try:
             return _library.sid_from_text(spelled, domain)
         except Fault as fault:
-            raise fault.of(name, index, InSid(spelled)) from None
+            raise fault.of(name, index, InField(spelled, "sid")) from None
     found = data(name, value, index)  # type: ignore[arg-type]
     if not _library.is_one_sid(found):
         what = (found.hex() or "no bytes") if len(found) <= _MOST_SHOWN else f"{len(found)} bytes"

@@ -1,8 +1,10 @@
 """The calls over bytes."""
-from typing import Iterable, Optional
+from typing import Callable, Iterable, Optional, TypeVar
 
 from . import _arguments, _library
-from ._arguments import GuidLike
+from ._arguments import BytesLike, GuidLike, sid_or_none
+from ._errors import Fault
+from ._places import HEAD_OF_ACE, FieldName, InField, InText
 from ._values import DescriptorLike, SidLike, Verdict, derived, read_token
 from ._words import MAPPINGS, Kind, Mapping
 
@@ -149,3 +151,99 @@ def fault_text(number: int) -> str:
     'sid-form'
     """
     return _library.fault_text(_arguments.number("number", number))
+
+
+def ace_from_text(text: str, *, domain: Optional[SidLike] = None) -> bytes:
+    """The bytes of an ACE from its text in SDDL. A text that is not one ACE alone is error 20.
+
+    >>> ace_from_text("(A;;FR;;;WD)").hex()
+    '0000140089001200010100000000000100000000'
+    >>> ace_from_text("(A;;FR;;;Everyone)")
+    Traceback (most recent call last):
+        ...
+    sdtool.Fault: error 25 sid-form: any other text that is not a SID, at byte 9, SID
+    """
+    spelled, of = _arguments.characters("text", text), sid_or_none("domain", domain)
+    try:
+        return _library.ace_from_text(spelled, of)
+    except Fault as fault:
+        if spelled.startswith("("):
+            fault._where = InText(_arguments.text("text", HEAD_OF_ACE + spelled), of, _library.sddl_place, True)
+        raise
+
+
+def ace_to_text(ace: BytesLike, *, domain: Optional[SidLike] = None, numeric: bool = False) -> str:
+    """The text in SDDL of the bytes of an ACE.
+
+    >>> ace_to_text(ace_from_text("(A;;0x120089;;;BU)"))
+    '(A;;FR;;;BU)'
+    """
+    data = _arguments.data("ace", ace)
+    return _library.ace_to_text(data, sid_or_none("domain", domain), _arguments.flag("numeric", numeric))
+
+
+_Read = TypeVar("_Read")
+
+
+def _field(field: Optional[FieldName], call: Callable[[str], _Read], text: str) -> _Read:
+    """What the text of a field means, all of which is the place of its fault."""
+    spelled = _arguments.characters("text", text)
+    try:
+        return call(spelled)
+    except Fault as fault:
+        fault._where = InField(spelled, field)
+        raise
+
+
+def rights_from_text(text: str) -> int:
+    """The access mask that the rights of an ACE mean in SDDL.
+
+    >>> hex(rights_from_text("FRWD")), rights_from_text(""), rights_from_text("010")
+    ('0x160089', 0, 8)
+    """
+    return _field("rights", _library.rights_from_text, text)
+
+
+def rights_to_text(mask: int, *, label: bool = False) -> str:
+    """The rights of an ACE in SDDL: of a mandatory label, or of any other kind.
+
+    >>> rights_to_text(0x120089), rights_to_text(1, label=True), rights_to_text(0)
+    ('FR', 'NW', '0x0')
+    """
+    return _library.rights_to_text(_arguments.number("mask", mask), _arguments.flag("label", label))
+
+
+def flags_from_text(text: str) -> int:
+    """The flags of an ACE that a text means in SDDL.
+
+    >>> flags_from_text("OICI")
+    3
+    """
+    return _field("flags", _library.flags_from_text, text)
+
+
+def flags_to_text(flags: int) -> str:
+    """The flags of an ACE in SDDL.
+
+    >>> flags_to_text(0x13)
+    'OICIID'
+    """
+    return _library.flags_to_text(_arguments.number("flags", flags))
+
+
+def guid_from_text(text: str) -> bytes:
+    """The 16 bytes of a GUID, as they stand in an ACE.
+
+    >>> guid_from_text("bf967aba-0de6-11d0-a285-00aa003049e2").hex()
+    'ba7a96bfe60dd011a28500aa003049e2'
+    """
+    return _field(None, _library.guid_from_text, text)
+
+
+def guid_to_text(guid: BytesLike) -> str:
+    """The text of the 16 bytes of a GUID.
+
+    >>> guid_to_text(bytes.fromhex("ba7a96bfe60dd011a28500aa003049e2"))
+    'bf967aba-0de6-11d0-a285-00aa003049e2'
+    """
+    return _library.guid_to_text(_arguments.data("guid", guid))

@@ -1,132 +1,12 @@
 """The calls of include/sdtool.h by ctypes, where _native is not there. Both have the same functions, of which
 _native.pyi has the signatures; here each call takes about ten times as long beside the library's own time."""
 import ctypes
-from typing import Any, Callable, Dict, Iterable, Iterator, List, NoReturn, Optional, Sequence, Tuple
+from typing import Any, Callable, Dict, Iterable, Iterator, List, NoReturn, Optional, Tuple
 
+from . import _header as c
 from ._slots import Slot, not_made
 
 _FIRST_SIZE = 4096  # larger answers take a second call
-_OK, _TOO_SMALL = 0, 71
-_NULL, _LIST = 1, 2
-_STATUS_STOPPED, _STATUS_NO_MEMORY = 3, 4
-_NO_MEMORY = 72
-_MOST_MESSAGE, _MOST_SIDS, _RIGHTS, _MOST_DERIVED_ACES = 64, 1024, 25, 4095
-_U8, _U16, _U32, _SIZE, _BOOL = ctypes.c_uint8, ctypes.c_uint16, ctypes.c_uint32, ctypes.c_size_t, ctypes.c_bool
-_FAULT: List[Tuple[str, Any]] = [("fault", _U32), ("part", _U32), ("other_part", _U32)]
-
-
-class _Outcome(ctypes.Structure):
-    _fields_ = [*_FAULT, ("argument", _U32), ("entry", _SIZE), ("length", _SIZE)]
-
-
-class _Verdict(ctypes.Structure):
-    _fields_ = [*_FAULT, ("argument", _U32), ("entry", _SIZE), ("mask", _U32), ("granted", _BOOL)]
-
-
-class _Request(ctypes.Structure):
-    _fields_ = [("wanted", _U32), ("mapping", _U32), ("level", _U32), ("has_level", _BOOL), ("maximum", _BOOL),
-                ("security", _BOOL), ("take_ownership", _BOOL)]
-
-
-class _Asker(ctypes.Structure):
-    _fields_ = [("mapping", _U32), ("level", _U32), ("has_level", _BOOL), ("security", _BOOL),
-                ("take_ownership", _BOOL)]
-
-
-class _Reason(ctypes.Structure):
-    _fields_ = [("kind", _U16), ("place", _U16)]
-
-
-class _Origin(ctypes.Structure):
-    _fields_ = [("place", _U16), ("from_creator", _BOOL), ("inherit_only", _BOOL)]
-
-
-class _Origins(ctypes.Structure):
-    _fields_ = [*_FAULT, ("argument", _U32), ("entry", _SIZE), ("sacl_count", _SIZE), ("dacl_count", _SIZE)]
-
-
-class _Ending(ctypes.Structure):
-    _fields_ = [("status", _U32), ("length", _SIZE), ("message_length", _SIZE)]
-
-
-class _Place(ctypes.Structure):
-    _fields_ = [("offset", _SIZE), ("size", _SIZE)]
-
-
-class _FaultPlace(ctypes.Structure):
-    _fields_ = [("fault", _U32), ("part", _U32), ("ace", _U32), ("field", _U32), ("place", _Place)]
-
-
-class _AclPlace(ctypes.Structure):
-    _fields_ = [("state", _U32), ("ace_count", _U32), ("place", _Place)]
-
-
-class _Contents(ctypes.Structure):
-    _fields_ = [*_FAULT, ("control", _U16), ("resource_manager", _U8), ("owner", _Place), ("group", _Place),
-                ("sacl", _AclPlace), ("dacl", _AclPlace)]
-
-
-class _Ace(ctypes.Structure):
-    _fields_ = [("fault", _U32), ("mask", _U32), ("number", _U32), ("kind", _U8), ("flags", _U8), ("place", _Place),
-                ("object_type", _Place), ("inherited_object_type", _Place), ("sid", _Place)]
-
-
-class _Bytes(ctypes.Structure):
-    _fields_ = [("bytes", ctypes.c_char_p), ("size", _SIZE)]
-
-
-class _NewAce(ctypes.Structure):
-    _fields_ = [("sid", _Bytes), ("object_type", _Bytes), ("inherited_object_type", _Bytes), ("mask", _U32),
-                ("kind", _U8),
-                ("flags", _U8)]
-
-
-class _NewAcl(ctypes.Structure):
-    _fields_ = [("aces", ctypes.POINTER(_NewAce)), ("ace_count", _SIZE), ("state", _U32)]
-
-
-class _NewDescriptor(ctypes.Structure):
-    _fields_ = [("owner", _Bytes), ("group", _Bytes), ("sacl", _NewAcl), ("dacl", _NewAcl), ("control", _U16),
-                ("resource_manager", _U8)]
-
-
-class _AclOrder(ctypes.Structure):
-    _fields_ = [("outcome", _Outcome), ("sacl", _U32), ("dacl", _U32)]
-
-
-_IN = (ctypes.c_char_p, _SIZE)
-_OUT = (ctypes.c_void_p, _SIZE)
-# The arguments of each call and what it gives.
-_CALLS: Tuple[Tuple[str, Sequence[Any], Any], ...] = (
-    ("version", _OUT, _Outcome),
-    ("version_number", (), _U32),
-    ("fault_text", (_U32, *_OUT), _Outcome),
-    ("normalize", (*_IN, *_OUT), _Outcome),
-    ("from_sddl", (*_IN * 2, *_OUT), _Outcome),
-    ("to_sddl", (*_IN * 2, _BOOL, *_OUT), _Outcome),
-    ("explain", (*_IN * 2, _BOOL, *_OUT), _Outcome),
-    ("derive", (*_IN * 4, _U32, _U32, *_OUT), _Outcome),
-    ("derive_origins", (*_IN * 4, _U32, _U32, *(ctypes.POINTER(_Origin), _SIZE) * 2), _Origins),
-    ("sid_from_text", (*_IN * 2, *_OUT), _Outcome),
-    ("sid_to_text", (*_IN * 2, _BOOL, *_OUT), _Outcome),
-    ("sid_size", _IN, _SIZE),
-    ("token_read", (*_IN * 2, ctypes.POINTER(_U32), _SIZE), _Outcome),
-    ("check_with", (*_IN, ctypes.POINTER(_U32), _SIZE, *_IN * 2, ctypes.POINTER(_Request)), _Verdict),
-    ("check_many", (ctypes.POINTER(_Bytes), _SIZE, *_IN * 4, ctypes.POINTER(_Request), ctypes.POINTER(_Verdict), _SIZE),
-     _Outcome),
-    ("reasons_with", (*_IN, ctypes.POINTER(_U32), _SIZE, *_IN * 2, ctypes.POINTER(_Asker),
-                      ctypes.POINTER(_Reason)), _Outcome),
-    ("run", (*_IN * 2, *_OUT * 2), _Ending),
-    ("parts", _IN, _Contents),
-    ("place", _IN, _FaultPlace),
-    ("sddl_place", _IN * 2, _FaultPlace),
-    ("next_ace", (*_IN, ctypes.POINTER(_Ace)), _BOOL),
-    ("build", (ctypes.POINTER(_NewDescriptor), *_OUT), _Outcome),
-    ("edit", (*_IN * 2, ctypes.POINTER(_U32), _SIZE, *_OUT), _Outcome),
-    ("order", _IN, _AclOrder),
-)
-
-_CHANGE_SIZE = 208
 _library: Any = None
 _raises: Callable[..., NoReturn]
 # What adopt() is given.
@@ -187,7 +67,7 @@ def load(path: str, raises: Callable[..., NoReturn]) -> None:
     """Opens the library. An OSError says why that fails. raises is called with the numbers of a fault."""
     global _library, _raises
     library = ctypes.CDLL(path)
-    for name, arguments, answer in _CALLS:
+    for name, arguments, answer in c.CALLS:
         try:
             call = getattr(library, "sdtool_" + name)
         except AttributeError:
@@ -213,6 +93,11 @@ def _refuse(outcome: Any, given: Optional[bytes] = None, domain: Optional[bytes]
     _raises(outcome.fault, outcome.part, outcome.other_part, outcome.argument, outcome.entry, given, domain)
 
 
+def _fault_told(outcome: Any, given: Optional[bytes], domain: Optional[bytes]) -> Any:
+    """The Fault that _refuse raises."""
+    return _fault_of(outcome.fault, outcome.part, outcome.other_part, outcome.argument, outcome.entry, given, domain)
+
+
 def _answer(call: Callable[..., Any], *arguments: Any, given: Optional[bytes] = None,
             domain: Optional[bytes] = None) -> bytes:
     """What a call gives. The fault may be one of the descriptor, or of the text under a domain, that was given."""
@@ -220,9 +105,9 @@ def _answer(call: Callable[..., Any], *arguments: Any, given: Optional[bytes] = 
     while True:
         output = ctypes.create_string_buffer(size)
         outcome = call(*arguments, output, size)
-        if outcome.fault == _OK:
+        if outcome.fault == c.OK:
             return output.raw[:outcome.length]
-        if outcome.fault != _TOO_SMALL:
+        if outcome.fault != c.TOO_SMALL:
             break
         size = outcome.length
     _refuse(outcome, given, domain)
@@ -301,12 +186,12 @@ def derive(parent: bytes, creator: Optional[bytes], owner: bytes, group: bytes, 
 def origins(parent: bytes, creator: Optional[bytes], owner: bytes, group: bytes, kind: int,
             mapping: int) -> Tuple[bytes, bytes]:
     """The origins of the SACL's and of the DACL's ACEs, as struct sdtool_origin has them."""
-    sacl, dacl = (_Origin * _MOST_DERIVED_ACES)(), (_Origin * _MOST_DERIVED_ACES)()
+    sacl, dacl = (c.Origin * c.MOST_DERIVED_ACES)(), (c.Origin * c.MOST_DERIVED_ACES)()
     told = _library.sdtool_derive_origins(*_in(parent), *_in(creator), *_in(owner), *_in(group), kind, mapping,
                                           sacl, len(sacl), dacl, len(dacl))
-    if told.fault != _OK:
-        _refuse(told)
-    size = ctypes.sizeof(_Origin)
+    if told.outcome.fault != c.OK:
+        _refuse(told.outcome)
+    size = ctypes.sizeof(c.Origin)
     return ctypes.string_at(sacl, size * told.sacl_count), ctypes.string_at(dacl, size * told.dacl_count)
 
 
@@ -316,6 +201,54 @@ def sid_from_text(text: str, domain: Optional[bytes]) -> bytes:
 
 def sid_to_text(sid: bytes, domain: Optional[bytes], numeric: bool) -> str:
     return _text(_library.sdtool_sid_to_text, *_in(sid), *_in(domain), numeric)
+
+
+def ace_from_text(text: str, domain: Optional[bytes]) -> bytes:
+    return _answer(_library.sdtool_ace_from_text, *_in(_read_text("text", text)), *_in(domain))
+
+
+def ace_to_text(ace: bytes, domain: Optional[bytes], numeric: bool) -> str:
+    return _text(_library.sdtool_ace_to_text, *_in(ace), *_in(domain), numeric)
+
+
+def ace_read(data: bytes) -> Any:
+    """The ACE that bytes are, or None if bytes are behind it."""
+    ace = _library.sdtool_ace_read(*_in(data))
+    if ace.fault != c.OK:
+        _raises(ace.fault, 0, 0, 0, 0, None, None)
+    return _ace_at(data, ace) if ace.place.size == len(data) else None
+
+
+def _number(call: Callable[..., Any], text: str) -> int:
+    """The number that a text means."""
+    found = call(*_in(_read_text("text", text)))
+    if found.outcome.fault != c.OK:
+        _refuse(found.outcome)
+    return found.number  # type: ignore[no-any-return]
+
+
+def rights_from_text(text: str) -> int:
+    return _number(_library.sdtool_rights_from_text, text)
+
+
+def rights_to_text(mask: int, label: bool) -> str:
+    return _text(_library.sdtool_rights_to_text, mask, label)
+
+
+def flags_from_text(text: str) -> int:
+    return _number(_library.sdtool_flags_from_text, text)
+
+
+def flags_to_text(flags: int) -> str:
+    return _text(_library.sdtool_flags_to_text, flags)
+
+
+def guid_from_text(text: str) -> bytes:
+    return _answer(_library.sdtool_guid_from_text, *_in(_read_text("text", text)))
+
+
+def guid_to_text(guid: bytes) -> str:
+    return _text(_library.sdtool_guid_to_text, *_in(guid))
 
 
 def is_one_sid(value: bytes) -> bool:
@@ -331,19 +264,19 @@ def sddl_place(text: bytes, domain: Optional[bytes]) -> Optional[Tuple[int, ...]
 
 
 def _place(found: Any) -> Optional[Tuple[int, ...]]:
-    return None if found.fault == _OK else (found.part, found.ace, found.field, found.place.offset, found.place.size)
+    return None if found.fault == c.OK else (found.part, found.ace, found.field, found.place.offset, found.place.size)
 
 
 def run(words: bytes, data: bytes) -> Tuple[int, bytes, bytes]:
-    message = ctypes.create_string_buffer(_MOST_MESSAGE)
+    message = ctypes.create_string_buffer(c.MOST_MESSAGE)
     size = _FIRST_SIZE + 4 * len(data)
     while True:
         output = ctypes.create_string_buffer(size)
-        ending = _library.sdtool_run(words, len(words), data, len(data), output, size, message, _MOST_MESSAGE)
-        if ending.status == _STATUS_NO_MEMORY:
+        ending = _library.sdtool_run(words, len(words), data, len(data), output, size, message, c.MOST_MESSAGE)
+        if ending.status == c.STATUS_NO_MEMORY:
             raise MemoryError
         # Help that was cut ends with 0.
-        if ending.status != _STATUS_STOPPED and ending.length < size:
+        if ending.status != c.STATUS_STOPPED and ending.length < size:
             return ending.status, ctypes.string_at(output, ending.length), ctypes.string_at(message,
                                                                                             ending.message_length)
         size *= 4
@@ -351,19 +284,20 @@ def run(words: bytes, data: bytes) -> Tuple[int, bytes, bytes]:
 
 def token(sids: bytes, entries: bytes) -> Any:
     """A token that is read, which is 2 numbers of 32 bits and 20 for each SID; and what it was read from."""
-    size = 2 + 20 * min(len(entries), _MOST_SIDS)
-    numbers = (_U32 * size)()
+    size = 2 + 20 * min(len(entries), c.MOST_SIDS)
+    numbers = (ctypes.c_uint32 * size)()
     given = (sids, len(sids), entries, len(entries))
     outcome = _library.sdtool_token_read(*given, numbers, size)
-    if outcome.fault != _OK:
+    if outcome.fault != c.OK:
         _refuse(outcome)
     return (numbers, size), given
 
 
 def question(token: Any, object_type: Optional[bytes], principal_self: Optional[bytes], wanted: int,
              mapping: int, level: int, has_level: bool, maximum: bool, security: bool, take_ownership: bool) -> Any:
-    return token, (*_in(object_type), *_in(principal_self),
-                   _Request(wanted, mapping, level, has_level, maximum, security, take_ownership))
+    options = c.HAS_LEVEL * has_level | c.SECURITY * security | c.TAKE_OWNERSHIP * take_ownership
+    asker = c.Asker(mapping, level, options)
+    return token, (*_in(object_type), *_in(principal_self), c.Request(asker, wanted, c.MAXIMUM * maximum))
 
 
 def ask(checker: Any, question: Any) -> bool:
@@ -378,26 +312,25 @@ def check(question: Any, descriptor: Any) -> Any:
     data = _read_layout("descriptor", descriptor)
     (numbers, _), asked = question
     verdict = _library.sdtool_check_with(data, len(data), *numbers, *asked)
-    if verdict.fault != _OK:
-        _refuse(verdict, data)
+    if verdict.outcome.fault != c.OK:
+        _refuse(verdict.outcome, data)
     return _verdict_of(verdict)
 
 
 def _verdict_of(verdict: Any) -> Any:
-    return tuple.__new__(_verdict_type, (verdict.granted, verdict.mask))
+    return tuple.__new__(_verdict_type, (verdict.granted == 1, verdict.mask))
 
 
 def check_many(question: Any, descriptors: Iterable[Any]) -> List[Any]:
     layouts = [_read_layout("descriptors", descriptor) for descriptor in descriptors]  # each when it is taken
     count = len(layouts)
-    given = (_Bytes * count)(*[_given(data) for data in layouts])
-    verdicts = (_Verdict * count)()
+    given = (c.Bytes * count)(*[_given(data) for data in layouts])
+    verdicts = (c.Verdict * count)()
     (_, sids), asked = question
     outcome = _library.sdtool_check_many(given, count, *sids, *asked, verdicts, count)
-    if outcome.fault != _OK:
+    if outcome.fault != c.OK:
         _refuse(outcome)
-    return [_verdict_of(verdict) if verdict.fault == _OK else
-            _fault_of(verdict.fault, verdict.part, verdict.other_part, verdict.argument, verdict.entry, data, None)
+    return [_verdict_of(verdict) if verdict.outcome.fault == c.OK else _fault_told(verdict.outcome, data, None)
             for verdict, data in zip(verdicts, layouts)]
 
 
@@ -405,10 +338,9 @@ def reasons(question: Any, descriptor: Any) -> bytes:
     """The reasons for all rights, as struct sdtool_reason has them."""
     data = _read_layout("descriptor", descriptor)
     (numbers, _), (*asked, request) = question
-    asker = _Asker(request.mapping, request.level, request.has_level, request.security, request.take_ownership)
-    told = (_Reason * _RIGHTS)()
-    outcome = _library.sdtool_reasons_with(data, len(data), *numbers, *asked, asker, told)
-    if outcome.fault != _OK:
+    told = (c.Reason * c.RIGHTS)()
+    outcome = _library.sdtool_reasons_with(data, len(data), *numbers, *asked, request.asker, told)
+    if outcome.fault != c.OK:
         _refuse(outcome, data)
     return bytes(told)
 
@@ -433,8 +365,8 @@ def parts(descriptor: Any) -> Tuple[Any, ...]:
         return answer
     data = _read_layout("descriptor", descriptor)
     found = _library.sdtool_parts(data, len(data))
-    if found.fault != _OK:
-        _raises(found.fault, found.part, found.other_part, 0, 0, data, None)
+    if found.outcome.fault != c.OK:
+        _refuse(found.outcome, data)
     answer = (found.control, found.resource_manager, _sid_at(data, found.owner), _sid_at(data, found.group),
               _acl_at(data, found.sacl), _acl_at(data, found.dacl))
     _found.put(descriptor, answer)
@@ -442,10 +374,10 @@ def parts(descriptor: Any) -> Tuple[Any, ...]:
 
 
 def _acl_at(data: bytes, place: Any) -> Any:
-    if place.state != _LIST:
-        return _acl_null if place.state == _NULL else _acl_absent
+    if place.state != c.ACL_LIST:
+        return _acl_null if place.state == c.ACL_NULL else _acl_absent
     acl = object.__new__(_acl_type)
-    _acl.put(acl, (_LIST, None, _part_at(data, place.place), place.ace_count))
+    _acl.put(acl, (c.ACL_LIST, None, _part_at(data, place.place), place.ace_count))
     return acl
 
 
@@ -463,7 +395,7 @@ def aces(acl: Any) -> Tuple[Any, ...]:
     if held is None:
         raise not_made(acl)
     state, found, data, count = held
-    if state != _LIST:
+    if state != c.ACL_LIST:
         _no_list(acl)
     if found is None:
         found = _aces_of(data, count)
@@ -471,57 +403,62 @@ def aces(acl: Any) -> Tuple[Any, ...]:
     return tuple(found)
 
 
+def _ace_at(data: bytes, ace: Any) -> Any:
+    return tuple.__new__(_ace_type, (
+        _kinds[ace.kind], _flags[ace.flags], ace.mask, _sid_at(data, ace.sid), _guid_at(data, ace.object_type),
+        _guid_at(data, ace.inherited_object_type)))
+
+
 def _aces_of(acl: bytes, count: int) -> Tuple[Any, ...]:
-    ace = _Ace()
+    ace = c.Ace()
     found = []
     while _library.sdtool_next_ace(acl, len(acl), ace):
-        found.append(tuple.__new__(_ace_type, (
-            _kinds[ace.kind], _flags[ace.flags], ace.mask, _sid_at(acl, ace.sid), _guid_at(acl, ace.object_type),
-            _guid_at(acl, ace.inherited_object_type))))
-    if ace.fault != _OK:
+        found.append(_ace_at(acl, ace))
+    if ace.fault != c.OK:
         _raises(ace.fault, 0, 0, 0, 0, None, None)
     if len(found) != count:
         raise SystemError("an ACL has another number of ACEs than its descriptor says")
     return tuple(found)
 
 
-def _given(data: Optional[bytes]) -> _Bytes:
-    return _Bytes(data, len(data or b""))
+def _given(data: Optional[bytes]) -> c.Bytes:
+    return c.Bytes(data, len(data or b""))
 
 
-def _new_acl(state: int, aces: Tuple[Any, ...]) -> _NewAcl:
-    found = (_NewAce * len(aces))(*[
-        _NewAce(_given(sid), _given(object_type), _given(inherited), mask, kind, flags)
+def _new_acl(state: int, aces: Tuple[Any, ...]) -> c.NewAcl:
+    found = (c.NewAce * len(aces))(*[
+        c.NewAce(_given(sid), _given(object_type), _given(inherited), mask, kind, flags)
         for kind, flags, mask, sid, object_type, inherited in aces])
-    return _NewAcl(found, len(aces), state)
+    return c.NewAcl(found, len(aces), state)
 
 
 def build(control: int, resource_manager: int, owner: Optional[bytes], group: Optional[bytes], sacl_state: int,
           sacl: Tuple[Any, ...], dacl_state: int, dacl: Tuple[Any, ...]) -> bytes:
-    descriptor = _NewDescriptor(_given(owner), _given(group), _new_acl(sacl_state, sacl),
-                                _new_acl(dacl_state, dacl), control, resource_manager)
+    descriptor = c.NewDescriptor(_given(owner), _given(group), _new_acl(sacl_state, sacl),
+                                 _new_acl(dacl_state, dacl), control, resource_manager)
     return _answer(_library.sdtool_build, descriptor)
 
 
 def edit(data: bytes, changes: bytes) -> Tuple[Any, Tuple[int, ...]]:
     """The edited descriptor, and how many ACEs each of the changes put, took or set."""
-    count = len(changes) // _CHANGE_SIZE
-    touched = (_U32 * count)()
-    made = _answer(_library.sdtool_edit, data, len(data), changes, count, touched, count, given=data)
+    count = len(changes) // ctypes.sizeof(c.Change)
+    given = (c.Change * count).from_buffer_copy(changes)
+    touched = (ctypes.c_uint32 * count)()
+    made = _answer(_library.sdtool_edit, data, len(data), given, count, touched, count, given=data)
     return _descriptor_of(made), tuple(touched)
 
 
 def order(data: bytes) -> Tuple[int, int]:
     """Where the order of the SACL and of the DACL ends, or NO_ACE."""
     told = _library.sdtool_order(*_in(data))
-    if told.outcome.fault != _OK:
+    if told.outcome.fault != c.OK:
         _refuse(told.outcome, data)
     return told.sacl, told.dacl
 
 
 # As MOST_KEPT and LARGEST_KEPT of _native.c.
-_MOST_KEPT, _LARGEST_KEPT, _MOST_BYTES = 8192, 1024, 131226
-_FAULTS_OF_CALLS = (70, _TOO_SMALL, _NO_MEMORY)  # and not of a descriptor
+_MOST_KEPT, _LARGEST_KEPT = 8192, 1024
+_FAULTS_OF_CALLS = (c.ARGUMENT, c.TOO_SMALL, c.NO_MEMORY)  # and not of a descriptor
 # What adopt_plain() is given.
 _plain_type: Any
 _plain_ace_type: Any
@@ -538,22 +475,22 @@ def adopt_plain(descriptor: Any, ace: Any, kinds: Tuple[Optional[str], ...], abs
 
 
 def plain(descriptors: Iterable[Any], domain: Optional[bytes], kept: _Kept) -> List[Any]:
-    room = ctypes.create_string_buffer(_MOST_BYTES)
+    room = ctypes.create_string_buffer(c.MOST_BYTES)
     return [_plain_answer(descriptor, domain, kept, room) for descriptor in descriptors]  # each when it is taken
 
 
 def _plain_answer(descriptor: Any, domain: Optional[bytes], kept: _Kept, room: Any) -> Any:
     if issubclass(type(descriptor), str):
         text = _read_text("descriptors", descriptor)
-        outcome = _library.sdtool_from_sddl(*_in(text), *_in(domain), room, _MOST_BYTES)
-        if outcome.fault != _OK:
+        outcome = _library.sdtool_from_sddl(*_in(text), *_in(domain), room, c.MOST_BYTES)
+        if outcome.fault != c.OK:
             return _plain_fault(outcome, text, domain)
         data = ctypes.string_at(room, outcome.length)
     else:
         data = _read_layout("descriptors", descriptor)
     found = _library.sdtool_parts(data, len(data))
-    if found.fault != _OK:
-        return _fault_of(found.fault, found.part, found.other_part, 0, 0, data, None)
+    if found.outcome.fault != c.OK:
+        return _fault_told(found.outcome, data, None)
     return tuple.__new__(_plain_type, (
         _plain_sid(data, found.owner, kept), _plain_sid(data, found.group, kept), _plain_acl(data, found.dacl, kept),
         _plain_acl(data, found.sacl, kept), found.control, found.resource_manager))
@@ -563,7 +500,7 @@ def _plain_fault(outcome: Any, text: bytes, domain: Optional[bytes]) -> Any:
     """The Fault of a text. What is no fault of its is raised."""
     if outcome.fault in _FAULTS_OF_CALLS:
         _refuse(outcome)
-    return _fault_of(outcome.fault, outcome.part, outcome.other_part, outcome.argument, outcome.entry, text, domain)
+    return _fault_told(outcome, text, domain)
 
 
 def _keep(values: _Values, key: bytes, made: Any) -> Any:
@@ -576,8 +513,8 @@ def _keep(values: _Values, key: bytes, made: Any) -> Any:
 
 
 def _plain_acl(data: bytes, acl: Any, kept: _Kept) -> Any:
-    if acl.state != _LIST:
-        return _plain_null if acl.state == _NULL else _plain_absent
+    if acl.state != c.ACL_LIST:
+        return _plain_null if acl.state == c.ACL_NULL else _plain_absent
     offset, size = acl.place.offset, acl.place.size
     key = data[offset:offset + size]
     made = kept[0].get(key)
@@ -585,14 +522,14 @@ def _plain_acl(data: bytes, acl: Any, kept: _Kept) -> Any:
 
 
 def _plain_aces(acl: bytes, count: int, kept: _Kept) -> Tuple[Any, ...]:
-    ace = _Ace()
+    ace = c.Ace()
     found: List[Any] = []
     while len(found) < count and _library.sdtool_next_ace(acl, len(acl), ace):
         offset, size = ace.place.offset, ace.place.size
         key = acl[offset:offset + size]
         made = kept[1].get(key)
         found.append(_keep(kept[1], key, _plain_ace(acl, ace, kept)) if made is None else made)
-    if ace.fault != _OK:
+    if ace.fault != c.OK:
         _raises(ace.fault, 0, 0, 0, 0, None, None)
     if len(found) < count:
         raise SystemError("an ACL has fewer ACEs than its descriptor says")

@@ -19,7 +19,8 @@ _NO_MEMORY = 72
 _OF_BYTES, _OF_TEXTS = range(5, 15), range(20, 31)  # the faults that have a place
 # The arguments of enum sdtool_argument, by the names that they have in Python.
 _ARGUMENTS = (None, "domain", "sids", "deny_only", "object_type", "principal_self", "mapping", "creator",
-              "owner", "group", "kind", "number", "sid", "sacl", "dacl", "token", "changes")
+              "owner", "group", "kind", "number", "sid", "sacl", "dacl", "token", "changes", "options", "ace", "flags",
+              "guid")
 _LISTS = ("sids", "deny_only", "sacl", "dacl", "changes")
 _CHANGES = 16
 
@@ -116,6 +117,15 @@ else:
     sid_from_text = _transport.sid_from_text
     sid_to_text = _transport.sid_to_text
     is_one_sid = _transport.is_one_sid
+    ace_read = _transport.ace_read
+    ace_from_text = _transport.ace_from_text
+    ace_to_text = _transport.ace_to_text
+    rights_from_text = _transport.rights_from_text
+    rights_to_text = _transport.rights_to_text
+    flags_from_text = _transport.flags_from_text
+    flags_to_text = _transport.flags_to_text
+    guid_from_text = _transport.guid_from_text
+    guid_to_text = _transport.guid_to_text
     lay = _transport.lay
     layout = _transport.layout
     parts = _transport.parts

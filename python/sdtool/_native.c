@@ -55,7 +55,9 @@ enum {
     EACH(version) EACH(normalize) EACH(from_sddl) EACH(to_sddl) EACH(explain) EACH(token_read) EACH(check_with)        \
     EACH(check_many) EACH(reasons_with) EACH(derive) EACH(derive_origins) EACH(run) EACH(fault_text)                   \
     EACH(sid_from_text) EACH(sid_to_text) EACH(sid_size) EACH(parts) EACH(place) EACH(next_ace) EACH(sddl_place)       \
-    EACH(build) EACH(edit) EACH(order) EACH(version_number)
+    EACH(build) EACH(edit) EACH(order) EACH(version_number) EACH(ace_read) EACH(ace_from_text) EACH(ace_to_text)       \
+    EACH(rights_from_text) EACH(rights_to_text) EACH(flags_from_text) EACH(flags_to_text) EACH(guid_from_text)         \
+    EACH(guid_to_text)
 
 /* The objects of the module: its own types, and what load() and adopt() are given. */
 #define OBJECTS(EACH)                                                                                                  \
@@ -118,8 +120,7 @@ struct given {
 #define SDDL(view, domain) ((struct given){&(view), &(domain)})
 
 /* What a function of the module makes of a fault. */
-static PyObject *told(PyObject *function, uint32_t fault, uint32_t part, uint32_t other_part, uint32_t argument,
-                      size_t entry, struct given given)
+static PyObject *told(PyObject *function, struct sdtool_outcome outcome, struct given given)
 {
     const struct view none = {0}, *input = given.input == NULL ? &none : given.input;
     const struct view *domain = given.domain == NULL ? &none : given.domain;
@@ -132,24 +133,18 @@ static PyObject *told(PyObject *function, uint32_t fault, uint32_t part, uint32_
         if (bytes == NULL)
             return NULL;
     }
-    return PyObject_CallFunction(function, "IIIInNy#", fault, part, other_part, argument, (Py_ssize_t)entry, bytes,
-                                 domain->bytes, domain->size);
+    return PyObject_CallFunction(function, "IIIInNy#", outcome.fault, outcome.part, outcome.other_part,
+                                 outcome.argument, (Py_ssize_t)outcome.entry, bytes, domain->bytes, domain->size);
 }
 
-static PyObject *refused(struct state *state, uint32_t fault, uint32_t part, uint32_t other_part, uint32_t argument,
-                         size_t entry, struct given given)
+static PyObject *refused(struct state *state, struct sdtool_outcome outcome, struct given given)
 {
-    PyObject *nothing = told(state->refuse, fault, part, other_part, argument, entry, given);
+    PyObject *nothing = told(state->refuse, outcome, given);
     if (nothing != NULL) {
         Py_DECREF(nothing);
         PyErr_SetString(PyExc_SystemError, "a fault was not raised");
     }
     return NULL;
-}
-
-static PyObject *refused_outcome(struct state *state, struct sdtool_outcome outcome, struct given given)
-{
-    return refused(state, outcome.fault, outcome.part, outcome.other_part, outcome.argument, outcome.entry, given);
 }
 
 /* Raises what a function of _slots.py says of an object. One that is not made has no module to ask, so that is looked
@@ -368,7 +363,7 @@ static PyObject *as_text(const uint8_t *bytes, size_t size)
         }                                                                                                              \
         ANSWER = output == NULL               ? PyErr_NoMemory()                                                       \
                  : outcome.fault == SDTOOL_OK ? AS(output, outcome.length)                                             \
-                                              : refused_outcome(state, outcome, GIVEN);                                \
+                                              : refused(state, outcome, GIVEN);                                        \
         if (output != first)                                                                                           \
             free(output);                                                                                              \
     } while (0)
@@ -632,14 +627,12 @@ static PyObject *origins_of(struct state *state, const struct derivation *asked)
                                           SDTOOL_MOST_DERIVED_ACES);
     if (others != NULL)
         PyEval_RestoreThread(others);
-    if (found.fault == SDTOOL_OK)
+    if (found.outcome.fault == SDTOOL_OK)
         answer = Py_BuildValue("(NN)",
                                PyBytes_FromStringAndSize((char *)cells, (Py_ssize_t)(found.sacl_count * sizeof *cells)),
                                PyBytes_FromStringAndSize((char *)dacl, (Py_ssize_t)(found.dacl_count * sizeof *cells)));
     free(cells);
-    return found.fault == SDTOOL_OK ? answer
-                                    : refused(state, found.fault, found.part, found.other_part, found.argument,
-                                              found.entry, DESCRIPTOR(asked->views[0]));
+    return found.outcome.fault == SDTOOL_OK ? answer : refused(state, found.outcome, DESCRIPTOR(asked->views[0]));
 }
 
 /* The origins of the SACL's and of the DACL's ACEs, as struct sdtool_origin has them. */
@@ -656,35 +649,106 @@ static PyObject *origins(PyObject *module, PyObject *const *given, Py_ssize_t co
     return answer;
 }
 
-static PyObject *sid_from_text(PyObject *module, PyObject *const *given, Py_ssize_t count)
+/* The bytes of a text under a domain: of a SID, or of an ACE. */
+#define FROM_TEXT(NAME)                                                                                                \
+    static PyObject *NAME(PyObject *module, PyObject *const *given, Py_ssize_t count)                                  \
+    {                                                                                                                  \
+        struct state *state = state_for(module, count, 2);                                                             \
+        struct view text, domain;                                                                                      \
+        PyObject *answer = NULL;                                                                                       \
+        if (state == NULL || !view_text(state, &text, given[0]))                                                       \
+            return NULL;                                                                                               \
+        if (view_bytes(&domain, given[1])) {                                                                           \
+            ASK(answer, state->library.NAME(BYTES(text), BYTES(domain), output, size), 0, as_bytes, NOTHING);          \
+            view_ends(&domain);                                                                                        \
+        }                                                                                                              \
+        view_ends(&text);                                                                                              \
+        return answer;                                                                                                 \
+    }
+FROM_TEXT(sid_from_text)
+FROM_TEXT(ace_from_text)
+
+/* Its text again. */
+#define TO_TEXT(NAME)                                                                                                  \
+    static PyObject *NAME(PyObject *module, PyObject *const *given, Py_ssize_t count)                                  \
+    {                                                                                                                  \
+        struct state *state = state_for(module, count, 3);                                                             \
+        struct view bytes, domain;                                                                                     \
+        bool numeric;                                                                                                  \
+        PyObject *answer = NULL;                                                                                       \
+        if (state == NULL || !view_bytes(&bytes, given[0]))                                                            \
+            return NULL;                                                                                               \
+        numeric = given[2] == Py_True;                                                                                 \
+        if (view_bytes(&domain, given[1])) {                                                                           \
+            ASK(answer, state->library.NAME(BYTES(bytes), BYTES(domain), numeric, output, size), 0, as_text, NOTHING); \
+            view_ends(&domain);                                                                                        \
+        }                                                                                                              \
+        view_ends(&bytes);                                                                                             \
+        return answer;                                                                                                 \
+    }
+TO_TEXT(sid_to_text)
+TO_TEXT(ace_to_text)
+
+/* The number that a text means. */
+#define NUMBER_OF_TEXT(NAME)                                                                                           \
+    static PyObject *NAME(PyObject *module, PyObject *given)                                                           \
+    {                                                                                                                  \
+        struct state *state = state_of(module);                                                                        \
+        struct view text;                                                                                              \
+        struct sdtool_number found;                                                                                    \
+        if (state == NULL || !view_text(state, &text, given))                                                          \
+            return NULL;                                                                                               \
+        found = state->library.NAME(BYTES(text));                                                                      \
+        view_ends(&text);                                                                                              \
+        return found.outcome.fault == SDTOOL_OK ? PyLong_FromUnsignedLong(found.number)                                \
+                                                : refused(state, found.outcome, NOTHING);                              \
+    }
+NUMBER_OF_TEXT(rights_from_text)
+NUMBER_OF_TEXT(flags_from_text)
+
+static PyObject *rights_to_text(PyObject *module, PyObject *const *given, Py_ssize_t count)
 {
     struct state *state = state_for(module, count, 2);
-    struct view text, domain;
-    PyObject *answer = NULL;
-    if (state == NULL || !view_text(state, &text, given[0]))
+    uint32_t mask;
+    PyObject *answer;
+    if (state == NULL || !number(given[0], UINT32_MAX, &mask))
         return NULL;
-    if (view_bytes(&domain, given[1])) {
-        ASK(answer, state->library.sid_from_text(BYTES(text), BYTES(domain), output, size), 0, as_bytes, NOTHING);
-        view_ends(&domain);
-    }
+    ASK(answer, state->library.rights_to_text(mask, given[1] == Py_True, output, size), 0, as_text, NOTHING);
+    return answer;
+}
+
+static PyObject *flags_to_text(PyObject *module, PyObject *given)
+{
+    struct state *state = state_of(module);
+    uint32_t flags;
+    PyObject *answer;
+    if (state == NULL || !number(given, UINT32_MAX, &flags))
+        return NULL;
+    ASK(answer, state->library.flags_to_text(flags, output, size), 0, as_text, NOTHING);
+    return answer;
+}
+
+static PyObject *guid_from_text(PyObject *module, PyObject *given)
+{
+    struct state *state = state_of(module);
+    struct view text;
+    PyObject *answer;
+    if (state == NULL || !view_text(state, &text, given))
+        return NULL;
+    ASK(answer, state->library.guid_from_text(BYTES(text), output, size), 0, as_bytes, NOTHING);
     view_ends(&text);
     return answer;
 }
 
-static PyObject *sid_to_text(PyObject *module, PyObject *const *given, Py_ssize_t count)
+static PyObject *guid_to_text(PyObject *module, PyObject *given)
 {
-    struct state *state = state_for(module, count, 3);
-    struct view sid, domain;
-    bool numeric;
-    PyObject *answer = NULL;
-    if (state == NULL || !view_bytes(&sid, given[0]))
+    struct state *state = state_of(module);
+    struct view guid;
+    PyObject *answer;
+    if (state == NULL || !view_bytes(&guid, given))
         return NULL;
-    numeric = given[2] == Py_True;
-    if (view_bytes(&domain, given[1])) {
-        ASK(answer, state->library.sid_to_text(BYTES(sid), BYTES(domain), numeric, output, size), 0, as_text, NOTHING);
-        view_ends(&domain);
-    }
-    view_ends(&sid);
+    ASK(answer, state->library.guid_to_text(BYTES(guid), output, size), 0, as_text, NOTHING);
+    view_ends(&guid);
     return answer;
 }
 
@@ -817,7 +881,7 @@ static int read_token(struct state *state, struct token *token)
     }
     outcome = state->library.token_read(BYTES(token->sids), BYTES(token->entries), token->words, token->count);
     if (outcome.fault != SDTOOL_OK)
-        refused_outcome(state, outcome, NOTHING);
+        refused(state, outcome, NOTHING);
     return outcome.fault == SDTOOL_OK;
 }
 
@@ -871,11 +935,12 @@ static PyObject *question(PyObject *module, PyObject *const *given, Py_ssize_t c
     question->token = PyCapsule_GetPointer(given[0], TOKEN);
     if (question->token != NULL && view_bytes(&question->object, given[1])
         && view_bytes(&question->principal_self, given[2]) && number(given[3], UINT32_MAX, &request->wanted)
-        && number(given[4], UINT32_MAX, &request->mapping) && number(given[5], UINT32_MAX, &request->level)) {
-        request->has_level = given[6] == Py_True;
-        request->maximum = given[7] == Py_True;
-        request->security = given[8] == Py_True;
-        request->take_ownership = given[9] == Py_True;
+        && number(given[4], UINT32_MAX, &request->asker.mapping)
+        && number(given[5], UINT32_MAX, &request->asker.level)) {
+        request->asker.options = (given[6] == Py_True ? SDTOOL_HAS_LEVEL : 0)
+                                 | (given[8] == Py_True ? SDTOOL_SECURITY : 0)
+                                 | (given[9] == Py_True ? SDTOOL_TAKE_OWNERSHIP : 0);
+        request->options = given[7] == Py_True ? SDTOOL_MAXIMUM : 0;
         capsule = PyCapsule_New(question, QUESTION, question_ends);
     }
     if (capsule == NULL) {
@@ -909,9 +974,8 @@ static PyObject *verdict_on(struct state *state, const struct question *asked, P
                                         BYTES(asked->principal_self), &asked->request);
     if (others != NULL)
         PyEval_RestoreThread(others);
-    answer = verdict.fault == SDTOOL_OK ? verdict_of(state, verdict)
-                                        : refused(state, verdict.fault, verdict.part, verdict.other_part,
-                                                  verdict.argument, verdict.entry, DESCRIPTOR(data));
+    answer = verdict.outcome.fault == SDTOOL_OK ? verdict_of(state, verdict)
+                                                : refused(state, verdict.outcome, DESCRIPTOR(data));
     view_ends(&data);
     return answer;
 }
@@ -929,22 +993,19 @@ static PyObject *reasons(PyObject *module, PyObject *const *given, Py_ssize_t co
     struct state *state = state_for(module, count, 2);
     const struct question *asked = state == NULL ? NULL : PyCapsule_GetPointer(given[0], QUESTION);
     struct sdtool_reason why[SDTOOL_RIGHTS];
-    struct sdtool_asker asker;
     struct sdtool_outcome outcome;
     struct view data;
     PyThreadState *others;
     PyObject *answer;
     if (asked == NULL || !view_layout(state, &data, given[1], "descriptor"))
         return NULL;
-    asker = (struct sdtool_asker){asked->request.mapping, asked->request.level, asked->request.has_level,
-                                  asked->request.security, asked->request.take_ownership};
     others = data.size + asked->token->sids.size > LARGE ? PyEval_SaveThread() : NULL;
     outcome = state->library.reasons_with(BYTES(data), asked->token->words, asked->token->count, BYTES(asked->object),
-                                          BYTES(asked->principal_self), &asker, why);
+                                          BYTES(asked->principal_self), &asked->request.asker, why);
     if (others != NULL)
         PyEval_RestoreThread(others);
     answer = outcome.fault == SDTOOL_OK ? PyBytes_FromStringAndSize((const char *)why, sizeof why)
-                                        : refused_outcome(state, outcome, DESCRIPTOR(data));
+                                        : refused(state, outcome, DESCRIPTOR(data));
     view_ends(&data);
     return answer;
 }
@@ -1052,10 +1113,9 @@ static PyObject *answers_of(struct state *state, const struct sdtool_verdict *ve
     size_t index;
     for (index = 0; answers != NULL && index < batch->count; index++) {
         struct sdtool_verdict found = verdicts[index];
-        PyObject *answer = found.fault == SDTOOL_OK
+        PyObject *answer = found.outcome.fault == SDTOOL_OK
                                ? verdict_of(state, found)
-                               : told(state->fault_of, found.fault, found.part, found.other_part, found.argument,
-                                      found.entry, DESCRIPTOR(batch->views[index]));
+                               : told(state->fault_of, found.outcome, DESCRIPTOR(batch->views[index]));
         if (answer == NULL || PyList_Append(answers, answer) < 0)
             Py_CLEAR(answers);
         Py_XDECREF(answer);
@@ -1080,7 +1140,7 @@ static PyObject *answers_on(struct state *state, const struct question *asked, c
             descriptors, batch->count, BYTES(asked->token->sids), BYTES(asked->token->entries), BYTES(asked->object),
             BYTES(asked->principal_self), &asked->request, verdicts, batch->count);
         Py_END_ALLOW_THREADS answers = outcome.fault == SDTOOL_OK ? answers_of(state, verdicts, batch)
-                                                                  : refused_outcome(state, outcome, NOTHING);
+                                                                  : refused(state, outcome, NOTHING);
     }
     free(descriptors);
     free(verdicts);
@@ -1175,6 +1235,24 @@ static PyObject *ace_of(struct state *state, const struct view *acl, const struc
     return tuple_of(state->ace_type, fields, 6);
 }
 
+/* The ACE that bytes are, or None if bytes are behind it. */
+static PyObject *ace_read(PyObject *module, PyObject *given)
+{
+    struct state *state = state_of(module);
+    struct view data;
+    struct sdtool_ace ace;
+    PyObject *answer;
+    if (state == NULL || !view_bytes(&data, given))
+        return NULL;
+    ace = state->library.ace_read(BYTES(data));
+    if (ace.fault != SDTOOL_OK)
+        answer = refused(state, (struct sdtool_outcome){.fault = ace.fault}, NOTHING);
+    else
+        answer = ace.place.size == (size_t)data.size ? ace_of(state, &data, &ace) : counted(Py_None);
+    view_ends(&data);
+    return answer;
+}
+
 /* Reads the ACEs of an ACL that has so many; says how many there are. After an error that is less. */
 static Py_ssize_t read_aces(struct state *state, const struct view *acl, PyObject **aces, Py_ssize_t count)
 {
@@ -1191,7 +1269,7 @@ static Py_ssize_t read_aces(struct state *state, const struct view *acl, PyObjec
         seen++;
     }
     if (ace.fault != SDTOOL_OK)
-        refused(state, ace.fault, SDTOOL_NO_PART, SDTOOL_NO_PART, 0, 0, NOTHING);
+        refused(state, (struct sdtool_outcome){.fault = ace.fault}, NOTHING);
     else if (seen < count)
         PyErr_SetString(PyExc_SystemError, "an ACL has fewer ACEs than its descriptor says");
     return seen;
@@ -1391,9 +1469,8 @@ static PyObject *parts(PyObject *module, PyObject *descriptor)
     if (!view_layout(state, &data, descriptor, "descriptor"))
         return NULL;
     found = state->library.parts(BYTES(data));
-    answer = found.fault == SDTOOL_OK
-                 ? contents_of(module, state, &data, found)
-                 : refused(state, found.fault, found.part, found.other_part, 0, 0, DESCRIPTOR(data));
+    answer = found.outcome.fault == SDTOOL_OK ? contents_of(module, state, &data, found)
+                                              : refused(state, found.outcome, DESCRIPTOR(data));
     view_ends(&data);
     if (answer != NULL)
         keep(&layout->found, answer);
@@ -1534,7 +1611,7 @@ static PyObject *order(PyObject *module, PyObject *given)
         return NULL;
     found = state->library.order(BYTES(data));
     answer = found.outcome.fault == SDTOOL_OK ? Py_BuildValue("II", found.sacl, found.dacl)
-                                              : refused_outcome(state, found.outcome, DESCRIPTOR(data));
+                                              : refused(state, found.outcome, DESCRIPTOR(data));
     view_ends(&data);
     return answer;
 }
@@ -1594,7 +1671,7 @@ static PyObject *make_sid(const struct plain *plain, const struct source *source
 {
     uint8_t text[SDTOOL_MOST_SID_TEXT];
     struct sdtool_outcome outcome = plain->state->library.sid_to_text(AT(source), NULL, 0, true, text, sizeof text);
-    return outcome.fault == SDTOOL_OK ? as_text(text, outcome.length) : refused_outcome(plain->state, outcome, NOTHING);
+    return outcome.fault == SDTOOL_OK ? as_text(text, outcome.length) : refused(plain->state, outcome, NOTHING);
 }
 
 static PyObject *plain_sid(const struct plain *plain, const uint8_t *bytes, struct sdtool_place place)
@@ -1643,7 +1720,7 @@ static Py_ssize_t plain_walk(const struct plain *plain, const struct source *acl
         seen++;
     }
     if (ace.fault != SDTOOL_OK)
-        refused(plain->state, ace.fault, SDTOOL_NO_PART, SDTOOL_NO_PART, 0, 0, NOTHING);
+        refused(plain->state, (struct sdtool_outcome){.fault = ace.fault}, NOTHING);
     else if (seen < count)
         PyErr_SetString(PyExc_SystemError, "an ACL has fewer ACEs than its descriptor says");
     return seen;
@@ -1684,9 +1761,8 @@ static PyObject *plain_descriptor(const struct plain *plain, const uint8_t *byte
 static PyObject *plain_fault(struct state *state, struct sdtool_outcome outcome, struct given given)
 {
     if (outcome.fault == SDTOOL_ARGUMENT || outcome.fault == SDTOOL_TOO_SMALL || outcome.fault == SDTOOL_NO_MEMORY)
-        return refused_outcome(state, outcome, NOTHING);
-    return told(state->fault_of, outcome.fault, outcome.part, outcome.other_part, outcome.argument, outcome.entry,
-                given);
+        return refused(state, outcome, NOTHING);
+    return told(state->fault_of, outcome, given);
 }
 
 /* What a text of SDDL, or a descriptor, says. */
@@ -1709,7 +1785,7 @@ static PyObject *plain_answer(const struct plain *plain, PyObject *given)
     }
     if (outcome.fault == SDTOOL_OK) {
         found = plain->state->library.parts(data.bytes, data.size);
-        outcome = (struct sdtool_outcome){.fault = found.fault, .part = found.part, .other_part = found.other_part};
+        outcome = found.outcome;
     }
     if (others != NULL)
         PyEval_RestoreThread(others);
@@ -1919,6 +1995,15 @@ static PyMethodDef FUNCTIONS[] = {
     FAST(origins),
     FAST(sid_from_text),
     FAST(sid_to_text),
+    {"ace_read", ace_read, METH_O, NULL},
+    FAST(ace_from_text),
+    FAST(ace_to_text),
+    {"rights_from_text", rights_from_text, METH_O, NULL},
+    FAST(rights_to_text),
+    {"flags_from_text", flags_from_text, METH_O, NULL},
+    {"flags_to_text", flags_to_text, METH_O, NULL},
+    {"guid_from_text", guid_from_text, METH_O, NULL},
+    {"guid_to_text", guid_to_text, METH_O, NULL},
     {"is_one_sid", is_one_sid, METH_O, NULL},
     FAST(run),
     FAST(token),

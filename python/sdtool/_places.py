@@ -96,14 +96,15 @@ class InText:
         return Located(place, _in_words(place, offset), _around(_text_of(given), first, end - first, 1))
 
 
-class InSid:
-    """A text that is no SID."""
+class InField:
+    """A text that is none of a field by itself."""
 
-    def __init__(self, text: str) -> None:
+    def __init__(self, text: str, field: Optional[FieldName]) -> None:
         self._text = text
+        self._field = field
 
     def located(self) -> Located:
-        place = Place(None, None, "sid", 0, len(self._text))
+        place = Place(None, None, self._field, 0, len(self._text))
         return Located(place, _in_words(place, 0), _around(self._text, 0, place.size, 1))
 
 

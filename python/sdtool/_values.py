@@ -16,7 +16,7 @@ from ._slots import Slot, not_made, type_name
 from ._words import KINDS, MAPPINGS, PRIVILEGES, REASONS, Kind, Mapping, Privilege, ReasonKind
 
 _MOST_SIDS = 1024
-_Bytes = bytes  # within SecurityDescriptor, bytes is its layout
+_Bytes = bytes  # within Ace and SecurityDescriptor, bytes is what they are
 _KIND_OF = {kind.value: kind for kind in AceKind}
 _FLAGS_OF = [AceFlags(value) for value in range(256)]
 _ABSENT, _NULL, _LIST = 0, 1, 2
@@ -140,6 +140,23 @@ class Ace(_AceFields):
         """Its text in SDDL, in parentheses."""
         data = _library.build(0, 0, None, None, _ABSENT, (), _LIST, (_raw_of(self),))
         return _library.to_sddl(data, domain, _arguments.flag("numeric", numeric))[len("D:"):]
+
+    @classmethod
+    def from_bytes(cls, data: BytesLike) -> "Ace":
+        """The ACE that some bytes are.
+
+        >>> Ace.from_bytes(Ace.from_sddl("(A;;FR;;;BU)").bytes)
+        Ace(AceKind.ACCESS_ALLOWED, AceFlags(0x0), 0x120089, Sid('S-1-5-32-545'))
+        """
+        found = _library.ace_read(_arguments.data("data", data))
+        if found is None:
+            raise ArgumentFault("bytes are behind the ACE", "data")
+        return found
+
+    @property
+    def bytes(self) -> _Bytes:
+        """Its bytes, as they stand in an ACL."""
+        return _library.ace_from_text(self.sddl(numeric=True), None)
 
     def replace(self, *, kind: Union[AceKind, int] = _SAME, flags: Union[AceFlags, int] = _SAME, mask: int = _SAME,
                 sid: SidLike = _SAME, object_type: Optional[GuidLike] = _SAME,

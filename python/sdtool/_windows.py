@@ -1441,6 +1441,10 @@ RULES: Tuple[Tuple[str, str, bool, str, str, str, str], ...] = (
         "Somebody who isn't trusted may read the password of a managed service account.",
         "{who} can {rights} of the account. That is no administrator who is trusted.", "high", "high",
     ),
+    (
+        "given-by-windows", "note", False, "Windows itself gives what would be a finding.",
+        "{who} can {rights}. Windows itself gives that.", "note", "note",
+    ),
     ("readable", "medium", True, "Everybody may read the object.", "{who} can {rights}.", "medium", "medium"),
     (
         "order", "low", False,
@@ -1519,6 +1523,22 @@ HINTS: Tuple[Dict[str, Any], ...] = (
     {"kind": "folder", "name": "[A-Z]:[\\\\/]|\\.?/"},
     {"kind": "folder", "text": "(?:^|[\\s\"'=])[A-Z]:\\\\(?!\\w+:)"},
 )
+# Titles of columns and members with descriptors, with names, and of shares.
+TITLES: Dict[str, Tuple[str, ...]] = {
+    "descriptor": (
+        "sddl", "securitydescriptor", "ntsecuritydescriptor", "descriptor", "sd", "acl", "securitydescriptorsddl",
+        "sddlstring", "permissionsddl", "channelaccess", "permissions",
+    ),
+    "name": (
+        "path", "fullname", "distinguishedname", "dn", "name", "objectname", "pspath", "object", "file", "filename",
+        "folder", "share", "pschildname", "key", "service", "id", "logname", "taskname", "sharename", "printername",
+        "servicename", "uri",
+    ),
+    "share": (
+        "sharestate", "sharetype", "scopename", "smbinstance", "cachingmode", "folderenumerationmode", "encryptdata",
+        "concurrentuserlimit", "continuouslyavailable", "currentusers", "shadowcopy", "securitydescriptor",
+    ),
+}
 # The report in the page: its version, and of each row the columns with their types.
 REPORT: Dict[str, Any] = {
     "version": "sdtool-audit report 5",

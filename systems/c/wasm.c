@@ -16,8 +16,9 @@ struct outcome {
 };
 
 struct verdict {
-    uint32_t fault, part, other_part, argument, entry, mask;
-    bool granted;
+    struct outcome outcome;
+    uint32_t mask;
+    uint8_t granted;
 };
 
 struct acl_order {
@@ -25,12 +26,18 @@ struct acl_order {
     uint32_t sacl, dacl;
 };
 
+struct number {
+    struct outcome outcome;
+    uint32_t number;
+};
+
 struct ending {
     uint32_t status, length, message_length;
 };
 
 struct origins {
-    uint32_t fault, part, other_part, argument, entry, sacl_count, dacl_count;
+    struct outcome outcome;
+    uint32_t sacl_count, dacl_count;
 };
 
 struct place {
@@ -43,7 +50,7 @@ struct acl_place {
 };
 
 struct contents {
-    uint32_t fault, part, other_part;
+    struct outcome outcome;
     uint16_t control;
     uint8_t resource_manager;
     struct place owner, group;
@@ -83,17 +90,18 @@ struct new_descriptor {
 };
 
 // sdtool.mjs has these numbers.
-_Static_assert(sizeof(struct verdict) == 28, "the verdict of a check");
-_Static_assert(sizeof(struct origins) == 28, "what sdtool_derive_origins answers");
-_Static_assert(sizeof(struct contents) == 64 && offsetof(struct contents, owner) == 16, "what sdtool_parts finds");
+_Static_assert(sizeof(struct verdict) == 32, "the verdict of a check");
+_Static_assert(sizeof(struct origins) == 32, "what sdtool_derive_origins answers");
+_Static_assert(sizeof(struct contents) == 76 && offsetof(struct contents, owner) == 28, "what sdtool_parts finds");
 _Static_assert(sizeof(struct ace) == 48 && offsetof(struct ace, place) == 16, "what sdtool_next_ace finds");
 _Static_assert(sizeof(struct fault_place) == 24, "what sdtool_place and sdtool_sddl_place find");
+_Static_assert(sizeof(struct number) == 28, "the number that a text means");
 _Static_assert(sizeof(struct new_ace) == 32 && sizeof(struct new_descriptor) == 44, "what sdtool_build reads");
 
 _Static_assert(sizeof(struct acl_order) == 32 && sizeof(struct sdtool_change) == 208,
                "what sdtool_edit and _order read");
 
-_Static_assert(sizeof(struct sdtool_request) == 16, "as on a 32-bit machine");
+_Static_assert(sizeof(struct sdtool_request) == 20, "as on a 32-bit machine");
 _Static_assert(sizeof(struct sdtool_asker) == 12 && sizeof(struct sdtool_reason) == 4, "as on a 32-bit machine");
 _Static_assert(sizeof(struct sdtool_origin) == 4, "as on a 32-bit machine");
 
@@ -137,6 +145,15 @@ CALL(build, struct sdtool_outcome, const struct sdtool_new_descriptor *descripto
 CALL(edit, struct sdtool_outcome, INPUT(descriptor), const struct sdtool_change *changes, size_t change_count,
      uint32_t *touched, size_t touched_count, OUTPUT(output));
 CALL(order, struct sdtool_acl_order, INPUT(descriptor));
+CALL(ace_read, struct sdtool_ace, INPUT(bytes));
+CALL(ace_from_text, struct sdtool_outcome, INPUT(text), INPUT(domain), OUTPUT(ace));
+CALL(ace_to_text, struct sdtool_outcome, INPUT(ace), INPUT(domain), bool numeric, OUTPUT(text));
+CALL(rights_from_text, struct sdtool_number, INPUT(text));
+CALL(rights_to_text, struct sdtool_outcome, uint32_t mask, bool label, OUTPUT(text));
+CALL(flags_from_text, struct sdtool_number, INPUT(text));
+CALL(flags_to_text, struct sdtool_outcome, uint32_t flags, OUTPUT(text));
+CALL(guid_from_text, struct sdtool_outcome, INPUT(text), OUTPUT(guid));
+CALL(guid_to_text, struct sdtool_outcome, INPUT(guid), OUTPUT(text));
 CALL(run, struct sdtool_ending, INPUT(words), INPUT(input), OUTPUT(output), OUTPUT(message));
 CALL(fault_text, struct sdtool_outcome, uint32_t fault, OUTPUT(text));
 
@@ -145,11 +162,15 @@ static void *at(uint32_t place)
     return (void *)(uintptr_t)place;
 }
 
+static struct outcome outcome_of(const struct sdtool_outcome *told)
+{
+    return (struct outcome){told->fault,           told->part, told->other_part, told->argument, (uint32_t)told->entry,
+                            (uint32_t)told->length};
+}
+
 static void tell(uint32_t place, const struct sdtool_outcome *outcome)
 {
-    *(struct outcome *)at(place) = (struct outcome){outcome->fault,           outcome->part,
-                                                    outcome->other_part,      outcome->argument,
-                                                    (uint32_t)outcome->entry, (uint32_t)outcome->length};
+    *(struct outcome *)at(place) = outcome_of(outcome);
 }
 
 static void tell_no_memory(uint32_t place)
@@ -159,13 +180,25 @@ static void tell_no_memory(uint32_t place)
 
 static struct verdict verdict_of(const struct sdtool_verdict *told)
 {
-    return (struct verdict){told->fault,           told->part, told->other_part, told->argument,
-                            (uint32_t)told->entry, told->mask, told->granted};
+    return (struct verdict){outcome_of(&told->outcome), told->mask, told->granted};
 }
 
 static struct place place_of(const struct sdtool_place *told)
 {
     return (struct place){(uint32_t)told->offset, (uint32_t)told->size};
+}
+
+static struct ace ace_of(const struct sdtool_ace *told)
+{
+    return (struct ace){told->fault,
+                        told->mask,
+                        told->number,
+                        told->kind,
+                        told->flags,
+                        place_of(&told->place),
+                        place_of(&told->object_type),
+                        place_of(&told->inherited_object_type),
+                        place_of(&told->sid)};
 }
 
 static struct sdtool_place place_from(const struct place *place)
@@ -288,12 +321,7 @@ void derive_origins(uint32_t origins, uint32_t parent, uint32_t parent_size, uin
     struct sdtool_origins told;
     proved_derive_origins(&told, at(parent), parent_size, at(creator), creator_size, at(owner), owner_size, at(group),
                           group_size, kind, mapping, at(sacl), sacl_room, at(dacl), dacl_room);
-    *(struct origins *)at(origins) = (struct origins){told.fault,
-                                                      told.part,
-                                                      told.other_part,
-                                                      told.argument,
-                                                      (uint32_t)told.entry,
-                                                      (uint32_t)told.sacl_count,
+    *(struct origins *)at(origins) = (struct origins){outcome_of(&told.outcome), (uint32_t)told.sacl_count,
                                                       (uint32_t)told.dacl_count};
 }
 
@@ -323,15 +351,9 @@ EXPORT(sdtool_parts) void parts(uint32_t contents, uint32_t descriptor, uint32_t
 {
     struct sdtool_contents told;
     proved_parts(&told, at(descriptor), descriptor_size);
-    *(struct contents *)at(contents) = (struct contents){told.fault,
-                                                         told.part,
-                                                         told.other_part,
-                                                         told.control,
-                                                         told.resource_manager,
-                                                         place_of(&told.owner),
-                                                         place_of(&told.group),
-                                                         acl_of(&told.sacl),
-                                                         acl_of(&told.dacl)};
+    *(struct contents *)at(contents) = (struct contents){
+        outcome_of(&told.outcome), told.control,       told.resource_manager, place_of(&told.owner),
+        place_of(&told.group),     acl_of(&told.sacl), acl_of(&told.dacl)};
 }
 
 EXPORT(sdtool_next_ace) uint32_t next_ace(uint32_t acl, uint32_t acl_size, uint32_t ace)
@@ -347,16 +369,77 @@ EXPORT(sdtool_next_ace) uint32_t next_ace(uint32_t acl, uint32_t acl_size, uint3
                               place_from(&last->inherited_object_type),
                               place_from(&last->sid)};
     bool is_there = proved_next_ace(at(acl), acl_size, &walk);
-    *last = (struct ace){walk.fault,
-                         walk.mask,
-                         walk.number,
-                         walk.kind,
-                         walk.flags,
-                         place_of(&walk.place),
-                         place_of(&walk.object_type),
-                         place_of(&walk.inherited_object_type),
-                         place_of(&walk.sid)};
+    *last = ace_of(&walk);
     return is_there;
+}
+
+EXPORT(sdtool_ace_read) void ace_read(uint32_t ace, uint32_t bytes, uint32_t bytes_size)
+{
+    struct sdtool_ace told;
+    proved_ace_read(&told, at(bytes), bytes_size);
+    *(struct ace *)at(ace) = ace_of(&told);
+}
+
+EXPORT(sdtool_ace_from_text)
+void ace_from_text(uint32_t outcome, uint32_t text, uint32_t text_size, uint32_t domain, uint32_t domain_size,
+                   uint32_t ace, uint32_t ace_size)
+{
+    struct sdtool_outcome told;
+    tell(outcome, proved_ace_from_text(&told, at(text), text_size, at(domain), domain_size, at(ace), ace_size));
+}
+
+EXPORT(sdtool_ace_to_text)
+void ace_to_text(uint32_t outcome, uint32_t ace, uint32_t ace_size, uint32_t domain, uint32_t domain_size,
+                 uint32_t numeric, uint32_t text, uint32_t text_size)
+{
+    struct sdtool_outcome told;
+    tell(outcome,
+         proved_ace_to_text(&told, at(ace), ace_size, at(domain), domain_size, numeric != 0, at(text), text_size));
+}
+
+static void tell_number(uint32_t place, const struct sdtool_number *told)
+{
+    *(struct number *)at(place) = (struct number){outcome_of(&told->outcome), told->number};
+}
+
+EXPORT(sdtool_rights_from_text) void rights_from_text(uint32_t number, uint32_t text, uint32_t text_size)
+{
+    struct sdtool_number told;
+    tell_number(number, proved_rights_from_text(&told, at(text), text_size));
+}
+
+EXPORT(sdtool_rights_to_text)
+void rights_to_text(uint32_t outcome, uint32_t mask, uint32_t label, uint32_t text, uint32_t text_size)
+{
+    struct sdtool_outcome told;
+    tell(outcome, proved_rights_to_text(&told, mask, label != 0, at(text), text_size));
+}
+
+EXPORT(sdtool_flags_from_text) void flags_from_text(uint32_t number, uint32_t text, uint32_t text_size)
+{
+    struct sdtool_number told;
+    tell_number(number, proved_flags_from_text(&told, at(text), text_size));
+}
+
+EXPORT(sdtool_flags_to_text)
+void flags_to_text(uint32_t outcome, uint32_t flags, uint32_t text, uint32_t text_size)
+{
+    struct sdtool_outcome told;
+    tell(outcome, proved_flags_to_text(&told, flags, at(text), text_size));
+}
+
+EXPORT(sdtool_guid_from_text)
+void guid_from_text(uint32_t outcome, uint32_t text, uint32_t text_size, uint32_t guid, uint32_t guid_size)
+{
+    struct sdtool_outcome told;
+    tell(outcome, proved_guid_from_text(&told, at(text), text_size, at(guid), guid_size));
+}
+
+EXPORT(sdtool_guid_to_text)
+void guid_to_text(uint32_t outcome, uint32_t guid, uint32_t guid_size, uint32_t text, uint32_t text_size)
+{
+    struct sdtool_outcome told;
+    tell(outcome, proved_guid_to_text(&told, at(guid), guid_size, at(text), text_size));
 }
 
 EXPORT(sdtool_place) void fault_place(uint32_t place, uint32_t descriptor, uint32_t descriptor_size)

@@ -658,6 +658,12 @@ def test_tokens(place: Place) -> None:
                  ["unknown", "found", "nothing", "trusted"], "who, without an owner")
     place.expect([one["answer"] for one in place.objects("can", ann, "read", ownerless)],
                  ["found", "nothing", "nothing", "found"], "can, a right that no owner has")
+    given = place.table([("full", "D:(A;;FA;;;OW)"), ("data", "D:(A;;0x100002;;;OW)"), ("denied", "D:(D;;FA;;;OW)"),
+                         ("below", "D:(A;OIIO;FA;;;OW)")], "given.csv")
+    place.expect([[one["answer"] for one in place.objects(*words, given)] for words in (
+        ("can", ann, "write"), ("who", "write"), ("who", "permissions"))],
+        [["unknown", "unknown", "nothing", "nothing"]] * 2 + [["unknown", "nothing", "nothing", "unknown"]],
+        "what an ACE gives to an owner that isn't there")
     place.write("listed.icacls", b"\xff\xfe" + "Data\r\nD:(A;;FR;;;WD)\r\n".encode("utf-16-le"))
     place.expect([[one["answer"] for one in place.objects(*words, "listed.icacls")]
                   for words in (("can", ann, "change"), ("who", "change"), ("can", ann, "write"))],
@@ -1030,6 +1036,14 @@ def test_ways(place: Place) -> None:
                   "Q/C/y": ["from ACE 1 of Q/C, inherited from above"],
                   # z is no folder, so it gets FA for its owner, by the ACE of D for CREATOR OWNER, which O sets.
                   "O/D/z": ["from ACE 2 of O/D, set at O, ACE 1"]}, "the ways of missing ACEs")
+    letters = place.table([("C:\\strasse", f"O:BAG:SYD:{everyone}"),
+                           ("C:\\stra\u00dfe\\x", "O:BAG:SYD:AI(A;ID;FR;;;WD)"),
+                           ("C:\\\u00c4", f"O:BAG:SYD:{everyone}"), ("c:\\\u00e4\\x", "O:BAG:SYD:AI(A;ID;FR;;;WD)")],
+                          "letters.csv")
+    place.expect([[one["answer"] for one in place.objects(*words, letters)]
+                  for words in (("inherit",), ("can", "AN", "delete"))],
+                 [[*["not compared"] * 3, "nothing"], [*["unknown"] * 3, "nothing"]],
+                 "names whose letters Windows tells apart, and such as it doesn't")
 
 
 def test_show(place: Place) -> None:

@@ -54,6 +54,12 @@ FORMS = [
          ((OF_DATA, DACL.replace("D:", "O:BAG:SYD:")),), "path"),
     Form("Get-Acl | Format-List of two", f"\nPath : C:\\a b\nSddl : {FR}\n\nPath : C:\\c\nSddl : {sddl(8)}\n\n",
          (("C:\\a b", FR), ("C:\\c", sddl(8))), "path"),
+    Form("Get-ScheduledTask | Format-List", f"\nTaskName : a\nSddl     : {FR}\n\nTaskName : b\nSddl     : {sddl(8)}\n",
+         (("a", FR), ("b", sddl(8))), "untold"),
+    Form("names behind descriptors", f"Sddl : {FR}\nPath : C:\\a\n\nSddl : {sddl(8)}\nPath : C:\\b\n",
+         (("C:\\a", FR), ("C:\\b", sddl(8))), "path"),
+    Form("a path that is broken", "".join(f"{title} : {folded(value, 16, '       ')}\n" for title, value in (
+        ("Path", "C:\\a very long path"), ("Sddl", FR))), (("C:\\a very long path", FR),), "path"),
     Form("Get-Printer | Format-List", f"\nName           : Office\nPermissionSDDL : {FR}\n\n",
          (("Office", FR),), "printer"),
     Form("cacls /s", f'C:\\Data "{DACL}"\n', (("C:\\Data", DACL),), "path"),
@@ -89,19 +95,23 @@ FORMS = [
     Form("Export-Csv", f'"Path","Sddl"\n"C:\\Data","{FR}"\n"C:\\a b","{sddl(8)}"\n',
          (("C:\\Data", FR), ("C:\\a b", sddl(8))), "path"),
     Form("ConvertTo-Json", json.dumps([{"Path": "C:\\Data", "Sddl": FR}], indent=2), (("C:\\Data", FR),), "path"),
-    Form("ConvertTo-Json in a line", json.dumps({"Path": "C:\\Data", "Sddl": FR}), (("C:\\Data", FR),), "path",
-         of_page=False),
+    Form("titles behind those of descriptors", f'Sddl;Path\n"{FR}";C:\\a\n"{sddl(8)}";"C:\\b;c"\n',
+         (("C:\\a", FR), ("C:\\b;c", sddl(8))), "path"),
+    Form("ConvertTo-Json -Compress", json.dumps([{"Path": "C:\\Data", "Sddl": FR}, {"Path": "C:\\b", "Sddl": sddl(8)}]),
+         (("C:\\Data", FR), ("C:\\b", sddl(8))), "path"),
+    Form("lines of JSON", "".join(json.dumps({"TaskName": name, "Sddl": FR}) + "\n" for name in "ab"),
+         (("a", FR), ("b", FR)), "untold"),
     Form("a task", f"<Task>\n  <RegistrationInfo>\n    <SecurityDescriptor>{DACL}</SecurityDescriptor>\n"
          "  </RegistrationInfo>\n</Task>\n", ((None, DACL),), "task"),
     Form("ConvertTo-Xml", '<?xml version="1.0"?>\n<Objects>\n<Object>\n<Property Name="Path">C:\\a</Property>\n'
-         f'<Property Name="Sddl">{FR}</Property>\n</Object>\n</Objects>\n', (("C:\\a", FR),), "path", of_page=False),
+         f'<Property Name="Sddl">{FR}</Property>\n</Object>\n</Objects>\n', (("C:\\a", FR),), "path"),
     Form("YAML", f"- path: C:\\Data\n  sddl: '{FR}'\n- path: C:\\c\n  sddl: '{sddl(8)}'\n",
-         (("C:\\Data", FR), ("C:\\c", sddl(8))), "path", of_page=False),
-    Form("sqlite3 -line", f" path = C:\\Data\n sddl = {FR}\n\n", (("C:\\Data", FR),), "path", of_page=False),
+         (("C:\\Data", FR), ("C:\\c", sddl(8))), "path"),
+    Form("sqlite3 -line", f" path = C:\\Data\n sddl = {FR}\n\n", (("C:\\Data", FR),), "path"),
     Form("Markdown", f"| Path | Sddl |\n|---|---|\n| C:\\Data | {FR} |\n", (("C:\\Data", FR),), "path", of_page=False),
     Form("psql, expanded",
          f"-[ RECORD 1 ]---\npath | C:\\a\nsddl | {FR}\n-[ RECORD 2 ]---\npath | C:\\b\nsddl | {sddl(8)}\n\n",
-         (("C:\\a", FR), ("C:\\b", sddl(8))), "path", of_page=False),
+         (("C:\\a", FR), ("C:\\b", sddl(8))), "path"),
     Form("psql, bytes", f" path |  sd  \n------+------\n C:\\a | \\x{DIGITS}\n(1 row)\n\n", (("C:\\a", DIGITS),),
          "path", of_page=False),
     Form("MySQL, one below the other", "*************************** 1. row ***************************\npath: C:\\a\n"
@@ -110,13 +120,13 @@ FORMS = [
          (("C:\\a", FR), ("C:\\b", sddl(8))), "path", of_page=False),
     Form("a list of TOML",
          f"[[object]]\npath = 'C:\\a'\nsddl = '{FR}'\n\n[[object]]\npath = 'C:\\b'\nsddl = '{sddl(8)}'\n",
-         (("C:\\a", FR), ("C:\\b", sddl(8))), "path", of_page=False),
+         (("C:\\a", FR), ("C:\\b", sddl(8))), "path"),
     Form("a map of YAML", f"a b:\n  sddl: {FR}\n'C:\\c':\n  sddl: {sddl(8)}\n", (("a b", FR), ("C:\\c", sddl(8))),
          "path untold", of_page=False),
     Form("AccessChk -L", f"C:\\Data\n  {FR}\nC:\\b\n  {sddl(8)}\n",
          (("C:\\Data", f"  {FR}"), ("C:\\b", f"  {sddl(8)}")), "path", of_page=False),
     Form("Get-SmbShare | Format-List", "\nName               : IPC$\nPath               : \n"
-         f"SecurityDescriptor : {FR}\n\n", (("IPC$", FR),), "share", of_page=False),
+         f"SecurityDescriptor : {FR}\n\n", (("IPC$", FR),), "share"),
     Form("Format-Table", f"\nPath    Sddl\n----    ----\nC:\\Data {FR}\n\n", (("C:\\Data", FR),), "path",
          of_page=False)]
 
@@ -155,7 +165,6 @@ def read_by_page() -> List[Dict]:
 
 def test_forms(place: audit.Place) -> None:
     """Each form, by both."""
-    from sdtool.audit.sources.naming import DESCRIPTOR_NAMES, plain_name
     of_page = read_by_page() or [None] * len(FORMS)
     for form, page, got in zip(FORMS, of_page, read_by_audit(place)):
         place.expect([(None if wanted is None else name, text) for (name, text, _), (wanted, _) in zip(
@@ -166,10 +175,9 @@ def test_forms(place: audit.Place) -> None:
             continue
         found = [bytes_or_text(one["form"], one["line"]) for one in page["descriptors"]]
         place.expect(found, [text for _, text in form.objects], f"{form.what}, by the page: {page}")
-        # The page has the title of a value where it looks for no name.
-        names = [(one["name"], name) for one, (name, _) in zip(page["descriptors"], form.objects)
-                 if one["name"] and name is not None and plain_name(one["name"]) not in DESCRIPTOR_NAMES]
-        place.count.add(all(wanted.endswith(name) for name, wanted in names),
+        # A value of the registry has its own name, without that of its key.
+        names = [(one["name"], name or "") for one, (name, _) in zip(page["descriptors"], form.objects)]
+        place.count.add(all(name == wanted or name and wanted.endswith("\\" + name) for name, wanted in names),
                         f"{form.what}, names by the page: {names}")
         place.count.add(page["kind"] in (None, form.kind) or (page["kind"], form.kind) in (
             ("folder", "file"), ("folder", "path")), f"{form.what}: a {page['kind']} by the page")

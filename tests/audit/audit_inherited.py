@@ -173,6 +173,16 @@ def test_levels(place: Place) -> None:
     place.expect((got[BASE.lower()], got[UNIT]), (["reset-password"], []), "names in lower case")
 
 
+def test_unknown_above(place: Place) -> None:
+    """What an object hands on is told of those below where nothing is told of the object itself."""
+    granted, one = "(A;CI;GA;;;WD)", entry(of("One"), OF_USER, "D:AI(A;CIID;GA;;;WD)")
+    pairs = "".join(f"(OA;;CC;12345678-0000-4000-8000-{at:012x};;{DOMAIN}-{2000 + at})"
+                    f"(OA;;RP;12345678-0000-4000-8000-{at:012x};;WD)" for at in range(300))
+    for dacl, wanted in ((granted, (["everyone-changes"], [])), (granted + pairs, (["unknown"], ["everyone-changes"]))):
+        got = found_in(place, [entry(UNIT, OF_UNIT, f"D:{dacl}"), one])
+        place.expect((got[UNIT], got[of("One")]), wanted, f"a unit with {dacl.count('(')} ACEs")
+
+
 def test_twice(place: Place) -> None:
     """An object that a source has twice hands on what is certain: nothing, if its descriptors differ."""
     one = entry(of("One"), OF_USER, f"D:AI{RESETS_INHERITED}")
@@ -262,7 +272,8 @@ def test_machines(place: Place) -> None:
                  "what nobody knows to be a machine's")
 
 
-TESTS = (test_pairs, test_templates, test_types_below, test_owners, test_levels, test_twice, test_many, test_machines)
+TESTS = (test_pairs, test_templates, test_types_below, test_owners, test_levels, test_unknown_above, test_twice,
+         test_many, test_machines)
 
 
 def main(count: preload.Count) -> None:

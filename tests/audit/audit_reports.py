@@ -643,6 +643,16 @@ def test_words(place: Place) -> None:
     place.expect(place.objects("can", BOB, "full", both)[0]["answer"], "nothing", "full by one of two ACEs")
 
 
+def test_long_numbers(place: Place) -> None:
+    """A number that is no number of a column or a level is one of the words, which are told."""
+    source, many = place.table([("x", GOOD)]), "9" * 5000
+    place.write("token", f"S-1-5-21-1-2-3-7\nS-1-16-{many}\n")
+    for words in (("can", "token", "read", source), ("risks", source, "--name-column", "\u00b2"),
+                  ("risks", source, "--name-column", many)):
+        ended = place.ask(*words)
+        place.expect((ended.status, "Error" in ended.stderr), (2, False), f"{words[0]}: {ended.stderr[:300]}")
+
+
 def test_abilities(place: Place) -> None:
     """Who can do something with directory objects, by name."""
     changes = ("1131f6aa-9c07-11d1-f79f-00c04fc2dcd2", "1131f6ad-9c07-11d1-f79f-00c04fc2dcd2")
@@ -720,6 +730,12 @@ def test_long_names(place: Place) -> None:
         text = place.ask("risks", source, "--to", to).stdout
         place.expect("folder\\folder" in text.replace("\\\\", "\\") and text.count("folder") >= 40, True,
                      f"a long name in {to}")
+    # Names above such objects, in memory all at once, would be 60 times as long as the source.
+    units = "".join(f",OU={'x' * 300}" for _ in range(100))
+    place.write("deep.ldif", "".join(f"dn: CN={at}{units},DC=a{at}\nobjectClass: user\nnTSecurityDescriptor: "
+                                     "O:BAD:(A;CIID;GA;;;WD)\n\n" for at in range(400)))
+    ended = shell(place, "ulimit -v 600000; AUDIT risks deep.ldif --jobs 1 --to jsonl | wc -l")
+    place.expect(ended.stdout.strip(), "400", f"long names of a directory: {ended}")
 
 
 def test_baselines(place: Place) -> None:
@@ -779,6 +795,21 @@ def test_baselines(place: Place) -> None:
     less = place.table([("x", FOUND), ("y", GOOD)], "less.csv")
     place.expect([one["answer"] for one in place.objects("risks", less, "--baseline", "same.jsonl")],
                  ["known", "nothing", "mended"], "an object less of one name, with a baseline")
+    medium = place.table([("x", "O:BAD:(A;;WD;;;S-1-5-21-1-2-3-1105)")], "medium.csv")
+    place.write("medium.jsonl", place.ask("risks", medium, "--to", "jsonl").stdout)
+    place.expect([place.told("risks", source, *words, "--baseline", "medium.jsonl")["x"][0] for source, *words in (
+        (medium,), (medium, "--min-severity", "high"), (medium, "--rules", "no-dacl"), (medium, "--rules=-takeover"),
+        (place.table([("x", GOOD)], "none.csv"),))],
+        ["known", "lesser", "nothing", "nothing", "mended"], "a finding that isn't asked about is not mended")
+    other = "bf967953-0de6-11d0-a285-00aa003049e2"
+    typed, moved = (place.table([("x", f"O:BAD:(OA;;WP;{one};;WD)")], f"{one[:8]}.csv")
+                    for one in ("bf967950-0de6-11d0-a285-00aa003049e2", other))
+    place.write("typed.jsonl", place.ask("risks", typed, "--type", "ds", "--to", "jsonl").stdout)
+    for source, answer in ((typed, "known"), (moved, "changed")):
+        one, = place.objects("risks", source, "--type", "ds", "--baseline", "typed.jsonl")
+        texts = [found["text"] for found in one["findings"]]
+        place.expect((one["answer"], [other in text for text in texts]), (answer, [True] * len(texts)),
+                     f"the same right for an object type: {texts}")
 
 
 def test_cut_lists(place: Place) -> None:
@@ -956,9 +987,9 @@ def test_said(place: Place) -> None:
 
 TESTS = (test_mounted, test_closed_streams, test_without_rich, test_words_come_first, test_files_named_twice,
          test_databases, test_one_bad_source, test_comparing, test_groups, test_many_unknown, test_processes,
-         test_severities, test_trusted, test_words, test_abilities, test_spreadsheet, test_owners, test_markdown,
-         test_long_names, test_baselines, test_cut_lists, test_lost_objects, test_guesses, test_guesses_of_many,
-         test_said)
+         test_severities, test_trusted, test_words, test_long_numbers, test_abilities, test_spreadsheet, test_owners,
+         test_markdown, test_long_names, test_baselines, test_cut_lists, test_lost_objects, test_guesses,
+         test_guesses_of_many, test_said)
 
 
 def main(count: preload.Count) -> None:

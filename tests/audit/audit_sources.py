@@ -1280,6 +1280,25 @@ def test_more(place: Place) -> None:
     place.says("six archives inside of each other", data, 1, "too many")
 
 
+def test_numbers(place: Place) -> None:
+    """A number that Python doesn't take costs no other object, whatever it stands in."""
+    many = "9" * 5000
+    entry = f"dn: CN=a,DC=b\nnTSecurityDescriptor: {FR}\n\n"
+    acl = "REVISION:1\nCONTROL:0x8004\nOWNER:S-1-5-32-544\nGROUP:S-1-5-18\nACL:S-1-1-0:0/{}/0x001200a9\n"
+    dump = of_ndr(1)[0].text
+    rows = [("json", json.dumps([{"Path": "a", "Sddl": FR}, {"Path": "b", "Sddl": FR}]).replace('"b"', many), 2),
+            ("json", f'[\n{{"Path": "a", "Sddl": "{FR}"}},\n{{"n": {many}}},\n{{"Path": "b", "Sddl": "{FR}"}}\n]', 3),
+            ("jsonl", f'{{"Path": "a", "Sddl": "{FR}"}}\n{{"n": {many}}}\n', 2),
+            ("ldif", f"{entry}# numEntries: {many}\n", 1), ("ldif", f"{entry}# returned {many} records\n", 1),
+            ("ldif", f"{entry}# {many} entries\n", 1), ("ldif", f"{entry}{many} Objects returned\n", 2),
+            ("smbcacls", acl.format("08") + acl.format("0"), 2), ("smbcacls", acl.format(many) + acl.format("0"), 2),
+            ("ndr", dump + dump.replace("(1)", f"({many})"), 2)]
+    for name, text, wanted in rows:
+        found = place.read(text, format=name)
+        place.expect((len(found.objects) > 0, len(found.objects) + len(found.unknown), found.is_whole, found.fault),
+                     (True, wanted, True, ""), f"{name} with {text[-60:]!r}")
+
+
 def test_looks(place: Place) -> None:
     """A format is told by all that is looked at: a first name may look like another one."""
     for name in ("[2024] a.txt", "{8E2C}\\x", "REGEDIT4 x", "Windows Registry Editor notes", "#TYPE a", "dn: x",
@@ -1553,8 +1572,8 @@ def test_help(place: Place) -> None:
 
 TESTS = (test_whole, test_damage, test_damaged_bytes, test_volume, test_bytes, test_titles, test_twice, test_others,
          test_drawn, test_shares, test_messages, test_guesses, test_dumps, test_registry, test_archives, test_json,
-         test_layouts, test_json_behind_damage, test_ldif, test_spellings, test_more, test_looks, test_encodings,
-         test_long, test_pipes, test_jobs, test_parts, test_help)
+         test_layouts, test_json_behind_damage, test_ldif, test_spellings, test_more, test_numbers, test_looks,
+         test_encodings, test_long, test_pipes, test_jobs, test_parts, test_help)
 
 
 def add_options(parser: argparse.ArgumentParser) -> None:

@@ -7,6 +7,7 @@ unknown. It needs what tests/audit/audit.py needs, Debian's valgrind, and for th
 """
 import concurrent.futures
 import itertools
+import json
 import pathlib
 import shutil
 import tempfile
@@ -115,6 +116,11 @@ MANY_ACES = {
     ("inherit", "tree.csv"): lambda count: {
         "tree.csv": f"Path,Sddl\nC:\\,O:BAG:BAD:{listed(count, '(A;OICI;FR;;;{})')}\nC:\\a,O:BAG:BAD:AI"
                     f"{listed(count, '(A;OICIID;FR;;;{})')}\nC:\\a\\b,O:BAG:BAD:AI(A;ID;FA;;;BA)\n"},
+    ("risks", "new.csv", "--baseline", "old.jsonl"): lambda count: {
+        "new.csv": f"Path,Sddl\none,O:BAG:BAD:{listed(count, '(A;;FA;;;{})')}\n",
+        "old.jsonl": json.dumps({"name": "one", "source": "old.csv", "line": 2, "answer": "found", "findings": [
+            {"rule": "takeover", "trustee": f"S-1-5-21-1-2-3-{9000 + at}", "rights": "x", "text": "",
+             "severity": "medium"} for at in range(count)]}) + "\n"},
     ("risks", "unit.ldif"): lambda count: {
         "unit.ldif": ENTRY.format("OU=a,DC=b", "organizationalUnit", halves(count, "CI")) +
         ENTRY.format("CN=c,OU=a,DC=b", "user", "AI" + halves(count, "CIID"))}}

@@ -32,6 +32,7 @@ sys.path.insert(0, str(TOP / "python"))
 
 
 DOMAIN = "S-1-5-21-1-2-3"
+GIVEN = "given-by-windows"
 # The last numbers of the SIDs of a domain's aliases: MS-DTYP 2.5.1.1.
 NUMBERS = {"CA": 517, "DA": 512, "DC": 515, "DD": 516, "DU": 513, "EA": 519, "PA": 520, "RO": 498, "RS": 553, "SA": 518}
 
@@ -60,16 +61,16 @@ def rows():
 
 
 def notes():
-    """The rules whose findings are notes."""
+    """The rules whose findings are notes, but for what the rows have."""
     with open(TOP / "windows/rules.toml", "rb") as file:
-        return {row["name"] for row in tomllib.load(file)["rule"] if row["severity"] == "note"}
+        return {row["name"] for row in tomllib.load(file)["rule"] if row["severity"] == "note"} - {GIVEN}
 
 
 def wanted(row):
     """The findings of a row: rule, trustee, the rights that have to be among those found, and the severity if it has
     one."""
     return [(rule, sid, set(filter(None, words.split(", "))), severity) for rule, sid, words, *severity in
-            (one.split("|") for one in row.get("finds", ()))]
+            (one.split("|") for one in (*row.get("finds", ()), *(f"{GIVEN}|{one}" for one in row.get("given", ()))))]
 
 
 def difference(found, row):

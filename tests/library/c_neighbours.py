@@ -35,6 +35,7 @@ ABSENT, NULL, LIST = range(3)
 LENGTHS = range(101)
 EVERYONE, USER = Sid(1, (0,)), neighbours.USER
 DOMAIN_SID = Sid(5, (21, 1, 2, 3))
+HAS_LEVEL, SECURITY, TAKE_OWNERSHIP, MAXIMUM = 1, 2, 4, 1  # options of an asker, and that of a request
 
 
 class Outcome(Structure):
@@ -43,21 +44,16 @@ class Outcome(Structure):
                 ("length", c_size_t)]
 
 
+class Asker(Structure):
+    _fields_ = [("mapping", c_uint32), ("level", c_uint32), ("options", c_uint32)]
+
+
 class Request(Structure):
-    _fields_ = [("wanted", c_uint32), ("mapping", c_uint32), ("level", c_uint32), ("has_level", c_bool),
-                ("maximum", c_bool),
-                ("security", c_bool), ("take_ownership", c_bool)]
+    _fields_ = [("asker", Asker), ("wanted", c_uint32), ("options", c_uint32)]
 
 
 class Verdict(Structure):
-    _fields_ = [("fault", c_uint32), ("part", c_uint32), ("other_part", c_uint32), ("argument", c_uint32),
-                ("entry", c_size_t),
-                ("mask", c_uint32), ("granted", c_bool)]
-
-
-class Asker(Structure):
-    _fields_ = [("mapping", c_uint32), ("level", c_uint32), ("has_level", c_bool), ("security", c_bool),
-                ("take_ownership", c_bool)]
+    _fields_ = [("outcome", Outcome), ("mask", c_uint32), ("granted", c_bool)]
 
 
 class Reason(Structure):
@@ -69,9 +65,7 @@ class Origin(Structure):
 
 
 class Origins(Structure):
-    _fields_ = [("fault", c_uint32), ("part", c_uint32), ("other_part", c_uint32), ("argument", c_uint32),
-                ("entry", c_size_t),
-                ("sacl_count", c_size_t), ("dacl_count", c_size_t)]
+    _fields_ = [("outcome", Outcome), ("sacl_count", c_size_t), ("dacl_count", c_size_t)]
 
 
 class Place(Structure):
@@ -154,13 +148,12 @@ def judged(descriptor, sids, entries, request, object_type=b"", principal_self=b
 
 def why(descriptor, before, token, asked, request, answer):
     """The answer once more for each of the two calls for reasons, or what differs from it."""
-    asker = Asker(request.mapping, request.level, request.has_level, request.security, request.take_ownership)
     for name, given in (("sdtool_reasons", before),
                         ("sdtool_reasons_with", [token, c_size_t(len(token))] if token else None)):
         if given is None or answer in ((EMPTY_REQUEST, 0, 0), (RESERVED_BITS, 0, 0)):  # faults of what is wanted
             continue
         told = (Reason * len(reference.access.PLACES))(*[Reason(MOST_SHORT, 0)] * len(reference.access.PLACES))
-        outcome = call(name, Outcome, descriptor, *given, *asked, byref(asker), told)
+        outcome = call(name, Outcome, descriptor, *given, *asked, byref(request.asker), told)
         if outcome.fault != OK:
             yield (as_answer(outcome) if all((one.kind, one.place) == (0, NO_PLACE) for one in told)
                    else "a reason beside a fault")
@@ -173,8 +166,9 @@ def why(descriptor, before, token, asked, request, answer):
 
 
 def as_answer(told):
-    if told.fault != OK or isinstance(told, Outcome):
-        return told.fault, told.argument, told.entry
+    outcome = told if isinstance(told, Outcome) else told.outcome
+    if outcome.fault != OK or isinstance(told, Outcome):
+        return outcome.fault, outcome.argument, outcome.entry
     return f"{'granted' if told.granted else 'denied'} 0x{told.mask:08x}"
 
 
@@ -229,7 +223,7 @@ def mappings():
     data, everyone, of_number = reference.layout(generic), EVERYONE.to_bytes(), ["file", "key", "ds"]
     parent = with_dacl(allow(EVERYONE, 1 << 31, flags=1))
     for number in numbers():
-        request = Request(wanted=0, mapping=number, maximum=True)
+        request = Request(Asker(mapping=number), options=MAXIMUM)
         right = verdict(generic, [(EVERYONE, False)], of_number[number]) if number < 3 else (ARGUMENT, MAPPING, 0)
         yield f"mapping {number}", judged(data, everyone, b"\0", request), right
         plan = number < 3 and reference.inheriting.Plan(False, USER, EVERYONE, reference.MAPPINGS[of_number[number]])
@@ -242,8 +236,8 @@ def derived(parent, creator, owner, group, kind, mapping):
     """What is derived, or a fault that the call for origins has too; else what that call says."""
     given = reference.layout(parent), creator, owner, group, kind, mapping
     answer, (told, *origins) = answered("sdtool_derive", *given), origins_of(*given)
-    if told.fault != OK or not isinstance(answer, bytes):
-        fault = told.fault, told.argument, told.entry
+    if told.outcome.fault != OK or not isinstance(answer, bytes):
+        fault = told.outcome.fault, told.outcome.argument, told.outcome.entry
         return answer if answer == fault and (told.sacl_count, told.dacl_count) == (0, 0) else fault
     found = reference.read(answer)
     counts = [len(acl.aces) if acl else 0 for acl in (found.sacl, found.dacl)]
@@ -259,7 +253,7 @@ def origins_of(parent, creator, owner, group, kind, mapping, sacl_room=MOST_DERI
     told = call("sdtool_derive_origins", Origins, parent, creator, owner, group, kind, mapping,
                 *(it for cells in rooms for it in (cells, c_size_t(len(cells)))))
     found = []
-    for cells, count in zip(rooms, (told.sacl_count, told.dacl_count) if told.fault == OK else (0, 0)):
+    for cells, count in zip(rooms, (told.sacl_count, told.dacl_count) if told.outcome.fault == OK else (0, 0)):
         rest = bytes(cells)[ctypes.sizeof(Origin) * count:]
         found.append([(one.place, one.from_creator, one.inherit_only) for one in cells[:count]]
                      if rest.count(0xaa) == len(rest) else "more origins than were told")
@@ -276,7 +270,7 @@ def kinds():
 
 def entries():
     """Each byte of an entry, at each place of tokens of one to three SIDs."""
-    sids, request = [EVERYONE, USER, Sid(5, (18,))], Request(wanted=0, maximum=True)
+    sids, request = [EVERYONE, USER, Sid(5, (18,))], Request(options=MAXIMUM)
     descriptor = with_dacl(*(allow(sid, 1 << at, kind) for kind in (0, 1) for at, sid in enumerate(sids)),
                            allow(EVERYONE, 8))
     for count in (1, 2, 3):
@@ -404,7 +398,7 @@ def domains():
 
 def askers():
     """What is nearly a SID as what PRINCIPAL SELF stands for, and as the one SID of a token."""
-    request = Request(wanted=0, maximum=True)
+    request = Request(options=MAXIMUM)
     for_self = with_dacl(allow(Sid(5, (10,)), 0x7))
     for data in nearly_sids():
         sid = sid_in(data) if is_sid(data) else None
@@ -431,7 +425,7 @@ def size_of_sid(data):
 def guid_lengths():
     """What is nearly a GUID, as each argument that is one."""
     descriptor, sid = with_dacl(allow(EVERYONE, 7, 5, object_type=neighbours.ZEROS)), EVERYONE.to_bytes()
-    request = Request(wanted=0, mapping=2, maximum=True)
+    request = Request(Asker(mapping=2), options=MAXIMUM)
     for length, byte in itertools.product(LENGTHS, (0, 0xff, 0x5a)):
         data = bytes([byte]) * length
         is_one = length in (0, 16)
@@ -516,7 +510,7 @@ def walk_of(data):
 
 
 def guids_compared():
-    request = Request(wanted=0, mapping=2, maximum=True)
+    request = Request(Asker(mapping=2), options=MAXIMUM)
     few = [neighbours.ZEROS, neighbours.ONES, neighbours.GUID, None]
     pairs = {pair for guid in neighbours.guids() for some in few for pair in ((guid, some), (some, guid), (guid, guid))}
     for one, other in pairs:
@@ -529,7 +523,7 @@ def guids_compared():
 
 def sids_compared():
     """Each SID beside some, in a token alone and behind others, also where it only denies."""
-    request, others = Request(wanted=0, maximum=True), [Sid(9, (number,)) for number in range(17)]
+    request, others = Request(options=MAXIMUM), [Sid(9, (number,)) for number in range(17)]
     for sid in neighbours.SIDS:
         for near, count in itertools.product(neighbours.sids_beside(sid)[::3], (0, 1, 16, 17)):
             for one, other in ((sid, near), (near, sid)):
@@ -544,7 +538,7 @@ def sids_compared():
 
 def token_sizes():
     """A token in memory of the caller that is cut, of each size, or that was never read."""
-    request, data = Request(wanted=0, maximum=True), reference.layout(with_dacl(allow(USER, 0x7)))
+    request, data = Request(options=MAXIMUM), reference.layout(with_dacl(allow(USER, 0x7)))
     for count in range(4):
         sids = b"".join(Sid(5, (number,)).to_bytes() for number in range(1, count)) + (USER.to_bytes()
                                                                                        if count else b"")
@@ -568,7 +562,7 @@ def token_sizes():
 
 def token_marks():
     """A token in memory whose first number is changed, or whose second one says another count of SIDs."""
-    request, data, most = Request(wanted=0, maximum=True), reference.layout(with_dacl(allow(USER, 0x7))), 2 + 20 * 1026
+    request, data, most = Request(options=MAXIMUM), reference.layout(with_dacl(allow(USER, 0x7))), 2 + 20 * 1026
     sids = USER.to_bytes()
     right = verdict(with_dacl(allow(USER, 0x7)), [(USER, False)])
 

@@ -47,12 +47,13 @@ def expected(parent, creator, plan):
 
 def told_by(given, **room):
     told, *found = origins_of(*given, **room)
-    return found if told.fault == OK else (told.fault, told.part, told.argument)
+    outcome = told.outcome
+    return found if outcome.fault == OK else (outcome.fault, outcome.part, outcome.argument)
 
 
 def counts_told(given, **room):
     told, *found = origins_of(*given, **room)
-    return told.fault, told.sacl_count, told.dacl_count, found
+    return told.outcome.fault, told.sacl_count, told.dacl_count, found
 
 
 def test_room(count, given, right):

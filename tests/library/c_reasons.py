@@ -17,7 +17,7 @@ import c_library
 import compare
 import preload
 import reference
-from c_neighbours import NO_PLACE, OK, Asker, Outcome, Reason, call
+from c_neighbours import HAS_LEVEL, NO_PLACE, OK, SECURITY, TAKE_OWNERSHIP, Asker, Outcome, Reason, call
 from reference import Ace, Acl, Descriptor, Sid
 from reference.access import PLACES, REASONS, reasons
 
@@ -60,8 +60,8 @@ def test_lines(count, number, choices):
         read = call("sdtool_token_read", Outcome, c_char_p(sids), c_size_t(len(sids)), c_char_p(entries),
                     c_size_t(len(entries)), token, c_size_t(len(token)))
         count.add(read.fault == OK, f"the token of {words}: {read.fault}")
-        asker = Asker(mappings.index(ask.mapping), ask.level or 0, ask.level is not None, ask.security,
-                      ask.take_ownership)
+        options = (ask.level is not None) * HAS_LEVEL | ask.security * SECURITY | ask.take_ownership * TAKE_OWNERSHIP
+        asker = Asker(mappings.index(ask.mapping), ask.level or 0, options)
         asked = [ask.object_type or b"", ask.principal_self.to_bytes() if ask.principal_self else b"", byref(asker)]
         before = [c_char_p(sids), c_size_t(len(sids)), c_char_p(entries), c_size_t(len(entries))]
         for one in found:

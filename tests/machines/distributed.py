@@ -567,14 +567,12 @@ def test_requests(count, place, store):
     store.ask(f"""for number in map(str, range({SMALL_OBJECTS})):
     fs.pipe_file("bucket/small/" + number, open("small/" + number, "rb").read())""")
     store.put("bucket/blocks", "blocks", LINE * 40_000)
-    for given, block, made, most in (("small", 64_000_000, SMALL_OBJECTS, (1.4, 8)), ("blocks", 260_000, 10, (1.4, 8))):
+    for given, block, made, most in (("small", 64_000_000, SMALL_OBJECTS, (1.5, 8)), ("blocks", 260_000, 10, (2, 8))):
         for log in "worker log", "driver log":
             (place.folder / log).unlink(missing_ok=True)
         got = place.run(f"s3://bucket/asked {given}", ["convert"], [f"s3://bucket/{given}"],
                         ["--scheduler", address, "--block", str(block)], driver)
-        # A worker looks once a second who owns the output, however long its blocks take.
-        asked = [len([line for line in (place.folder / log).read_text().splitlines() if "run.json" not in line]) / made
-                 for log in ("driver log", "worker log")]
+        asked = [len((place.folder / log).read_text().splitlines()) / made for log in ("driver log", "worker log")]
         answers = store.answers(f"bucket/asked {given}")
         names = {os.path.basename(name): name for name in answers}
         files = {name: f"small/{name}" if given == "small" else name for name in names}
@@ -882,7 +880,7 @@ def test_words(count, place, address):
         (["--out", out, "convert", name], "inputs stand behind --"),
         (["--out", out, "convert", "--"], "inputs stand behind --"),
         (["--out", out, "print", "--", name], "invalid choice"),
-        (["--out", out, "--block", "0", "convert", "--", name], "--block is a number, and is at least 1"),
+        (["--out", out, "--block", "0", "convert", "--", name], "--block: invalid number value: '0'"),
         (["--out", out, "--bloc", "9", "convert", "--", name], "invalid choice: '9'"),
         (["--out", out, "convert", "--", "nowhere"], "nowhere: no regular file"),
         (["--out", out, "convert", "--", "nowhere/*"], "nowhere/*: no regular file"),

@@ -52,26 +52,98 @@ PAUSES = """if not next(numbers):
 # Behind the stub of a worker: it is stopped before it removes a part of an input, where the file `stop` says so.
 STOPS = """
 replace_before = os.replace
-def replace_or_stop(old, new):
-    if str(old).endswith('/part-000010') and os.path.exists({folder!r} + '/stop'):
+def replace_or_stop(old, new, **folders):
+    if os.path.basename(old) == 'part-000010' and os.path.exists({folder!r} + '/stop'):
         os.rename({folder!r} + '/stop', {folder!r} + '/stopped')
         os.kill(os.getpid(), signal.SIGSTOP)
-    replace_before(old, new)
+    replace_before(old, new, **folders)
 os.replace = replace_or_stop
 """
-# Behind the stub of a driver: two of them own the output at once, the one that has LATER half a second later. Both then
-# wait.
+# Behind the stub of a driver: two of them own the output at once, the one that has LATER=0 first.
 TOGETHER = """
 right_replace = os.replace
-def replace(old, new):
-    if not str(new).endswith('/_sdtool/run.json'):
-        return right_replace(old, new)
-    open({folder!r} + '/driver' + os.environ['LATER'], 'w').close()
-    while not all(os.path.exists({folder!r} + '/driver' + which) for which in '01'): time.sleep(0.02)
-    time.sleep(int(os.environ['LATER']) / 2)
-    right_replace(old, new)
-    time.sleep(1)
+def come(step):
+    open({folder!r} + '/' + step + os.environ['LATER'], 'w').close()
+    while not all(os.path.exists({folder!r} + '/' + step + which) for which in '01'): time.sleep(0.02)
+def replace(old, new, **folders):
+    if os.path.basename(new) != 'run.json':
+        return right_replace(old, new, **folders)
+    come('begins')
+    while os.environ['LATER'] == '1' and not os.path.exists({folder!r} + '/owns0'): time.sleep(0.02)
+    right_replace(old, new, **folders)
+    come('owns')
 os.replace = replace
+"""
+# Behind the stub of a driver: it has looked at the output, and does not own it until `go`.
+LOOKED = """
+right_replace = os.replace
+def replace(old, new, **folders):
+    if os.path.basename(new) == 'run.json':
+        open({folder!r} + '/looked', 'w').close()
+        while not os.path.exists({folder!r} + '/go'): time.sleep(0.02)
+    right_replace(old, new, **folders)
+os.replace = replace
+"""
+# Behind the stub of a driver: when it begins to look, another one does too.
+LOOK_TOGETHER = """
+from fsspec.implementations.local import LocalFileSystem
+right_pipe = LocalFileSystem.pipe_file
+def pipe_file(fs, path, *arguments):
+    right_pipe(fs, path, *arguments)
+    if os.path.dirname(path).endswith('/_sdtool'):
+        open({folder!r} + '/looks' + os.environ['LATER'], 'w').close()
+        while not all(os.path.exists({folder!r} + '/looks' + which) for which in '01'): time.sleep(0.02)
+LocalFileSystem.pipe_file = pipe_file
+"""
+# A run during which another one, with other words, begins at the step at which the first one has looked at the output.
+LOOKED_IN_MEMORY = """
+import fsspec
+from sdtool import distributed
+memory = fsspec.filesystem("memory")
+for name in "xy":
+    memory.pipe(f"/in/{name}", open("x", "rb").read())
+right, others = type(memory).pipe_file, []
+def pipe_file(fs, path, *arguments):
+    if path.endswith("/run.json") and not others:
+        others.append(None)
+        others[0] = distributed.main(["--out", "memory://out", "explain", "--", "memory://in/y"])
+    right(fs, path, *arguments)
+type(memory).pipe_file = pipe_file
+status = distributed.main(["--out", "memory://out", "convert", "--", "memory://in/x"])
+print(status, others, [name for name in memory.find("/out") if "_sdtool" not in name])
+"""
+# A run that another one takes over while its workers write nothing.
+LOST_IN_MEMORY = """
+import threading
+import fsspec
+from sdtool import _library, distributed
+right, begins, goes_on, ends = _library.run, threading.Event(), threading.Event(), []
+def run(words, data):
+    if data:
+        begins.set()
+        goes_on.wait()
+    return right(words, data)
+_library.run = run
+memory = fsspec.filesystem("memory")
+memory.pipe("/in/x", open("x", "rb").read())
+words = ["--out", "memory://out", "convert", "--", "memory://in/x"]
+first = threading.Thread(target=lambda: ends.append(distributed.main(words)))
+first.start()
+begins.wait()
+memory.pipe("/out/_sdtool/run.json", b'{"run": "another", "words": ["convert"]}')
+first.join(300)
+goes_on.set()
+print(ends)
+"""
+# Behind the stub of a worker: where its answers are to appear, a link comes at the last step.
+LINKS = """
+replace_before = os.replace
+def replace_behind_link(old, new, **folders):
+    if os.path.basename(new) == 'x' and not os.path.lexists({folder!r} + '/linked/kept'):
+        os.rename({folder!r} + '/linked/sub', {folder!r} + '/linked/kept')
+        os.symlink({folder!r} + '/outside', {folder!r} + '/linked/sub')
+    replace_before(old, new, **folders)
+os.replace = replace_behind_link
 """
 # Behind the stub of a driver: what is named `hangs` cannot be listed.
 HANGS_IN_LS = """
@@ -151,6 +223,12 @@ class Place(runs.Place):
         with open(f"{environment['PYTHONPATH']}/sdtool/__init__.py", "a") as file:
             file.write(text.format(folder=str(self.folder), failed=str(self.folder / "failed")))
         return environment
+
+    def start_nanny(self, address, environment):
+        """A worker that starts again when its process has ended."""
+        words = ["-m", "distributed.cli.dask_worker", address, "--nthreads", "1", "--no-dashboard", "--host",
+                 "127.0.0.1"]
+        self.start([self.python, *words], environment, stdout=subprocess.DEVNULL, stderr=subprocess.DEVNULL)
 
     def cluster(self, *environments):
         _, address = self.start_scheduler()
@@ -465,8 +543,8 @@ def test_two_at_once(count, place):
     place.write("x", LINE * 100)
     together = place.behind("two at once", TOGETHER)
     for options in [], ["--parts"]:
-        for which in "01":
-            (place.folder / f"driver{which}").unlink(missing_ok=True)
+        for step in "begins0", "begins1", "owns0", "owns1":
+            (place.folder / step).unlink(missing_ok=True)
         out = place.out()
         both = [place.start_run(out, ["convert"], ["x"], ["--wait", "60", *options], {**together, "LATER": later})
                 for later in "01"]
@@ -476,6 +554,64 @@ def test_two_at_once(count, place):
         count.add([got.status for got in ends] == [3, 0] and joined == place.wanted(["convert"], "x")[0],
                   f"two at once, {options}: {sorted(answers)}: {ends[0]} and {ends[1]}")
         count.add("another run has taken it over" in ends[0].stderr, f"the first of two at once, {options}: {ends[0]}")
+    got = runs.ended(place.start([place.python, "-c", LOST_IN_MEMORY], stdout=subprocess.PIPE, stderr=subprocess.PIPE))
+    is_right = "[3]" in got.stdout and "another run has taken it over" in got.stderr
+    count.add(is_right, f"a run that another one takes over while it writes nothing: {got}")
+
+
+def test_other_words_at_once(count, place):
+    """Of two drivers with other words that begin at once, one is refused, wherever the other one is held."""
+    place.tree({"x": LINE * 20, "y": LINE * 20})
+    looked, together = place.behind("has looked", LOOKED), place.behind("look together", LOOK_TOGETHER)
+    wanted = {"convert": {"x": place.wanted(["convert"], "x")[0]}, "explain": {"y": place.wanted(["explain"], "y")[0]}}
+    place.hold()
+    out = place.out()
+    late = place.start_run(out, ["explain"], ["y"], (), looked)
+    wait_until(late, (place.folder / "looked").exists, "a driver that has looked")
+    first = place.run(out, ["convert"], ["x"])
+    place.go()
+    second = runs.ended(late)
+    count.add((first.status, second.status) == (0, 3) and "has answers of 'sdtool convert'" in second.stderr
+              and runs.answers_in(out) == wanted["convert"], f"other words, one is held: {first} and {second}")
+    out = place.out()
+    both = [place.start_run(out, [command], [name], (), {**together, "LATER": later})
+            for command, name, later in (("convert", "x", "0"), ("explain", "y", "1"))]
+    ends = [runs.ended(child) for child in both]
+    right = wanted["convert" if ends[0].status == 0 else "explain"]
+    count.add(sorted(got.status for got in ends) == [0, 3] and runs.answers_in(out) == right,
+              f"other words, both look at once: {sorted(runs.answers_in(out))}: {ends[0]} and {ends[1]}")
+    got = runs.ended(place.start([place.python, "-c", LOOKED_IN_MEMORY], stdout=subprocess.PIPE,
+                                 stderr=subprocess.PIPE))
+    count.add("0 [3] ['/out/x']" in got.stdout and "a run with other words begins there" in got.stderr,
+              f"other words in memory: {got}")
+
+
+def test_link_that_comes(count, place):
+    """Behind a link that comes while a run goes on, nothing is written or removed, whenever it comes."""
+    place.tree({"d/sub/a": LINE, "d/sub/x": LINE * 300, "d/y": LINE * 40, "outside/x/part-000099": b"mine"})
+    outside = place.folder / "outside"
+
+    def judge_outside(what):
+        files = {str(path.relative_to(outside)): path.read_bytes() for path in outside.rglob("*") if path.is_file()}
+        count.add(files == {"x/part-000099": b"mine"}, f"{what}: files behind the link: {files}")
+
+    for options in [], ["--parts"]:
+        address, _ = place.cluster(place.patched("waits", WAITS))
+        place.hold()
+        out = place.out()
+        child = place.start_run(out, ["convert"], ["d"], ["--scheduler", address, "--block", "1500", *options])
+        wait_until(child, lambda: (out / "sub/a").exists(), "answers")
+        os.rename(out / "sub", out / "kept")
+        os.symlink(outside, out / "sub")
+        place.go()
+        got = runs.ended(child)
+        count.add(got.status == 3 and "d/sub/x has no answers" in got.stderr and "behind a link" in got.stderr
+                  and "/d/y" in got.stdout, f"a link that comes, {options}: {got}")
+        judge_outside(f"a link that comes, {options}")
+    address, _ = place.cluster(place.behind("links", LINKS))
+    place.run(place.folder / "linked", ["convert"], ["d"], ["--scheduler", address])
+    count.add(os.path.islink(place.folder / "linked/sub"), "a link that comes at the last step")
+    judge_outside("a link that comes at the last step")
 
 
 def test_another_meanwhile(count, place):
@@ -576,6 +712,22 @@ def test_other_modules(count, place):
     out = place.out()
     judge(count, place, "a module without this tool", place.run(out, ["convert"], ["x"], ["--scheduler", address]),
           out, {"x": "x"})
+
+
+def test_newer_module(count, place):
+    """A worker has a module from before its files were replaced by those that the driver has."""
+    place.write("x", LINE * 20)
+    package = place.folder / "newer"
+    shutil.copytree(place.modules / "sdtool", package / "sdtool", ignore=shutil.ignore_patterns("__pycache__"))
+    newer = {"PYTHONPATH": str(package)}
+    address, _ = place.cluster(newer)
+    for turn, status in enumerate((0, 3)):
+        out = place.out()
+        got = place.run(out, ["convert"], ["x"], ["--scheduler", address, "--wait", "20"], newer)
+        count.add(got.status == status and ("module is not the driver's" in got.stderr) == bool(turn),
+                  f"a module {('that is the same', 'from before')[turn]}: {got}")
+        with open(package / "sdtool/_runs.py", "a") as file:
+            file.write("\n# newer\n")
 
 
 def test_failing_worker(count, place):
@@ -696,7 +848,6 @@ def engine(retries, **others):
     made = Engine(None, [given], argparse.Namespace(block=9, retries=retries, wait=60, slowest=1), lambda line: None)
     made.unbegun = iter(())
     made.workers = {"one": Worker("one"), **{name: Worker(name, **has) for name, has in others.items()}}
-    made.was_retired = lambda address: address == "retired"
     return made, Task(made.jobs[0], "answer_whole", (), 1)
 
 def is_open(made):
@@ -710,8 +861,8 @@ def hung(made, task, name="one"):
     made.take_outcome(task, name, "hung", 30)
     return is_open(made)
 
-def died(made, name, *tasks):
-    made.bury(Sent(None, list(tasks), {name, "next"}), "next")
+def killed(made, *tasks):
+    made.suspect(Sent(None, list(tasks)))
     return is_open(made)
 
 LEFT_OUT = {"unfit_at": time.monotonic(), "delay": 30}
@@ -735,20 +886,16 @@ told["a fit one that does not come to it"] = failed(made, task)
 made, task = engine(0, two={}, three={})
 failed(made, task)
 told["a third one"] = failed(made, task, "two")
-made, task = engine(0, two={})
-told["a fit one, after a death"] = died(made, "one", task)
-told["nobody after two deaths"] = died(made, "two", task)
 made, task = engine(0)
-told["a retirement"] = died(made, "retired", task) and not task.is_alone
-made, task = engine(0)
-told["nobody else, one of two has killed it"] = died(made, "one", task, Task(made.jobs[0], "answer_whole", (), 1))
+told["a task whose workers died"] = killed(made, task)
+told["a task whose workers died, also alone"] = killed(made, task)
 made, task = engine(3, two={})
 told["one that is fit, after two hangs"] = hung(made, task) and hung(made, task)
 told["nobody, after hangs of two"] = hung(made, task, "two")
 made, task = engine(0)
 made.jobs[0].turn = 1
 told["a task of an earlier turn that fails"] = failed(made, task)
-told["a task of an earlier turn whose worker dies"] = died(made, "one", task)
+told["a task of an earlier turn whose workers died"] = killed(made, task)
 made, task = engine(0)
 made.later = [Task(made.jobs[0], "answer", (), 1, turn=-1) for _ in range(5000)] + [task]
 told["a task behind many that ended"] = made.next_tasks() == [task]
@@ -757,23 +904,25 @@ made.take_outcome(task, "two", "done", {"lines": 1})
 for what in "failed", "done", "unfit", "anew", "hung":
     made.work, made.require_ownership = None, lambda: None
     made.take_outcome(task, "one", what, 30)
-died(made, "one", task)
+killed(made, task)
 told["what comes of a task that was done"] = (made.jobs[0].came, made.later, made.left) == ({"lines": 1}, [], 0)
 made, task = engine(3, two={})
-made.fresh.append(Task(made.jobs[0], "answer_whole", (), 1))
-died(made, "one", task)
-told["one that may have killed, behind all others"] = [made.next_tasks() == [task] for _ in "12"] == [False, True]
+new, beside = (Task(made.jobs[0], "answer_whole", (), 1) for _ in "12")
+made.fresh.append(new)
+killed(made, task, beside)
+ones = [made.next_tasks() for _ in "12"]
+made.sent["one"] = Sent(None, [task])
+told["those that may have killed, behind all others, one by one"] = [*ones, made.next_tasks()] == [[new], [task], []]
 for what, is_so in told.items():
     print(int(is_so), what)
 """
 HOPED = {"nobody else": 0, "nobody else, a retry": 1, "a fit one": 1, "one that was left out before": 1,
          "one that is paused": 0, "one that is silent": 0, "one that is found unfit since": 0,
-         "a fit one that does not come to it": 0, "a third one": 0, "a fit one, after a death": 1,
-         "nobody after two deaths": 0, "a retirement": 1, "nobody else, one of two has killed it": 1,
-         "one that is fit, after two hangs": 1, "nobody, after hangs of two": 0,
-         "a task of an earlier turn that fails": 1, "a task of an earlier turn whose worker dies": 1,
-         "a task behind many that ended": 1, "what comes of a task that was done": 1,
-         "one that may have killed, behind all others": 1}
+         "a fit one that does not come to it": 0, "a third one": 0, "a task whose workers died": 1,
+         "a task whose workers died, also alone": 0, "one that is fit, after two hangs": 1,
+         "nobody, after hangs of two": 0, "a task of an earlier turn that fails": 1,
+         "a task of an earlier turn whose workers died": 1, "a task behind many that ended": 1,
+         "what comes of a task that was done": 1, "those that may have killed, behind all others, one by one": 1}
 
 
 def test_hopes(count, place):
@@ -822,12 +971,15 @@ def test_long_packed(count, place):
 
 
 def test_deadly_input(count, place):
-    """An input that kills its workers costs no other one, and is named."""
+    """An input that kills its workers, which start again, costs no other one, and is named."""
     dies = place.patched("dies of it", DIES)
     place.tree({"d/deadly": LINE * 5 + KILLS, **{f"d/{number}": LINE * (number + 1) for number in range(30)}})
-    address, _ = place.cluster(*[dies] * 3)
+    _, address = place.start_scheduler()
+    for _ in range(3):
+        place.start_nanny(address, dies)
+    place.wait_for_workers(address, 3)
     out = place.out()
-    got = place.run(out, ["convert"], ["d"], ["--scheduler", address, "--retries", "1", "--block", "500"])
+    got = place.run(out, ["convert"], ["d"], ["--scheduler", address, "--retries", "0", "--block", "500"])
     judge(count, place, "a deadly input", got, out, {str(number): f"d/{number}" for number in range(30)}, ["d/deadly"])
 
 
@@ -1000,10 +1152,8 @@ def test_restart(count, place):
     """Another client restarts the cluster, and a driver is killed: nothing of its run stays with the scheduler."""
     place.write("x", LINE * 6000)
     _, address = place.start_scheduler()
-    nanny = [place.python, "-m", "distributed.cli.dask_worker", address, "--nthreads", "1", "--no-dashboard", "--host",
-             "127.0.0.1"]
     for _ in range(2):
-        place.start(nanny, place.stub("slow"), stdout=subprocess.DEVNULL, stderr=subprocess.DEVNULL)
+        place.start_nanny(address, place.stub("slow"))
     place.wait_for_workers(address, 2)
     place.hold()
     out = place.out()
@@ -1095,11 +1245,11 @@ print(status, fsspec.filesystem("memory").cat_file("/o[1]*/x"))
 GROUPS = {
     "inputs": (test_no_inputs, test_files_that_go, test_without_versions, test_closed_folders, test_names_of_runs,
                test_packed, test_words),
-    "others": (test_parts, test_files_of_others, test_stopped_in_tidy, test_two_at_once, test_another_meanwhile,
-               test_file_that_comes, test_records, test_touched),
-    "workers": (test_other_modules, test_failing_worker, test_failed_read, test_retired, test_scheduler_of_dask,
-                test_killed_worker, test_hopes, test_many_parts, test_file_limit, test_deadly_input, test_restart,
-                test_adaptive),
+    "others": (test_parts, test_files_of_others, test_stopped_in_tidy, test_two_at_once, test_other_words_at_once,
+               test_another_meanwhile, test_link_that_comes, test_file_that_comes, test_records, test_touched),
+    "workers": (test_other_modules, test_newer_module, test_failing_worker, test_failed_read, test_retired,
+                test_scheduler_of_dask, test_killed_worker, test_hopes, test_many_parts, test_file_limit,
+                test_deadly_input, test_restart, test_adaptive),
     "lost": (test_hanging, test_hanging_calls, test_long_packed, test_gone_output),
     "waiting": (test_waiting, test_paused, test_paused_with_task),
 }

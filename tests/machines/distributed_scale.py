@@ -1,6 +1,6 @@
 """Tests distributed runs of many tasks and inputs: the scheduler stays awake, the driver small, and fifty machines
 busy. These are simulated: threads that sleep while a store would answer. tests/machines/distributed.py says what it
-needs.
+needs. `tests/run distributed_scale --only test_tasks --tasks 20000` takes minutes on a machine that is not busy.
 """
 import os
 import pathlib
@@ -14,7 +14,8 @@ import preload
 
 LINE = runs.LINE
 STORE = pathlib.Path(__file__).resolve().with_name("simulated_store")
-TASKS, FILES = 1000, 1500
+TASKS = 1000  # in the test of all: a busy machine does so many in minutes
+FILES = 1500
 # Objects of 100 MB in blocks of 64 MB, of which a connection to the store takes 50 MB a second. Here a byte is a
 # thousand. 100,000 of them are 10 TB, and of these the test answers some.
 OBJECTS, SOME, BYTES, BLOCK, SPEED = 100_000, 1000, 100_000, 64_000, 50_000
@@ -51,6 +52,10 @@ print(len(made.jobs), resource.getrusage(resource.RUSAGE_SELF).ru_maxrss // 1024
 """
 
 
+class Place(runs.Place):
+    tasks = TASKS
+
+
 def processor_seconds(child):
     """What a process that runs has taken."""
     fields = pathlib.Path(f"/proc/{child.pid}/stat").read_text(encoding="ascii").rpartition(")")[2].split()
@@ -63,8 +68,8 @@ def start_worker(place, address, threads, environment=None):
 
 
 def test_tasks(count, place):
-    """A thousand tasks, each of one line, and more small files."""
-    place.write("tasks", LINE * TASKS)
+    """Many tasks, each of one line, and many small files."""
+    place.write("tasks", LINE * place.tasks)
     for number in range(FILES):
         place.write(f"files/{number}", LINE * 16)
     _, address = place.start_scheduler()
@@ -74,7 +79,9 @@ def test_tasks(count, place):
     place.asked(address, WATCH)
     for given, block, made in ("tasks", str(len(LINE)), 1), ("files", "64000000", FILES):
         out = place.out()
+        began = runs.time.monotonic()
         got = place.run(out, ["convert"], [given], ["--scheduler", address, "--block", block])
+        print(f"{made if made > 1 else place.tasks:,} {given}: {runs.time.monotonic() - began:.0f} s")
         files = {"tasks": "tasks"} if made == 1 else {str(number): f"files/{number}" for number in range(0, FILES, 100)}
         answers = runs.answers_in(out)
         is_right = all(answers[name] == place.wanted(["convert"], file)[0] for name, file in files.items())
@@ -138,6 +145,10 @@ def test_machines(count, place):
                   f"every {ideal / tasks:.4f}")
 
 
+def add_options(words):
+    words.add_argument("--tasks", type=int, default=TASKS, metavar="N", help="of one input (%(default)s)")
+
+
 def main(count: preload.Count, wanted: preload.Given) -> None:
     with tempfile.TemporaryDirectory(ignore_cleanup_errors=True) as folder:
         python = dask_cluster.python_with_dask(folder)
@@ -147,7 +158,8 @@ def main(count: preload.Count, wanted: preload.Given) -> None:
             return
         for test in test_tasks, test_driver, test_machines:
             if preload.is_chosen(test):
-                place = runs.Place(pathlib.Path(folder, test.__name__), python, wanted.program, preload.LIBRARY)
+                place = Place(pathlib.Path(folder, test.__name__), python, wanted.program, preload.LIBRARY)
+                place.tasks = wanted.tasks
                 try:
                     runs.timed(test.__name__, test, count, place)
                 finally:

@@ -95,10 +95,12 @@ async function grid(...given) {
     const found = [];
     for (const text of given[0]) {
         await see(text);
-        found.push(each("table.grid tbody tr",
-            (row) => [row.dataset.token, row.querySelector("button.cell").dataset.sid,
-                Array.from(row.querySelectorAll("button.cell"),
-                    (cell) => [Number(cell.dataset.bit), cell.dataset.state, cell.textContent])]));
+        // Trustees that are alike have one row.
+        found.push(each("table.grid tbody tr", (row) => {
+            const cells = Array.from(row.querySelectorAll("button.cell"),
+                (cell) => [Number(cell.dataset.bit), cell.dataset.state, cell.textContent]);
+            return Array.from(row.querySelectorAll("[data-token]"), ({dataset}) => [dataset.token, dataset.sid, cells]);
+        }));
     }
     return found;
 }
@@ -107,11 +109,12 @@ async function reasons(...given) {
     const found = [];
     for (const [text, sid, bit] of given[0]) {
         await see(text);
-        const cell = first(`button.cell[data-sid="${sid}"][data-bit="${bit}"]`);
+        const trustee = first(`[data-token][data-sid="${sid}"]`);
         byId("why").textContent = "";
-        cell.click();
+        trustee.closest("tr").querySelector(`button.cell[data-bit="${bit}"]`).click();
         await until(() => byId("why").textContent !== "");
-        found.push([cell.closest("tr").dataset.token, byId("why").textContent, each("tr.ace.found", (row) => row.id)]);
+        const sentences = each(`#why [data-sids~="${sid}"]`, (one) => one.textContent);
+        found.push([trustee.dataset.token, sentences.join("|"), each("tr.ace.found", (row) => row.id)]);
     }
     return found;
 }
@@ -159,6 +162,56 @@ async function compare(...given) {
         rights: each("#compare-result li[data-sid]",
             (item) => [item.dataset.sid, Number(item.dataset.gained), Number(item.dataset.lost)])
     };
+}
+
+// A text is put into a field of an edit, whose step begins when the field is left.
+const take = (id, value) => {
+    put(id, value);
+    if (byId(id).type === "text") byId(id).dispatchEvent(new window.Event("change", {bubbles: true}));
+};
+
+// One step of an edit, as a person does it: by a key, a field of an ACE, a new ACE, or a button.
+async function editStep({act, list, number, fields = []}) {
+    const row = byId(`edit-${list}-${number}`);
+    const press = (key, altKey) =>
+        row.dispatchEvent(new window.KeyboardEvent("keydown", {key, altKey, bubbles: true, cancelable: true}));
+    if (act === "Delete") press(act, false);
+    else if (act.startsWith("Arrow")) press(act, true);
+    else if (act === "change" && !row.classList.contains("chosen")) row.click();
+    else if (act !== "change" && act !== "field") byId(`edit-${act}`).click();
+    for (const [id, value] of fields) {
+        take(`edit-${id}`, value);
+        await pause(2);
+    }
+    if (act === "add") byId("edit-put").click();
+    await until(isIdle);
+}
+
+// What an edit shows.
+const differing = (item) => [Number(item.dataset.gained), Number(item.dataset.lost)];
+const editShown = () => ({
+    verdict: byId("edit-first").dataset.verdict,
+    sentence: byId("edit-sentence").lastChild.textContent,
+    why: byId("edit-sentence-why").textContent,
+    sddl: byId("edit-sddl").textContent,
+    aces: each("table.edit tr.ace", (row) => row.dataset.state),
+    rights: each("#view-edit li[data-sid]",
+        (item) => [item.dataset.sid, ...differing(item),
+            Array.from(item.querySelectorAll("li[data-object]"), (one) => [one.dataset.object, ...differing(one)])]),
+    fault: byId("edit-fault")?.textContent ?? "",
+    focus: document.activeElement.id
+});
+
+async function editSteps(...given) {
+    const [text, steps] = given;
+    byId("tab-edit").click();
+    await see(text);
+    const shown = [editShown()];
+    for (const step of steps) {
+        await editStep(step);
+        shown.push(editShown());
+    }
+    return shown;
 }
 
 // Words with letters of English in what is shown or said, beside those that are allowed, in the order of the page.

@@ -17,6 +17,7 @@ import traceback
 
 import browsers
 import page_answers
+import page_edits
 import page_limits
 import page_people
 import page_report
@@ -87,6 +88,11 @@ TESTS = [
     page_answers.test_inherit,
     page_answers.test_long_inherit,
     page_answers.test_compare,
+    page_edits.test_edit_by_keys,
+    page_edits.test_take,
+    page_edits.test_edit_faults,
+    page_edits.test_edit_shown,
+    page_edits.test_random_edits,
     page_texts.test_language,
     page_texts.test_forms,
     page_texts.test_several,
@@ -129,9 +135,13 @@ TESTS = [
     page_size.test_stop,
     page_people.test_keyboard,
     page_people.test_buttons,
+    page_people.test_names,
+    page_people.test_as_markdown,
     page_people.test_first_line,
     page_people.test_several_verdicts,
     page_people.test_many_trustees,
+    page_people.test_alike,
+    page_people.test_more,
     page_people.test_find,
     page_people.test_print,
     page_people.test_share,
@@ -187,6 +197,7 @@ def add_options(parser):
     parser.add_argument(
         "--descriptors", type=int, default=1000, help="random descriptors for the grid, in each browser"
     )
+    parser.add_argument("--edits", type=int, default=500, help="random steps of edits, in each browser")
     parser.add_argument("--megabytes", type=int, default=100)
     parser.add_argument("--lines", type=int, default=100_000, help="of the table")
     parser.add_argument(

@@ -94,8 +94,11 @@ def judge_grid(count, program, kind, descriptors, grids):
     lines_of = collections.defaultdict(list)
     for descriptor, rows in zip(descriptors, grids):
         named = page_descriptors.trustees(descriptor)
-        count.add([sid for _, sid, _ in rows] == named, f"rows of {descriptor.text}: {rows}, not {named}")
-        for token, _, cells in rows:
+        told = [sid for row in rows for _, sid, _ in row]
+        count.add(sorted(told) == sorted(named), f"rows of {descriptor.text}: {rows}, not {named}")
+        alike = [[state for _, state, _ in row[0][2]] for row in rows]
+        count.add(all(alike.count(one) == 1 for one in alike), f"rows that are alike, of {descriptor.text}: {rows}")
+        for token, _, cells in (one for row in rows for one in row):
             for bit, state, sign in cells:
                 wanted, _ = page_descriptors.decision(descriptor, set(token.split()), bit, mapping)
                 is_right = state == wanted and sign == SIGNS[state]
@@ -146,7 +149,8 @@ def test_reasons(count, page, given):
         state, number = page_descriptors.decision(descriptor, set(token.split()), bit, "file")
         expected = {"rule": "the owner always may", "none": "no ACE that applies"}.get(state, f"ACE {number} decides")
         may = "may not" if state in ("denied", "none") else "may"
-        is_right = expected in text and f" {may} \u201c" in text and marked == ([f"dacl-{number}"] if number else [])
+        is_marked = f"dacl-{number}" in marked if number else not marked
+        is_right = expected in text and f" {may} \u201c" in text and "|" not in text and is_marked
         count.add(is_right, f"why {bit:#x} of {sid} in {descriptor.text}: {text} {marked}, not {state} {number}")
 
 
@@ -357,6 +361,9 @@ def test_compare(count, page, given):
     got = page.call("compare", "D:(A;;FA;;;BA)(A;;FR;;;AU)", "D:(A;;FR;;;BA)(A;;FRFW;;;AU)")
     wanted = [["S-1-5-32-544", 0, 0x1F01FF & ~(0x120089 | 0x120116)], ["S-1-5-11", 0x120116 & ~0x120089, 0]]
     count.add(sorted(got["rights"]) == sorted(wanted), f"rights that differ: {got['rights']}, not {wanted}")
+    # Without a list everybody has every right, also who is in neither.
+    got = page.call("compare", "D:NO_ACCESS_CONTROL", "D:")
+    count.add(got["rights"] == [["S-1-1-0", 0, 0x1F01FF]], f"rights without a list: {got['rights']}")
     # A right to one property differs, though none to the object as a whole.
     page.do("put('kind', 'ds');")
     got = page.call(

@@ -159,7 +159,7 @@ def line_of(program, words, line):
 def each_view(page):
     page.open()
     page.do("byId('more-options').open = true; byId('example-share').click(); await until(isIdle);")
-    for view in ("look", "ask", "inherit", "compare", "lines"):
+    for view in ("look", "ask", "inherit", "compare", "edit", "lines"):
         page.view(view)
         if view == "compare":
             page.do("put('other-text', 'O:SYD:(A;;FR;;;WD)(A;;FA;;;BA)');")

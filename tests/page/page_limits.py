@@ -12,6 +12,7 @@ ROWS = 1200  # of a grid
 TYPES = 60  # object types of a large descriptor of a directory object
 # characters, of which more stay out of a field, and of what is shown at once of a copy
 LARGE, MOST_COPIED = 20_000, 200_000
+ACCOUNT = "S-1-5-21-1-2-3-1001"
 KERNED = "AV"  # letters between which a browser measures again and again where it breaks lines
 
 SIDS = [f"S-1-5-21-1-2-3-{number}" for number in range(1000, 1000 + 700)]
@@ -96,10 +97,10 @@ def test_hostile_fields(count, page, given):
     page.see("O:BAD:(A;;FA;;;WD)")
     limit = limit_of(given)
     fields = [
-        ("look", "names", "S-1-1-0 a" + " " * 200_000 + "b"),
-        ("look", "names", "S-1-1-0" + "=" * 399_000),
-        ("look", "names", "S-1-1-0 " + KERNED * 195_000),
-        ("look", "names", "S-1-1-0 " + KERNED * (LARGE // 2 - 10)),
+        ("look", "names", f"{ACCOUNT} a" + " " * 200_000 + "b"),
+        ("look", "names", ACCOUNT + "=" * 399_000),
+        ("look", "names", f"{ACCOUNT} " + KERNED * 195_000),
+        ("look", "names", f"{ACCOUNT} " + KERNED * (LARGE // 2 - 20)),
         ("look", "domain", "S-1-" + "9-" * 200_000),
         ("ask", "ask-token", "1," * 200_000),
         ("ask", "ask-token", "S-1-1-0," * 50_000),
@@ -150,7 +151,7 @@ def test_stopped(count, page, given):
     count.add(LIMIT <= got["seconds"] + 0.1 and got["seconds"] <= limit_of(given), f"a stopped question: {got}")
     shown = page.see_in_time("O:BAD:(A;;FR;;;BU)")
     count.add("Users" in shown, f"the text after a stopped one: {shown[:200]}")
-    for view in ("ask", "inherit", "compare"):
+    for view in ("ask", "inherit", "compare", "edit"):
         page.do("put('other-text', 'D:');")
         page.view(view)
         got = page.call("stopWorker", "O:SYD:(A;;FA;;;BA)")
@@ -248,10 +249,13 @@ for (let at = 0; at < 5; at += 1) {
         new window.KeyboardEvent("keydown", {key: "ArrowDown", bubbles: true}))));
     overs.push(await timed(() => first("tr.trustee").dispatchEvent(new window.Event("pointerover", {bubbles: true}))));
 }
-const [sid, tied] = [document.activeElement.dataset.sid, each(".tied").length];
-each("table.grid tbody tr").at(-1).querySelector("button.cell").click();
+const rows = each("table.grid tbody tr");
+const isSecond = rows[1].contains(document.activeElement);
+const tied = each(".tied").length;
+const last = rows.at(-1).querySelector("[data-sid]").dataset.sid;
+rows.at(-1).querySelector("button.cell[data-state=granted]").click();
 const jump = await timed(() => first("#why button.jump").click());
-return [sid, tied, first("tr.ace.found").id, Math.min(...keys), Math.min(...overs), jump];
+return [rows.length, isSecond, tied, last, first("tr.ace.found").id, Math.min(...keys), Math.min(...overs), jump];
 """
 
 
@@ -261,10 +265,13 @@ def test_many_rows(count, page, _):
     page.open()
     least = []
     for rows in (ROWS // 4, ROWS):
-        page.see("D:" + "".join(f"(A;;FR;;;S-1-5-21-1-2-3-{number})" for number in range(1000, 1000 + rows)))
-        sid, tied, found, *times = page.do(MEASURE_ROWS)
-        count.add((sid, found) == ("S-1-5-21-1-2-3-1001", f"dacl-{rows}") and tied > 0,
-                  f"{rows} rows: {sid}, {found}, {tied} tied")
+        # Each has other rights, or they would be one row.
+        masks = [0x100002 | (number & 1) | (number & 0x7e) << 1 | (number >> 7 & 1) << 8 | (number >> 8) << 16
+                 for number in range(rows)]
+        page.see("D:" + "".join(f"(A;;0x{mask:x};;;S-1-5-21-1-2-3-{1000 + at})" for at, mask in enumerate(masks)))
+        shown, is_second, tied, last, found, *times = page.do(MEASURE_ROWS)
+        count.add((shown, is_second, found) == (rows, True, f"dacl-{int(last.rpartition('-')[2]) - 999}") and tied > 0,
+                  f"{rows} rows: {shown}, {is_second}, {last}, {found}, {tied} tied")
         least.append(times)
     for what, few, many in zip(("a key", "the pointer", "a jump"), *least):
         count.add(many <= 8 * max(few, 10), f"{what} with {ROWS // 4} and {ROWS} rows: {few}, {many} milliseconds")

@@ -1,4 +1,5 @@
 """Tests of the page: keys alone, screen readers, contrast, narrow windows, buttons and links."""
+import base64
 import collections
 import os
 import re
@@ -6,7 +7,7 @@ import shutil
 import subprocess
 import tempfile
 
-from page_driver import SECONDS, each_view
+from page_driver import HOSTILE, SECONDS, each_view
 
 
 def test_keyboard(count, page, given):
@@ -46,7 +47,7 @@ def test_keyboard(count, page, given):
     count.add(chosen[0] == "S-1-5-32-545" and "Users may" in chosen[1], f"a cell by keys: {chosen}")
     page.do("byId('tab-look').focus();")
     views = []
-    for _ in range(5):
+    for _ in range(6):
         page.browser.press("ArrowRight")
         views.append(
             page.do(
@@ -55,7 +56,7 @@ def test_keyboard(count, page, given):
                 "!one.hidden).map((one) => one.id).join()];"
             )
         )
-    expected = [[f"tab-{name}", f"view-{name}"] for name in ("ask", "inherit", "compare", "lines", "look")]
+    expected = [[f"tab-{name}", f"view-{name}"] for name in ("ask", "inherit", "compare", "edit", "lines", "look")]
     count.add(views == expected, f"the tabs by keys: {views}")
 
 
@@ -92,11 +93,80 @@ def test_buttons(count, page, given):
     page.see("O:BAD:(A;;FA;;;WD)(A;IO;FR;;;BU)")
     page.do("document.querySelector('.warnings .jump').click();")
     count.add(page.do("return document.activeElement.id;").startswith("dacl-"), "a warning leads to its ACE")
+    page.see("O:BAD:(A;;FA;;;S-1-5-21-1-2-3-1101)(A;;FR;;;BU)")
     sids = page.do(
-        "put('names', 'S-1-5-32-545 Our people'); await until(() => byId('view-look').textContent.includes('Our "
-        "people')); return byId('view-look').textContent;"
+        "put('names', 'S-1-5-21-1-2-3-1101 Our people\\nS-1-5-32-545 Nobody'); await until(() => "
+        "byId('view-look').textContent.includes('Our people')); return byId('view-look').textContent;"
     )
-    count.add("Our people" in sids, "a name of the user")
+    count.add("Our people" in sids and "Users" in sids and "Nobody" not in sids, f"a name of the user: {sids[:300]}")
+
+
+# Takes a file of names as somebody who chooses it.
+CHOOSE = """
+const transfer = new window.DataTransfer();
+const data = typeof given[0] === "number" ? new Uint8Array(given[0]) : bytesOf(given[0]);
+transfer.items.add(new window.File([data], "names.csv"));
+byId("names-file").files = transfer.files;
+byId("names-told").textContent = "";
+byId("names-file").dispatchEvent(new window.Event("change"));
+await until(() => byId("names-told").textContent !== "");
+await until(isIdle);
+return [byId("names-told").textContent, each(".trustee .name", (one) => one.textContent)];
+"""
+
+
+def test_names(count, page, _):
+    """Names come from a file, also in UTF-16, or from a paste of what people have; what was read is said, and no name
+    takes the place of one of Windows."""
+    page.open()
+    account = "S-1-5-21-1-2-3-1101"
+    page.see(f"O:BAD:(A;;FA;;;{account})(A;;FA;;;BA)")
+    text = f'"Name","SID"\r\n"Ann, Lee","{account}"\r\n"Nobody","S-1-5-32-544"\r\n"x","y"\r\n'
+    told = "1 names. 1 of Windows' own SIDs are left out. 1 lines or entries have no SID and name."
+    for form in ("utf-8", "utf-8-sig", "utf-16", "utf-16-be"):
+        data = (b"\xfe\xff" if form == "utf-16-be" else b"") + text.encode(form)
+        got = page.do(CHOOSE, base64.b64encode(data).decode())
+        count.add(got == [told, ["Ann, Lee", "Administrators"]], f"a file of names in {form}: {got}")
+    got = page.do(CHOOSE, 10_000_001)
+    is_right = "more than 10,000,000 bytes" in got[0] and got[1] == ["Account 1101", "Administrators"]
+    count.add(is_right, f"a large file of names: {got}")
+    got = page.do("put('names', given[0]); await until(isIdle); return [byId('names-told').textContent, "
+                  "each('.trustee .name', (one) => one.textContent)];",
+                  f"dn: CN=Ann,DC=x\nobjectSid: {account}\ncn: Ann <b>\n\ndn: CN=Bob\nobjectSid: {account[:-1]}2\n")
+    count.add(got == ["2 names.", ["Ann <b>", "Administrators"]], f"names of LDIF: {got}")
+    link = page.call("copied", "link", True)["text"]
+    count.add("Ann" not in link, f"a name in a link: {link}")
+    page.do("put('names', ''); await until(isIdle);")
+
+
+def test_as_markdown(count, page, _):
+    """A view as Markdown has the verdict, each row of the grid, each ACE and each finding, and no name is markup."""
+    page.open()
+    sids = [f"S-1-5-21-1-2-3-{number}" for number in range(1101, 1161)]
+    page.do("put('names', given[0]); await see(given[1]);", f"{sids[0]} {HOSTILE} | `x` *y*",
+            "C:\\a|b_c D:" + "".join(f"(A;;FR;;;{sid})" for sid in sids) + "(A;;FA;;;WD)(A;IO;FR;;;BU)")
+    got = page.call("copied", "markdown", True)
+    lines = got["text"].splitlines()
+    sentence = page.do("return [byId('sentence').textContent, each('.warning', (one) => one.textContent).length];")
+    is_told = lines[0] == "**Act:** Everyone has full control of this folder"
+    count.add(is_told and sentence[0] == lines[0].replace("*", ""), f"the verdict: {sentence[0]}, {lines[:3]}")
+    count.add("Name: C:\\\\a\\|b\\_c" in lines, f"the name: {lines[:8]}")
+    rows = [line for line in lines if line.startswith("| ")]
+    widths = {len(re.findall(r"(?<!\\)\|", line)) for line in rows}
+    aces = [line for line in rows if line.endswith(")` |")]
+    count.add(len(aces) == 62 and len(widths) == 2, f"{len(aces)} ACEs, {widths} cells")
+    grid = next(line for line in rows if "Account 1102" in line)
+    count.add(all(f"Account {number}" in grid for number in range(1102, 1161)), f"a row of the grid: {grid[:300]}")
+    findings = [line for line in lines if line.startswith("- **")]
+    count.add(len(findings) == sentence[1] > 1, f"the findings: {findings}")
+    plain = re.sub(r"\\[^A-Za-z0-9 ]", "", re.sub(r"`\([^`]*\)`", "", got["text"].replace("**", "")))
+    count.add(not re.search(r"[<>`*\[\]]|https?:", plain), f"markup: {plain[:500]}")
+    for text, told in (("D:(A;;FA;;;Ann)", "**Unknown:** Can't be read: ACE 1: "),
+                       (OPEN, "**Unknown:** Depends on what this is")):
+        page.see(text)
+        got = page.call("copied", "markdown", True)["text"]
+        count.add(got.startswith(told) and "## Rights" not in got, f"{text}: {got[:300]}")
+    page.do("put('names', '');")
 
 
 PROJECTS = ("D:\\Data\\Projects O:BAG:SYD:AI(D;;LC;;;BU)(A;OICIID;FA;;;SY)(A;OICIID;0x1301bf;;;AU)(A;OICIID;FA;;;BA)"
@@ -207,13 +277,51 @@ def test_many_trustees(count, page, _):
     count.add("30 more trustees are not asked about" in shown, "what is left is said")
     count.add(any("Everyone can" in one for one in page.texts(".warning")), "Everyone behind 130 others")
     rows = page.do(
-        "byId('grid-all').click(); await until(isIdle); const more = () => Array.from(document.querySelectorAll("
-        "'table.grid')).map((table) => table.closest('section').querySelector('.more button')).find(Boolean); "
+        "byId('grid-all').focus(); byId('grid-all').click(); await until(isIdle); await pause(50); window.focusIs = "
+        "document.activeElement.getAttribute('aria-labelledby'); const more = () => first('.scroll ~ .more button'); "
         "while (more()) more().click(); "
-        "return Array.from(document.querySelectorAll('table.grid tbody tr'), (row) => row.dataset.token.split(' ')[0]);"
+        "return each('table.grid tbody tr', (row) => Array.from(row.querySelectorAll('[data-token]'), (one) => "
+        "one.dataset.sid));"
     )
-    count.add(rows == [*sids, "S-1-1-0"], f"all trustees: {len(rows)} {rows[:3]}")
+    count.add(rows == [["S-1-1-0", *sids]], f"all trustees: {len(rows)} {rows[:3]}")
     count.add(page.do("return byId('grid-all') === null;"), "nothing is left to ask about")
+    focus = page.do("return window.focusIs;")
+    count.add(focus == "grid-heading", f"all trustees: the focus is on {focus}")
+
+
+def test_alike(count, page, _):
+    """Trustees with the same cells have one row of the grid that names them all, and a cell says what decided for
+    each. Whoever is unusual comes first."""
+    page.open()
+    page.see("O:SYG:SYD:(A;;FA;;;BA)(A;;FA;;;SY)(A;;FR;;;BU)(A;;FR;;;S-1-5-21-1-2-3-1101)"
+             "(A;;FA;;;S-1-5-21-1-2-3-1102)(A;;FR;;;BG)(A;;FR;;;LS)(A;;FR;;;NS)")
+    rows = page.do("return each('table.grid tbody tr', (row) => Array.from(row.querySelectorAll('.name'), (one) => "
+                   "one.textContent));")
+    wanted = [["Account 1102", "Administrators"], ["Local System"],
+              ["Users", "Account 1101", "Guests", "Local Service", "Network Service"]]
+    count.add(rows == wanted, f"rows of those who are alike: {rows}")
+    got = page.do("const row = each('table.grid tbody tr').at(-1); const cell = row.querySelector('[data-bit=\"1\"]'); "
+                  "cell.click(); return [row.querySelector('summary').textContent, cell.getAttribute('aria-label'), "
+                  "each('#why p', (one) => one.textContent), each('tr.ace.found', (one) => one.id)];")
+    names = wanted[-1]
+    sentences = [f"{name} may \u201clist folder\u201d. ACE {number} decides: "
+                 for name, number in zip(names, (3, 4, 6, 7, 8))]
+    is_right = (got[:2] == ["and 2 more", f"{', '.join(names[:3])}, and 2 more: list folder: granted"] and
+                [one.partition("(")[0] for one in got[2]] == sentences and
+                got[3] == [f"dacl-{number}" for number in (3, 4, 6, 7, 8)])
+    count.add(is_right, f"a cell of several: {got}")
+
+
+def test_more(count, page, _):
+    """A button for more rows keeps the focus, or gives it to what it adds last."""
+    page.open()
+    page.see("D:" + "".join(f"(A;;0x{0x100002 + (number << 2):x};;;S-1-5-21-1-2-3-{number})"
+                            for number in range(1, 100)))
+    for css in (".scroll ~ .more button", "#lines .more button"):
+        got = page.do("const seen = []; for (let more = first(given[0]); more; more = first(given[0])) { more.focus(); "
+                      "more.click(); seen.push(document.activeElement.tagName); } return [seen, "
+                      "document.activeElement.closest('tr')?.isConnected];", css)
+        count.add(got == [["BUTTON"] * (len(got[0]) - 1) + ["TR"], True] and got[0], f"{css}: the focus is on {got}")
 
 
 RESET, MEMBER = "00299570-246d-11d0-a768-00aa006e0529", "bf9679c0-0de6-11d0-a285-00aa003049e2"
@@ -228,6 +336,15 @@ def test_find(count, page, _):
     rows = ("await until(() => first('#found-rows tr[data-name]') && isIdle()); return each('#found-rows tbody tr', "
             "(row) => [row.dataset.name, row.dataset.aces, Array.from(row.querySelectorAll('.name'), (one) => "
             "one.textContent)]);")
+    field = page.do("const one = byId('find'); return [one.labels[0].textContent, byId(one.getAttribute("
+                    "'aria-describedby')).textContent.slice(0, 7), byId('find-status').getAttribute('role')];")
+    count.add(field == ["Find by name", "such as", "status"], f"what a screen reader says of the field: {field}")
+    for sought, told in (("set NEW password", "1 found"), ("password", "The first 8 of "), ("member", "found"),
+                         ("nonesuch", "No property, right or class"), ("", "")):
+        said = page.do("const status = byId('find-status'); put('find', given[0]); const isTold = () => given[1] ? "
+                       "status.textContent.includes(given[1]) : status.textContent === ''; await until(isTold, 20)"
+                       ".catch(() => null); return [status.isConnected, status.textContent];", sought, told)
+        count.add(said[0] and told in said[1] and bool(told) == bool(said[1]), f"what is said of {sought!r}: {said}")
     got = page.do(f"put('find', 'set NEW password'); {rows}")
     wanted = ["User-Force-Change-Password", "1 2", ["Account 1130", "Administrators"]]
     count.add(wanted in got, f"what is found of a new password: {got}")
@@ -263,6 +380,17 @@ def test_print(count, page, _):
     missing = [one for one in wanted if re.sub(r"\s", "", one) not in squeezed]
     count.add(not missing, f"not on paper: {missing[:5]} of {len(missing)}: {paper[:1500]}")
     count.add("Show" not in paper and "Copy" not in paper and "Nothing leaves" not in paper, "controls on paper")
+    # What is unfolded for paper changes neither the focus nor the ACE in words.
+    page.see("D:(A;;FA;;;WD)(A;;0x1301bf;;;AU)" + "".join(f"(A;;FR;;;{sid})" for sid in sids))
+    state = "return [byId('ace-words').textContent, document.activeElement.id, each('tr.fold').length];"
+    page.do("document.querySelector('.skip').focus();")
+    page.browser.press("Tab")  # so that the window has the focus
+    before = page.do("byId('dacl-2').focus(); byId('dacl-2').dispatchEvent(new window.FocusEvent('focus')); "
+                     f"byId('share-text').focus(); {state}")
+    on_paper(page.browser)
+    after = page.do(state)
+    is_same = before[:2] == after[:2] and "ACE 2" in before[0] and before[1] == "share-text"
+    count.add(is_same and before[2] == 1 and after[2] == 0, f"after printing: {after}, not {before}")
     page.see("D:" + "(A;;FR;;;BU)" * 2500)
     paper = on_paper(page.browser)
     count.add(re.search(r"and \d,?\d{3} more|\d,?\d{3} ACEs", paper), f"what is left out: {paper[-1500:]}")
@@ -335,7 +463,7 @@ def test_address(count, page, _):
           "{dataTransfer: held, bubbles: true, cancelable: true}));" for held in (
               "held.setData('text/plain', given[0])", "held.items.add(new window.File([given[0]], 'list.txt'))")),
         "byId('lines-start').click(); await until(() => byId('lines-stop').disabled);",
-        *(f"byId('tab-{view}').click();" for view in ("ask", "inherit", "compare", "lines", "look")),
+        *(f"byId('tab-{view}').click();" for view in ("ask", "inherit", "compare", "edit", "lines", "look")),
         "byId('tab-ask').click(); put('ask-token', 'BU'); put('ask-maximum', true);",
         "byId('tab-compare').click(); put('other-text', given[0]);",
         "byId('share-command').click();",
@@ -385,6 +513,7 @@ SPOKEN = {
     "ask": "Granted: full control",
     "inherit": "The new folder: 2 ACEs",
     "compare": "The two differ. Trustees whose rights differ: 4.",
+    "edit": "Act: Everyone has full control of this folder. Nothing is changed yet.",
     "error": "Unknown: Can't be read: ACE 2: \u201cEveryone\u201d is no SID. So nothing is known of what it grants.",
 }
 CONTROLS = {

@@ -38,8 +38,8 @@ def test_markup(count, page, _):
     )
     page.do("await pause(300);")
     page.do(
-        "put('names', 'S-1-5-32-545 ' + given[0] + '\\nS-1-1-0 \\u202Eevil'); put('domain', ''); await "
-        "see('D:(A;;FA;;;BU)(A;;FA;;;WD)');",
+        "const account = 'S-1-5-21-1-2-3-110'; put('names', `${account}1 ${given[0]}\\n${account}2 \\u202Eevil`); "
+        "put('domain', ''); await see(`D:(A;;FA;;;${account}1)(A;;FA;;;${account}2)`);",
         HOSTILE,
     )
     shown = page.do("return byId('view-look').textContent;")

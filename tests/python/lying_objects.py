@@ -781,6 +781,21 @@ def calls():
            dict(source=["D:P", "O:BA"], words=["convert", "--from", "sddl"], ahead=1),
            dict(source=stream_of(lies_of_lines), words=list_of(lies_of_words_of_run), ahead=lies_of_small_numbers))
     yield "fault_text", sdtool.fault_text, dict(number=25), dict(number=lies_of_small_numbers)
+    ace = sdtool.ace_from_text("(A;;FR;;;S-1-5-21-1-2-3-512)")
+    yield "ace_from_text", sdtool.ace_from_text, dict(text="(D;;FR;;;DA)", domain=DOMAIN), dict(text=lies_of_texts,
+                                                                                                domain=sid_or_none)
+    yield "ace_to_text", sdtool.ace_to_text, dict(ace=ace, domain=DOMAIN, numeric=False), dict(
+        ace=lies_of_bytes, domain=sid_or_none, numeric=lies_of_flags)
+    yield "Ace.from_bytes", lambda data: repr(Ace.from_bytes(data)), dict(data=ace), dict(data=lies_of_bytes)
+    yield "Ace.bytes", lambda aces: [one.bytes for one in aces], dict(aces=ACES), dict(aces=lies_of_own_aces)
+    yield "rights_from_text", sdtool.rights_from_text, dict(text="FR"), dict(text=lies_of_texts)
+    yield "rights_to_text", sdtool.rights_to_text, dict(mask=1, label=True), dict(mask=lies_of_numbers,
+                                                                                  label=lies_of_flags)
+    yield "flags_from_text", sdtool.flags_from_text, dict(text="OICI"), dict(text=lies_of_texts)
+    yield "flags_to_text", sdtool.flags_to_text, dict(flags=3), dict(flags=lies_of_small_numbers)
+    yield "guid_from_text", sdtool.guid_from_text, dict(text="bf967aba-0de6-11d0-a285-00aa003049e2"), dict(
+        text=lies_of_texts)
+    yield "guid_to_text", sdtool.guid_to_text, dict(guid=bytes(range(16))), dict(guid=lies_of_bytes)
     yield "Sid", Sid, dict(value="S-1-5-32-545", domain=DOMAIN), dict(value=lies_of_texts_of_sids, domain=sid_or_none)
     yield "Sid of bytes", Sid, dict(value=BU), dict(value=lies_of_sids)
     yield "Sid.alias", lambda value, domain: bytes.__new__(Sid, value).alias(domain=domain), dict(

@@ -94,6 +94,12 @@ def test_types(count):
         sdtool.run: {"words": ["convert"], "input": b""},
         sdtool.lines: {"source": [], "words": ["convert"], "ahead": 1},
         sdtool.fault_text: {"number": 25},
+        sdtool.ace_from_text: {"text": "(A;;FR;;;BU)", "domain": None},
+        sdtool.ace_to_text: {"ace": sdtool.ace_from_text("(A;;FR;;;BU)"), "domain": None, "numeric": False},
+        sdtool.rights_from_text: {"text": "FR"}, sdtool.rights_to_text: {"mask": 1, "label": False},
+        sdtool.flags_from_text: {"text": "OI"}, sdtool.flags_to_text: {"flags": 1},
+        sdtool.guid_from_text: {"text": "bf967aba-0de6-11d0-a285-00aa003049e2"},
+        sdtool.guid_to_text: {"guid": bytes(16)},
         sdtool.plain_descriptors: {"descriptors": [], "domain": None, "ahead": 1},
     }
     wrong: dict = {
@@ -106,7 +112,8 @@ def test_types(count):
         "group": [None, 1],
         "kind": [1, None], "creator": ["D:", 1], "words": ["convert", b"convert", [b"convert"], [None]],
         "input": ["D:", None, 5], "source": ["D:", b"D:", 5], "ahead": [True, None, 1.5],
-        "number": [True, None, "25", 25.0],
+        "number": [True, None, "25", 25.0], "ace": ["(A;;FR;;;BU)", None, 1], "mask": [True, None, "FR", 1.0],
+        "label": [0, None, "ML"], "flags": [True, None, "OI", 1.0], "guid": [1, None, "00"],
         "descriptors": ["D:", b"D:", 5, None],
     }
     for call, arguments in whole.items():

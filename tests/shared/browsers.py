@@ -30,12 +30,20 @@ KEYS = {
     "Home": "\ue011",
     "End": "\ue010",
     "Shift": "\ue008",
+    "Control": "\ue009",
+    "Alt": "\ue00a",
+    "Escape": "\ue00c",
+    "Delete": "\ue017",
 }
 
 
 def key_actions(keys):
-    """The actions of the WebDriver standard that press these keys one after the other."""
-    pressed = [{"type": kind, "value": KEYS.get(key, key)} for key in keys for kind in ("keyDown", "keyUp")]
+    """The actions of the WebDriver standard that press these keys one after the other. Of Control+z both are down."""
+    pressed = []
+    for key in keys:
+        together = [KEYS.get(one, one) for one in (key.split("+") if len(key) > 1 else [key])]
+        pressed += [{"type": "keyDown", "value": one} for one in together]
+        pressed += [{"type": "keyUp", "value": one} for one in reversed(together)]
     return [{"type": "key", "id": "keyboard", "actions": pressed}]
 
 

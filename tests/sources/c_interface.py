@@ -8,6 +8,7 @@ sees their order, the width of a number or the name of an export. The test refus
              arguments of other names, types or order; one without #[unsafe(no_mangle)]; one whose contract does not
              cite the definition that belongs to its name; a function that only the header has
   numbers    a limit or a number of an enum that differs from the one in the sources
+  layouts    a size or an offset in the header's table of structs that a 64-bit machine has not
 """
 import math
 import re
@@ -39,6 +40,10 @@ DEFINITIONS = {
     "sdtool_describe": "described",
     "sdtool_reasons": "explained", "sdtool_reasons_with": "explained_held", "sdtool_derive_origins": "TellsOrigins",
     "sdtool_edit": "EditsWithin", "sdtool_order": "order_told",
+    "sdtool_ace_read": "at_front", "sdtool_ace_from_text": "ace_from_text", "sdtool_ace_to_text": "ace_to_text",
+    "sdtool_rights_from_text": "rights_in", "sdtool_rights_to_text": "rights_to_text",
+    "sdtool_flags_from_text": "flags_in", "sdtool_flags_to_text": "flags_to_text",
+    "sdtool_guid_from_text": "guid_from_text", "sdtool_guid_to_text": "guid_to_text",
 }
 
 
@@ -76,6 +81,11 @@ CONSTANTS = [
     ("SDTOOL_MOST_SIDS", "crates/sd_token/src/limits.rt", "MOST_ENTRIES"),
     ("SDTOOL_MOST_SID", "crates/sd_parts/src/limits.rt", "MOST_SID_SIZE"),
     ("SDTOOL_MOST_SID_TEXT", "crates/sd_text/src/limits.rt", "MOST_FIELD_SIZE"),
+    ("SDTOOL_MOST_ACE_TEXT", "crates/sd_call_convert/src/part_text.rt", "MOST_ACE_TEXT"),
+    ("SDTOOL_HAS_LEVEL", "crates/sd_call_access/src/request.rt", "HAS_LEVEL"),
+    ("SDTOOL_SECURITY", "crates/sd_call_access/src/request.rt", "SECURITY"),
+    ("SDTOOL_TAKE_OWNERSHIP", "crates/sd_call_access/src/request.rt", "TAKE_OWNERSHIP"),
+    ("SDTOOL_MAXIMUM", "crates/sd_call_access/src/request.rt", "MAXIMUM"),
     ("SDTOOL_TOO_SMALL", "crates/sd_call/src/outcome.rt", "TOO_SMALL"),
     ("SDTOOL_NO_MEMORY", "crates/sd_call/src/outcome.rt", "NO_MEMORY"),
     ("SDTOOL_ACL_LIST", "crates/sd_call_build/src/new.rt", "LIST"),
@@ -233,9 +243,11 @@ class Sources:
         return [Item(pointer, name), Item("size_t", LENGTHS.get(name, name + "_size"))]
 
     def members(self, struct, fields):
-        """The members that a struct of Rust has in C. Bytes are a struct of their own there."""
+        """The members that a struct of Rust has in C. Bytes are a struct of their own there, and a bool a byte."""
         for name, kind in fields:
-            if kind == "&[u8]" and struct == BYTES:
+            if kind == "bool":
+                yield Item("uint8_t", name)
+            elif kind == "&[u8]" and struct == BYTES:
                 yield from (Item("const uint8_t *", name), Item("size_t", "size"))
             elif kind == "&[u8]":
                 yield Item(f"struct {BYTES}", name)
@@ -339,6 +351,31 @@ def compare_constants(count, top, header):
         count.add(found == numbers.get(declared), f"{path}: {name} is {found}, but {declared} {numbers.get(declared)}")
 
 
+def layouts(structs, numbers):
+    """The size of each struct on a 64-bit machine, and the offset of each member."""
+    sizes, rows = {"uint8_t": (1, 1), "uint16_t": (2, 2), "uint32_t": (4, 4), "size_t": (8, 8)}, {}
+    for name, members in structs.items():
+        at, widest, offsets = 0, 1, []
+        for member in members:
+            one, _, length = member.type.partition(" [")
+            size, align = (8, 8) if member.type.endswith("*") else sizes[one]
+            size *= int(numbers.get(length[:-1], length[:-1] or 1))
+            at += -at % align
+            offsets.append(at)
+            at, widest = at + size, max(widest, align)
+        at += -at % widest
+        sizes[f"struct {name}"], rows[name] = (at, widest), (at, offsets)
+    return rows
+
+
+def compare_layouts(count, text, header):
+    """The table of the header has a row for each struct."""
+    rows = re.findall(r"^ \*     (sdtool_\w+) +(\d+): ([\d ]+)$", text, re.M)
+    found = {name: (int(size), list(map(int, offsets.split()))) for name, size, offsets in rows}
+    declared = layouts(header.structs, {name: number for one in header.enums.values() for name, number in one.items()})
+    count.add(found == declared, f"{HEADER}: the table of layouts is {found}, and not {declared}")
+
+
 def main(count: preload.Count) -> None:
     top = preload.TOP
     header, sources = header_in((top / HEADER).read_text(encoding="utf-8")), Sources(top)
@@ -348,3 +385,4 @@ def main(count: preload.Count) -> None:
     compare_functions(count, header, sources)
     compare_numbers(count, top, header)
     compare_constants(count, top, header)
+    compare_layouts(count, (top / HEADER).read_text(encoding="utf-8"), header)

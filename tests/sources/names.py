@@ -18,9 +18,9 @@ DOCUMENTS = [*(f"docs/{name}.md" for name in ("ARCHITECTURE", "DECISIONS", "DEFI
 OF_DEFINITIONS = "docs/DEFINITIONS.md"
 OF_TOOLCHAIN = "docs/PROVED.md"
 FOLDERS = ["crates", "tests", "tools", "packaging", "include", "python", "javascript", "web", "systems",
-           "examples", "bench", "docs", "windows"]
+           "examples", "bench", "docs", "windows", "rust", "go", "dotnet"]
 # What edits and kept work say is not what the sources say.
-LEFT_OUT = {"out", "must-fail", "edits", "__pycache__"}
+LEFT_OUT = {"out", "target", "must-fail", "edits", "__pycache__"}
 NO_DEFINITIONS = {"Lib.antt", "Inner.antt"}  # these only list modules
 EDITS = ["crates/*/must-fail/*.edit", "tests/edits/*/*.edit"]
 # Names and files of the toolchain's libraries.

@@ -32,13 +32,13 @@ class Subject(NamedTuple):
 SUBJECTS = {
     "alias": Subject("An alias", "MU", r"\bMU\b|b'M', b'U'"),
     "error": Subject("An error", "not-self-relative", r"(?i)\b(?:not|isn't).?self.?relative|bit 0x8000 is clear"),
-    "kind": Subject("A kind of ACE", "ObjectAudit", r"(?i)object.?audit|[\"'(`]OU[\"'`;]|b'O', b'U'|audit_object"),
+    "kind": Subject("A kind of ACE", "ObjectAudit", r"(?i)object.?audit|[\"'(`]OU[\"'`;]|b'O', b'U'|audit_?object"),
     "option": Subject("", "--take-ownership", r"(?i)take.?ownership"),
     "input": Subject("", "--creator", r"\b[Cc]reator\b(?!.?(?i:owner|group|rights))"),
-    "format": Subject("A format of `sdtool-audit`", "wevtutil", r"wevtutil"),
+    "format": Subject("A format of `sdtool-audit`", "wevtutil", r"wevtutil(?! sl)"),
     "question": Subject("A question of `sdtool-audit`", "Having", r"\bHaving\b"),
     "rule": Subject("A rule of `sdtool-audit`", "children-change", r"children-change"),
-    "report": Subject("A form of its reports", "Markdown", r"(?i)markdown"),
+    "report": Subject("A form of its reports", "Markdown", r"(?<!copied\", )\"markdown\"|class Markdown|--to markdown"),
 }
 
 

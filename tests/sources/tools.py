@@ -9,7 +9,7 @@ import preload
 
 COMMANDS = ("tools/alias_places.py --check", "tools/name_cells.py --check", "tools/usual_texts.py --check",
             "tools/contents.py --check", "packaging/completions.py --check", "windows/write.py --check",
-            "tools/edits.py --apply", "tools/lint")
+            "tools/languages.py --check", "tools/edits.py --apply", "tools/lint")
 CHANGE = literals.Change(0, "Rattle.sd_ace.specs.Ace", 4, 2, "1", "2", "", "is_ace")
 
 

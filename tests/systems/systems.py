@@ -44,6 +44,7 @@ import browsers
 import c_edits
 import c_library
 import c_objects
+import c_texts
 import compare
 import device_faults
 import fault_places
@@ -673,6 +674,19 @@ def test_edits(count, calls, number):
         count.add(found == right, f"{line}: {found}, not {right}")
 
 
+def test_texts(count, calls):
+    """Texts of parts, as the independent implementation reads and prints them."""
+    asked = [one for one in c_texts.lines_for_c(random.Random(10)) if one[0].endswith("to_text") or one[1].isascii()]
+    given = "".join(f"{call} {first.hex() or '-'} {second.hex() or '-'}\n" for call, first, second, _ in asked)
+    ended = c_library.ran([*calls, "text"], given)
+    told = ended.stdout.decode().splitlines()
+    count.add(len(told) == len(asked), f"{len(asked)} texts: {len(told)}, {ended.stderr.decode()[:2000]}")
+    for found, (call, first, second, right) in zip(told, asked):
+        # Of what it refuses itself it tells the same argument.
+        count.add(found == (c_texts.as_line(right) if call != "ace_read" or right[0] else found),
+                  f"{call} {first.hex()} {second.hex()}: {found}, not {right}")
+
+
 def meaning_of(line):
     """What docs/FORMAT.md says of the fault of a line."""
     return MEANINGS[int(line.split()[1])][1]
@@ -708,6 +722,7 @@ def test_javascript(count, native, name, folder, files, number):
     test_places(count, calls, number)
     test_places_of_texts(count, calls, number)
     test_edits(count, calls, number)
+    test_texts(count, calls)
     test_objects(count, native, ModuleRunner(count, calls), number)
     test_types(count, BUILT / name, folder)
     test_document(count, BUILT / name, folder)

@@ -1,5 +1,5 @@
 -- Worked ACEs (MS-DTYP 2.4.4): their sizes, their bytes and their limits.
-use Rattle.std.proofs.Common.{◌≡◌, ◌<◌, ◌/◌, ◌%◌, ◌^◌, ℕ, true, false, List, [], ◌∷◌, ◌++◌}
+use Rattle.std.proofs.Common.{◌≡◌, ◌<◌, ◌/◌, ◌%◌, ◌^◌, ℕ, true, false, List, [], ◌∷◌, ◌++◌, rules}
 use Rattle.std.proofs.Common.{map, Option, Some, None, refl, replicate, arith}
 use Rattle.sd_kinds.specs.Kinds.{kind_code, kind_entry}
 use Rattle.sd_kinds.specs.declared.kinds.AceKind.{AceKind}
@@ -26,34 +26,22 @@ plain_bytes = refl
 
 -- object flags 0, 1, 2 and 3, and the GUIDs that they announce
 
-object_bytes : ace_bytes (ace kinds.ObjectAllow None None)
-    ≡ 5 ∷ 0xd3 ∷ 24 ∷ 0 ∷ 4 ∷ 3 ∷ 2 ∷ 1 ∷ 0 ∷ 0 ∷ 0 ∷ 0 ∷ everyones_bytes
-unfolding computed ace everyone everyones_bytes
-object_bytes = refl
-
-bytes_with_object : ace_bytes (ace kinds.ObjectDeny (Some user_class) None)
-    ≡ 6 ∷ 0xd3 ∷ 40 ∷ 0 ∷ 4 ∷ 3 ∷ 2 ∷ 1 ∷ 1 ∷ 0 ∷ 0 ∷ 0 ∷ user_class_bytes ++ everyones_bytes
-unfolding computed ace everyone everyones_bytes user_class user_class_bytes
-bytes_with_object = refl
-
-bytes_with_inherited : ace_bytes (ace kinds.ObjectAudit None (Some user_class))
-    ≡ 7 ∷ 0xd3 ∷ 40 ∷ 0 ∷ 4 ∷ 3 ∷ 2 ∷ 1 ∷ 2 ∷ 0 ∷ 0 ∷ 0 ∷ user_class_bytes ++ everyones_bytes
-unfolding computed ace everyone everyones_bytes user_class user_class_bytes
-bytes_with_inherited = refl
-
-bytes_with_both : ace_bytes (ace kinds.ObjectAllow (Some user_class) (Some other_class))
-    ≡ 5 ∷ 0xd3 ∷ 56 ∷ 0 ∷ 4 ∷ 3 ∷ 2 ∷ 1 ∷ 3 ∷ 0 ∷ 0 ∷ 0 ∷ user_class_bytes ++ other_class_bytes ++ everyones_bytes
+object_flags_and_more : record {
+  object_bytes : ace_bytes (ace kinds.ObjectAllow None None)
+      ≡ 5 ∷ 0xd3 ∷ 24 ∷ 0 ∷ 4 ∷ 3 ∷ 2 ∷ 1 ∷ 0 ∷ 0 ∷ 0 ∷ 0 ∷ everyones_bytes;
+  bytes_with_object : ace_bytes (ace kinds.ObjectDeny (Some user_class) None)
+      ≡ 6 ∷ 0xd3 ∷ 40 ∷ 0 ∷ 4 ∷ 3 ∷ 2 ∷ 1 ∷ 1 ∷ 0 ∷ 0 ∷ 0 ∷ user_class_bytes ++ everyones_bytes;
+  bytes_with_inherited : ace_bytes (ace kinds.ObjectAudit None (Some user_class))
+      ≡ 7 ∷ 0xd3 ∷ 40 ∷ 0 ∷ 4 ∷ 3 ∷ 2 ∷ 1 ∷ 2 ∷ 0 ∷ 0 ∷ 0 ∷ user_class_bytes ++ everyones_bytes;
+  bytes_with_both : ace_bytes (ace kinds.ObjectAllow (Some user_class) (Some other_class))
+      ≡ 5 ∷ 0xd3 ∷ 56 ∷ 0 ∷ 4 ∷ 3 ∷ 2 ∷ 1 ∷ 3 ∷ 0 ∷ 0 ∷ 0 ∷ user_class_bytes ++ other_class_bytes ++ everyones_bytes;
+  sizes : map ace_size (ace kinds.Label None None ∷ ace kinds.ObjectDeny None None
+      ∷ ace kinds.ObjectDeny None (Some user_class) ∷ ace kinds.ObjectDeny (Some user_class) (Some user_class) ∷ [])
+      ≡ 20 ∷ 24 ∷ 40 ∷ 56 ∷ [];
+  fronts : map front_size (kinds.Allow ∷ kinds.Label ∷ kinds.ObjectAllow ∷ []) ≡ 8 ∷ 8 ∷ 12 ∷ [];
+}
 unfolding computed ace everyone everyones_bytes user_class user_class_bytes other_class other_class_bytes
-bytes_with_both = refl
-
-sizes : map ace_size (ace kinds.Label None None ∷ ace kinds.ObjectDeny None None
-    ∷ ace kinds.ObjectDeny None (Some user_class) ∷ ace kinds.ObjectDeny (Some user_class) (Some user_class) ∷ [])
-    ≡ 20 ∷ 24 ∷ 40 ∷ 56 ∷ []
-unfolding ace everyone user_class
-sizes = refl
-
-fronts : map front_size (kinds.Allow ∷ kinds.Label ∷ kinds.ObjectAllow ∷ []) ≡ 8 ∷ 8 ∷ 12 ∷ []
-fronts = refl
+object_flags_and_more = search rules
 
 -- the limits: flags of eight bits without 0x20, a mask of 32 bits, GUIDs of sixteen bytes in object kinds alone
 

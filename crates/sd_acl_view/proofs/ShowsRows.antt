@@ -1,6 +1,6 @@
 -- Worked bytes, and the ACEs and ACLs that they show (MS-DTYP 2.4.4, 2.4.5); the limits of lists; the first fault of an
 -- ACL (docs/FORMAT.md, "Errors"), and its written form.
-use Rattle.std.proofs.Common.{◌≡◌, ◌+◌, ◌%◌, inl, inr, ℕ, true, false, List, [], ◌∷◌, ◌++◌, Option, Some, None}
+use Rattle.std.proofs.Common.{◌≡◌, ◌+◌, ◌%◌, inl, inr, ℕ, true, false, List, [], ◌∷◌, ◌++◌, Option, Some, None, rules}
 use Rattle.std.proofs.Common.{drop, length, map, refl, replicate, take, arith}
 use Rattle.sd_kinds.specs.Kinds.{kind_code, kind_entry, kind_of}
 use Rattle.sd_kinds.specs.declared.kinds.AceKind.TheVariants as kinds
@@ -170,94 +170,70 @@ unfolding computed kind_of sid_at kind_in guid_if object_in inherited_in sid_off
     aces_of acl_fault
 read = tt
 
--- a number of 16 bits is not one of 32
-two_bytes_of_four : u16_at 1 (9 ∷ 1 ∷ 2 ∷ 3 ∷ 4 ∷ 5 ∷ []) ∷ u32_at 1 (9 ∷ 1 ∷ 2 ∷ 3 ∷ 4 ∷ 5 ∷ []) ∷ []
-    ≡ 0x0201 ∷ 0x04030201 ∷ []
-unfolding computed
-two_bytes_of_four = refl
-
 -- an ACL without an ACE: its revision, its size, its count
 empty_of : ℕ → ℕ → ℕ → List ℕ
 empty_of revision size count = revision ∷ 0xee ∷ size ∷ 0 ∷ count ∷ 0 ∷ 0xee ∷ 0xee ∷ []
 
--- a revision that is none, a size below the header, one past the end of the bytes, and an ACE that is missing
-wrong_headers : map acl_fault
-    (empty_of 1 8 0 ∷ empty_of 3 8 0 ∷ empty_of 5 8 0 ∷ empty_of 2 7 0 ∷ empty_of 2 9 0 ∷ empty_of 4 9 0
-    ∷ take 7 (empty_of 2 8 0) ∷ empty_of 2 7 1 ∷ empty_of 2 8 1 ∷ [])
-    ≡ Some faults.Acl ∷ Some faults.Acl ∷ Some faults.Acl ∷ Some faults.Acl ∷ Some faults.Acl ∷ Some faults.Acl
-    ∷ Some faults.Acl ∷ Some faults.Acl ∷ Some faults.AceSize ∷ []
-unfolding read empty_of
-wrong_headers = refl
-
--- a size that has its high byte passes the end; bytes behind the ACL are not its own
-sizes_of_two_bytes : map acl_fault
-    ((2 ∷ 0 ∷ 8 ∷ 1 ∷ 0 ∷ 0 ∷ 0 ∷ 0 ∷ []) ∷ (2 ∷ 0 ∷ 8 ∷ 0 ∷ 0 ∷ 1 ∷ 0 ∷ 0 ∷ []) ∷ empty_of 2 8 0 ∷ empty_of 4 8 0
-    ∷ (empty_of 2 8 0 ++ (7 ∷ [])) ∷ (empty_of 2 8 1 ++ plain_bytes) ∷ [])
-    ≡ Some faults.Acl ∷ Some faults.AceSize ∷ None ∷ None ∷ None ∷ Some faults.AceSize ∷ []
-unfolding read empty_of plain_bytes everyones_bytes
-sizes_of_two_bytes = refl
-
 -- an ACE of a type, flags and a size, with a SID of 12 bytes
 ace_of_size : ℕ → ℕ → ℕ → List ℕ
 ace_of_size type flags size = type ∷ flags ∷ size ∷ 0 ∷ 1 ∷ 0 ∷ 0 ∷ 0 ∷ everyones_bytes
-
--- 11: fewer than 16 bytes; a size below 16, over what is left, or no multiple of 4
-wrong_sizes : map ace_fault
-    (take 15 (ace_of_size 0 0 16) ∷ ace_of_size 0 0 12 ∷ ace_of_size 0 0 24 ∷ ace_of_size 0 0 18
-    ∷ ace_of_size 0 0 20 ∷ (ace_of_size 0 0 20 ++ (7 ∷ [])) ∷ [])
-    ≡ Some faults.AceSize ∷ Some faults.AceSize ∷ Some faults.AceSize ∷ Some faults.AceSize ∷ None ∷ None ∷ []
-unfolding read ace_of_size everyones_bytes
-wrong_sizes = refl
-
--- Of an ACE 11 for its size comes first, and then 12, 13, 11 for its object fields, and 9.
-order_of_faults : map ace_fault
-    (ace_of_size 4 0x20 18 ∷ ace_of_size 4 0x20 20 ∷ ace_of_size 5 0x20 16 ∷ ace_of_size 5 0 16
-    ∷ ace_of_size 0 0 16 ∷ [])
-    ≡ Some faults.AceSize ∷ Some faults.AceType ∷ Some faults.AceFlags ∷ Some faults.AceSize ∷ Some faults.Sid ∷ []
-unfolding read ace_of_size everyones_bytes
-order_of_faults = refl
-
--- the smallest ACE, whose SID has no number
-smallest : ace_fault (0 ∷ 0 ∷ 16 ∷ 0 ∷ 1 ∷ 0 ∷ 0 ∷ 0 ∷ 1 ∷ 0 ∷ 0 ∷ 0 ∷ 0 ∷ 0 ∷ 0 ∷ 5 ∷ []) ≡ None
-unfolding read
-smallest = refl
-
--- a size that is too small or passes the end comes before an unknown type too
-size_first : map ace_fault (ace_of_size 4 0 12 ∷ ace_of_size 4 0 24 ∷ ace_of_size 4 0 20 ∷ [])
-    ≡ Some faults.AceSize ∷ Some faults.AceSize ∷ Some faults.AceType ∷ []
-unfolding read ace_of_size everyones_bytes
-size_first = refl
-
--- of the flags 0x20 alone is wrong, also beside another one
-each_flag : map (λ flags. ace_fault (ace_of_size 0 flags 20))
-    (1 ∷ 2 ∷ 4 ∷ 8 ∷ 0x10 ∷ 0x20 ∷ 0x40 ∷ 0x80 ∷ 0x60 ∷ 0xa0 ∷ [])
-    ≡ None ∷ None ∷ None ∷ None ∷ None ∷ Some faults.AceFlags ∷ None ∷ None ∷ Some faults.AceFlags
-    ∷ Some faults.AceFlags ∷ []
-unfolding read ace_of_size everyones_bytes
-each_flag = refl
-
--- Each announced GUID takes 16 bytes before the SID. Here they leave 8 bytes of a SID, which has more, or fewer.
-guids_take_room : map ace_fault
-    ((typed_front 36 1 ++ user_class_bytes ++ take 8 everyones_bytes)
-    ∷ (typed_front 32 2 ++ user_class_bytes ++ take 4 everyones_bytes)
-    ∷ (typed_front 52 3 ++ user_class_bytes ++ other_class_bytes ++ take 8 everyones_bytes)
-    ∷ (typed_front 40 3 ++ user_class_bytes ++ everyones_bytes)
-    ∷ (typed_front 40 1 ++ user_class_bytes ++ everyones_bytes)
-    ∷ (typed_front 24 0 ++ everyones_bytes) ∷ [])
-    ≡ Some faults.Sid ∷ Some faults.AceSize ∷ Some faults.Sid ∷ Some faults.AceSize ∷ None ∷ None ∷ []
-unfolding read typed_front user_class_bytes other_class_bytes everyones_bytes
-guids_take_room = refl
 
 -- what stands behind the SID, and behind the last ACE, is no part of the list
 spare_bytes : (acl_fault one_ace_bytes ≡ None) × (acl_of one_ace_bytes ≡ plain ∷ [])
 unfolding read one_ace_bytes plain_bytes everyones_bytes plain everyone
 spare_bytes = (refl, refl)
 
--- an ACE is as long as its size says, also before a mask of zeros
-empty_mask : acl_of (2 ∷ 0 ∷ 28 ∷ 0 ∷ 1 ∷ 0 ∷ 0 ∷ 0 ∷ 1 ∷ 0xdf ∷ 20 ∷ 0 ∷ 0 ∷ 0 ∷ 0 ∷ 0 ∷ everyones_bytes)
-    ≡ record plain { mask = 0 } ∷ []
-unfolding read everyones_bytes plain everyone
-empty_mask = refl
+two_bytes_of_four_and_more : record {
+  -- a number of 16 bits is not one of 32
+  two_bytes_of_four : u16_at 1 (9 ∷ 1 ∷ 2 ∷ 3 ∷ 4 ∷ 5 ∷ []) ∷ u32_at 1 (9 ∷ 1 ∷ 2 ∷ 3 ∷ 4 ∷ 5 ∷ []) ∷ []
+      ≡ 0x0201 ∷ 0x04030201 ∷ [];
+  -- a revision that is none, a size below the header, one past the end of the bytes, and an ACE that is missing
+  wrong_headers : map acl_fault
+      (empty_of 1 8 0 ∷ empty_of 3 8 0 ∷ empty_of 5 8 0 ∷ empty_of 2 7 0 ∷ empty_of 2 9 0 ∷ empty_of 4 9 0
+      ∷ take 7 (empty_of 2 8 0) ∷ empty_of 2 7 1 ∷ empty_of 2 8 1 ∷ [])
+      ≡ Some faults.Acl ∷ Some faults.Acl ∷ Some faults.Acl ∷ Some faults.Acl ∷ Some faults.Acl ∷ Some faults.Acl
+      ∷ Some faults.Acl ∷ Some faults.Acl ∷ Some faults.AceSize ∷ [];
+  -- a size that has its high byte passes the end; bytes behind the ACL are not its own
+  sizes_of_two_bytes : map acl_fault
+      ((2 ∷ 0 ∷ 8 ∷ 1 ∷ 0 ∷ 0 ∷ 0 ∷ 0 ∷ []) ∷ (2 ∷ 0 ∷ 8 ∷ 0 ∷ 0 ∷ 1 ∷ 0 ∷ 0 ∷ []) ∷ empty_of 2 8 0 ∷ empty_of 4 8 0
+      ∷ (empty_of 2 8 0 ++ (7 ∷ [])) ∷ (empty_of 2 8 1 ++ plain_bytes) ∷ [])
+      ≡ Some faults.Acl ∷ Some faults.AceSize ∷ None ∷ None ∷ None ∷ Some faults.AceSize ∷ [];
+  -- 11: fewer than 16 bytes; a size below 16, over what is left, or no multiple of 4
+  wrong_sizes : map ace_fault
+      (take 15 (ace_of_size 0 0 16) ∷ ace_of_size 0 0 12 ∷ ace_of_size 0 0 24 ∷ ace_of_size 0 0 18
+      ∷ ace_of_size 0 0 20 ∷ (ace_of_size 0 0 20 ++ (7 ∷ [])) ∷ [])
+      ≡ Some faults.AceSize ∷ Some faults.AceSize ∷ Some faults.AceSize ∷ Some faults.AceSize ∷ None ∷ None ∷ [];
+  -- Of an ACE 11 for its size comes first, and then 12, 13, 11 for its object fields, and 9.
+  order_of_faults : map ace_fault
+      (ace_of_size 4 0x20 18 ∷ ace_of_size 4 0x20 20 ∷ ace_of_size 5 0x20 16 ∷ ace_of_size 5 0 16
+      ∷ ace_of_size 0 0 16 ∷ [])
+      ≡ Some faults.AceSize ∷ Some faults.AceType ∷ Some faults.AceFlags ∷ Some faults.AceSize ∷ Some faults.Sid ∷ [];
+  -- the smallest ACE, whose SID has no number
+  smallest : ace_fault (0 ∷ 0 ∷ 16 ∷ 0 ∷ 1 ∷ 0 ∷ 0 ∷ 0 ∷ 1 ∷ 0 ∷ 0 ∷ 0 ∷ 0 ∷ 0 ∷ 0 ∷ 5 ∷ []) ≡ None;
+  -- a size that is too small or passes the end comes before an unknown type too
+  size_first : map ace_fault (ace_of_size 4 0 12 ∷ ace_of_size 4 0 24 ∷ ace_of_size 4 0 20 ∷ [])
+      ≡ Some faults.AceSize ∷ Some faults.AceSize ∷ Some faults.AceType ∷ [];
+  -- of the flags 0x20 alone is wrong, also beside another one
+  each_flag : map (λ flags. ace_fault (ace_of_size 0 flags 20))
+      (1 ∷ 2 ∷ 4 ∷ 8 ∷ 0x10 ∷ 0x20 ∷ 0x40 ∷ 0x80 ∷ 0x60 ∷ 0xa0 ∷ [])
+      ≡ None ∷ None ∷ None ∷ None ∷ None ∷ Some faults.AceFlags ∷ None ∷ None ∷ Some faults.AceFlags
+      ∷ Some faults.AceFlags ∷ [];
+  -- Each announced GUID takes 16 bytes before the SID. Here they leave 8 bytes of a SID, which has more, or fewer.
+  guids_take_room : map ace_fault
+      ((typed_front 36 1 ++ user_class_bytes ++ take 8 everyones_bytes)
+      ∷ (typed_front 32 2 ++ user_class_bytes ++ take 4 everyones_bytes)
+      ∷ (typed_front 52 3 ++ user_class_bytes ++ other_class_bytes ++ take 8 everyones_bytes)
+      ∷ (typed_front 40 3 ++ user_class_bytes ++ everyones_bytes)
+      ∷ (typed_front 40 1 ++ user_class_bytes ++ everyones_bytes)
+      ∷ (typed_front 24 0 ++ everyones_bytes) ∷ [])
+      ≡ Some faults.Sid ∷ Some faults.AceSize ∷ Some faults.Sid ∷ Some faults.AceSize ∷ None ∷ None ∷ [];
+  -- an ACE is as long as its size says, also before a mask of zeros
+  empty_mask : acl_of (2 ∷ 0 ∷ 28 ∷ 0 ∷ 1 ∷ 0 ∷ 0 ∷ 0 ∷ 1 ∷ 0xdf ∷ 20 ∷ 0 ∷ 0 ∷ 0 ∷ 0 ∷ 0 ∷ everyones_bytes)
+      ≡ record plain { mask = 0 } ∷ [];
+}
+unfolding computed read empty_of plain_bytes everyones_bytes ace_of_size typed_front user_class_bytes other_class_bytes
+    plain everyone
+two_bytes_of_four_and_more = search rules
 
 -- what a reader of an ACL needs of its extent: the header alone, one with spare bytes, and no more than a size can say
 
@@ -303,15 +279,14 @@ two_aces second = 4 ∷ 0 ∷ 88 ∷ 0 ∷ 2 ∷ 0 ∷ 0 ∷ 0 ∷ plain_bytes +
 both_types : List ℕ
 both_types = typed_front 56 3 ++ user_class_bytes ++ other_class_bytes ++ everyones_bytes
 
-two_are_read : acl_of (two_aces both_types) ≡ plain ∷ typed (Some user_class) (Some other_class) ∷ []
+two_are_read_and_more : record {
+  two_are_read : acl_of (two_aces both_types) ≡ plain ∷ typed (Some user_class) (Some other_class) ∷ [];
+  second_is_faulty : acl_fault (two_aces both_types) ∷ acl_fault (two_aces (4 ∷ both_types)) ∷ []
+      ≡ None ∷ Some faults.AceSize ∷ [];
+}
 unfolding read two_aces both_types plain_bytes typed_front typed user_class_bytes user_class other_class_bytes
     other_class everyones_bytes plain everyone
-two_are_read = refl
-
-second_is_faulty : acl_fault (two_aces both_types) ∷ acl_fault (two_aces (4 ∷ both_types)) ∷ []
-    ≡ None ∷ Some faults.AceSize ∷ []
-unfolding read two_aces both_types plain_bytes typed_front user_class_bytes other_class_bytes everyones_bytes
-second_is_faulty = refl
+two_are_read_and_more = search rules
 
 -- 4. The one written form: revision, size, count, and the ACEs without what was spare; 0 where bytes mean nothing.
 

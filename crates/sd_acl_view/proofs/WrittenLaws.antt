@@ -14,9 +14,8 @@ use Rattle.sd_sid.proofs.laws.Numbers.{AreBytes, AreBytes-drop, AreBytes-take}
 use Rattle.sd_acl_view.specs.Bytes.{u16_at, u32_at}
 use Rattle.sd_acl_view.specs.Ace.{ShowsAce, announces_inherited, announces_object}
 use Rattle.sd_acl_view.specs.Acl.{acl_size, aces_size, has_object}
-use Rattle.sd_ace.specs.AceLayout.{ace_body, ace_bytes, ace_front, flag_if, front_size}
+use Rattle.sd_ace.specs.AceLayout.{ace_body, ace_bytes, ace_front, flag_if, front_size, object_flags}
 use Rattle.sd_acl_view.specs.AclLayout.{acl_bytes, acl_header, revision_if}
-use Rattle.sd_ace.specs.AceLayout.{object_flags}
 use Rattle.sd_acl_view.specs.AclReading.{ace_of, aces_fault, aces_of, acl_of, guid_if, inherited_in, kind_in, object_in}
 use Rattle.sd_acl_view.specs.Inner.ReadableAce.{IsReadableAce}
 use Rattle.sd_acl_view.specs.AclChecks.{IsReadableAcl}

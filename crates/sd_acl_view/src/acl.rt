@@ -4,8 +4,7 @@ ghost use Rattle.std.specs.Prelude.{◌≡◌, ◌≤◌, ◌<◌, ◌+◌, ◌^
 ghost use Rattle.std.specs.Iterator.{YieldsFirst, item_count};
 ghost use Rattle.sd_acl_view.specs.Acl.{IsAcl, acl_size, has_object};
 ghost use Rattle.sd_acl_view.specs.AclLayout.{acl_bytes};
-ghost use Rattle.sd_acl_view.specs.AclReading.{ace_fault, ace_of, acl_fault, acl_of, acl_at_front, aces_fault};
-ghost use Rattle.sd_acl_view.specs.AclReading.{aces_of};
+ghost use Rattle.sd_acl_view.specs.AclReading.{ace_fault, ace_of, acl_fault, acl_of, acl_at_front, aces_fault, aces_of};
 ghost use Rattle.sd_acl_view.specs.AclChecks.{FailsBy, IsReadableAcl};
 ghost use Rattle.sd_acl_view.specs.Bytes.{u16_at as u16_of};
 

@@ -1,6 +1,5 @@
 -- The base64 of some bytes, block by block.
-use Rattle.std.proofs.Common.{◌≡◌, ◌≤◌, ℕ, ◌+◌, ◌%◌, length}
-use Rattle.std.proofs.Common.{List, ◌++◌, take, drop, sym, ap, ◌∙◌}
+use Rattle.std.proofs.Common.{◌≡◌, ◌≤◌, ℕ, ◌+◌, ◌%◌, length, List, ◌++◌, take, drop, sym, ap, ◌∙◌}
 use Rattle.std.proofs.lemmas.List.{length-take-le, take-append-drop}
 use Rattle.base64.proofs.EngineFacts.{encode_of-append}
 use Rattle.base64.specs.Engines.{standard}

@@ -60,12 +60,6 @@ compared task holder line token token' m e h =
 pub Compares-none : (token : TokenShown) (n : ℕ) → Compares token token n
 Compares-none token n = record { goes_on = omega arith; at_most = omega arith }
 
--- an answer that was printed from the start, and finished
-pub gathered : {old new : SinkTold} {a b c : PrintTold} {text : List ℕ} {error faulty : Bool} → Begins old a
-    → c.below ≡ new
-    → (Finishes b c (Ok tt) → PrintsAnswer a b text error faulty → PutsAnswer old new text error (Ok faulty))
-gathered x last q p = (printed x last q p.0, p.1)
-
 pub broken : {old new : SinkTold} {a b c : PrintTold} {text : List ℕ} {error faulty : Bool} (fault : SinkFault)
     → Begins old a → c.below ≡ new
     → (Finishes b c (Err fault) → PrintsAnswer a b text error faulty → PutSome old new text)

@@ -1,6 +1,6 @@
 -- Worked rows of lines and answers, computed.
 use Rattle.std.proofs.Common.{◌≡◌, ◌∙◌, ℕ, ◌+◌, ◌*◌, ◌-◌, ◌/◌, ◌^◌, List, [], ◌∷◌, ◌++◌, Option, Some, None, Ok, Err}
-use Rattle.std.proofs.Common.{true, false, codes, ap, drop, length, min, refl, sym, arith}
+use Rattle.std.proofs.Common.{true, false, codes, ap, drop, length, min, refl, sym, arith, rules}
 use Rattle.std.specs.Fmt.{digits}
 use Rattle.std.specs.Prelude.{map}
 use Rattle.base64.proofs.OnLiterals.{base64_on_literals}
@@ -116,17 +116,15 @@ verdicts = refl
 
 -- each form of a line, with its limit and the form of an answer
 
-limits : map line_limit (Hex ∷ Base64 ∷ SddlForm ∷ []) ≡ 262452 ∷ 174968 ∷ 1049872 ∷ []
-limits = refl
-
-outputs : map output_of (Hex ∷ Base64 ∷ SddlForm ∷ []) ≡ output.Hex ∷ output.Base64 ∷ output.Sddl ∷ []
-outputs = refl
-
--- one CR at the end of a line is dropped, and no LF
-ends : map without_cr (codes "a\r" ∷ codes "a\r\r" ∷ codes "\ra" ∷ codes "a\n" ∷ [] ∷ [])
-    ≡ codes "a" ∷ codes "a\r" ∷ codes "\ra" ∷ codes "a\n" ∷ [] ∷ []
+limits_and_more : record {
+  limits : map line_limit (Hex ∷ Base64 ∷ SddlForm ∷ []) ≡ 262452 ∷ 174968 ∷ 1049872 ∷ [];
+  outputs : map output_of (Hex ∷ Base64 ∷ SddlForm ∷ []) ≡ output.Hex ∷ output.Base64 ∷ output.Sddl ∷ [];
+  -- one CR at the end of a line is dropped, and no LF
+  ends : map without_cr (codes "a\r" ∷ codes "a\r\r" ∷ codes "\ra" ∷ codes "a\n" ∷ [] ∷ [])
+      ≡ codes "a" ∷ codes "a\r" ∷ codes "\ra" ∷ codes "a\n" ∷ [] ∷ [];
+}
 unfolding without_cr
-ends = refl
+limits_and_more = search rules
 
 -- what is counted of each answer: whether it is an error, and the comparisons that it may need
 
@@ -158,36 +156,28 @@ unfolding answer is_error bound line_means hex_spells hex_on_literals reading fa
     two_entries
 counted = tt
 
-errors : is_error (alone hex_to_hex) two_entries (codes "zz")
-    ∷ is_error (alone hex_to_hex) two_entries header_alone
-    ∷ is_error (alone (hex_to Explain)) two_entries header_alone
-    ∷ is_error (alone (hex_to (Check first_right))) two_entries header_alone
-    ∷ is_error (alone (hex_to Explain)) two_entries [] ∷ [] ≡ true ∷ false ∷ false ∷ false ∷ false ∷ []
-unfolding counted
-errors = refl
-
-comparisons : bound (alone hex_to_hex) two_entries (codes "zz")
-    ∷ bound (alone hex_to_hex) two_entries header_alone
-    ∷ bound (alone (hex_to Explain)) two_entries header_alone
-    ∷ bound (alone (hex_to (Check first_right))) two_entries header_alone
-    ∷ bound (alone (hex_to (Check first_right))) two_entries [] ∷ [] ≡ 0 ∷ 0 ∷ 0 ∷ 2 ∷ 0 ∷ []
-unfolding counted
-comparisons = refl
-
-check_answer : answer (alone (hex_to (Check first_right))) two_entries header_alone
-    ≡ codes "granted 0x00000001" ++ 10 ∷ []
-unfolding counted first_right granted missing rights_below verdict won
-check_answer = refl
-
-explain_answer : answer (alone (hex_to Explain)) two_entries header_alone
-    ≡ codes "control 0x8000 SR\nrm 0x00\nowner none\ngroup none\ndacl absent\nsacl absent\nend\n"
-unfolding counted explain control_line rm_line sid_line
-explain_answer = refl
-
--- a verdict prints no descriptor
-printed_sizes : printed_size None ∷ printed_size (Some (record
-    { control = 0x8000; rm = 0; owner = None; group = None; sacl = acl.Absent; dacl = acl.Absent })) ∷ [] ≡ 0 ∷ 20 ∷ []
-printed_sizes = refl
+errors_and_more : record {
+  errors : is_error (alone hex_to_hex) two_entries (codes "zz")
+      ∷ is_error (alone hex_to_hex) two_entries header_alone
+      ∷ is_error (alone (hex_to Explain)) two_entries header_alone
+      ∷ is_error (alone (hex_to (Check first_right))) two_entries header_alone
+      ∷ is_error (alone (hex_to Explain)) two_entries [] ∷ [] ≡ true ∷ false ∷ false ∷ false ∷ false ∷ [];
+  comparisons : bound (alone hex_to_hex) two_entries (codes "zz")
+      ∷ bound (alone hex_to_hex) two_entries header_alone
+      ∷ bound (alone (hex_to Explain)) two_entries header_alone
+      ∷ bound (alone (hex_to (Check first_right))) two_entries header_alone
+      ∷ bound (alone (hex_to (Check first_right))) two_entries [] ∷ [] ≡ 0 ∷ 0 ∷ 0 ∷ 2 ∷ 0 ∷ [];
+  check_answer : answer (alone (hex_to (Check first_right))) two_entries header_alone
+      ≡ codes "granted 0x00000001" ++ 10 ∷ [];
+  explain_answer : answer (alone (hex_to Explain)) two_entries header_alone
+      ≡ codes "control 0x8000 SR\nrm 0x00\nowner none\ngroup none\ndacl absent\nsacl absent\nend\n";
+  -- a verdict prints no descriptor
+  printed_sizes : printed_size None ∷ printed_size (Some (record
+      { control = 0x8000; rm = 0; owner = None; group = None; sacl = acl.Absent; dacl = acl.Absent })) ∷ []
+      ≡ 0 ∷ 20 ∷ [];
+}
+unfolding counted first_right granted missing rights_below verdict won explain control_line rm_line sid_line
+errors_and_more = search rules
 
 -- the edge of each form's limit: a line of so many bytes is read, and one of a byte more is too long, whatever it has
 
@@ -227,16 +217,15 @@ forms_of_loose = refl
 
 -- the same from base64, and an owner and a group from SDDL
 
-base64_of_loose : answer (alone base64_to_hex) nobody (codes "AQAEgBgAAAAAAAAAAAAAAAAAAADu7u7uAQEAAAAAAAEAAAAA")
-    ≡ codes "0100048014000000000000000000000000000000010100000000000100000000\n"
+same_from_base64 : record {
+  base64_of_loose : answer (alone base64_to_hex) nobody (codes "AQAEgBgAAAAAAAAAAAAAAAAAAADu7u7uAQEAAAAAAAEAAAAA")
+      ≡ codes "0100048014000000000000000000000000000000010100000000000100000000\n";
+  two_sids : answer (alone (record base64_to_hex { line_form = SddlForm })) nobody (codes "G:SYO:WD")
+      ≡ codes "0100008014000000200000000000000000000000" ++ codes "010100000000000100000000"
+      ++ codes "010100000000000512000000\n";
+}
 unfolding answered
-base64_of_loose = refl
-
-two_sids : answer (alone (record base64_to_hex { line_form = SddlForm })) nobody (codes "G:SYO:WD")
-    ≡ codes "0100008014000000200000000000000000000000" ++ codes "010100000000000100000000"
-    ++ codes "010100000000000512000000\n"
-unfolding answered
-two_sids = refl
+same_from_base64 = search rules
 
 -- ---- a domain: S-1-5-21-1-2-3, whose administrators are the owner
 
@@ -250,31 +239,9 @@ owned_by_admins =
 under_domain : Act → Job
 under_domain act = record (hex_to act) { domain = Some a_domain }
 
--- an alias of the domain is printed under it alone, and not where numbers are asked for
-printed_in_a_domain : answer (alone (under_domain (Convert output.Sddl))) nobody owned_by_admins
-    ∷ answer (alone (record (under_domain (Convert output.Sddl)) { numeric = true })) nobody owned_by_admins
-    ∷ answer (alone (hex_to (Convert output.Sddl))) nobody owned_by_admins ∷ []
-    ≡ codes "O:DA\n" ∷ codes "O:S-1-5-21-1-2-3-512\n" ∷ codes "O:S-1-5-21-1-2-3-512\n" ∷ []
-unfolding answered a_domain owned_by_admins under_domain
-printed_in_a_domain = refl
-
-explained_in_a_domain : answer (alone (under_domain Explain)) nobody owned_by_admins
-    ∷ answer (alone (record (under_domain Explain) { numeric = true })) nobody owned_by_admins ∷ []
-    ≡ codes "control 0x8000 SR\nrm 0x00\nowner S-1-5-21-1-2-3-512 DA\ngroup none\ndacl absent\nsacl absent\nend\n"
-    ∷ codes "control 0x8000 SR\nrm 0x00\nowner S-1-5-21-1-2-3-512\ngroup none\ndacl absent\nsacl absent\nend\n" ∷ []
-unfolding answered a_domain owned_by_admins under_domain
-explained_in_a_domain = refl
-
 -- a line of SDDL is read under it
 admins : SecurityId
 admins = record { authority = 5; subs = 21 ∷ 1 ∷ 2 ∷ 3 ∷ 512 ∷ [] }
-
-read_in_a_domain : line_means SddlForm (Some a_domain) (codes "O:DA") ∷ line_means SddlForm None (codes "O:DA") ∷ []
-    ≡ Ok (record
-    { control = 0x8000; rm = 0; owner = Some admins; group = None; sacl = acl.Absent; dacl = acl.Absent })
-    ∷ Err (Sddl (sddl.Sid sid.NeedsDomain)) ∷ []
-unfolding answered a_domain admins
-read_in_a_domain = refl
 
 answers_in_a_domain :
     answer (alone (record (under_domain (Convert output.Hex)) { line_form = SddlForm })) nobody (codes "O:DA")
@@ -282,6 +249,24 @@ answers_in_a_domain :
     ≡ (owned_by_admins ++ 10 ∷ []) ∷ codes "error 23 needs-domain\n" ∷ []
 unfolding answered a_domain owned_by_admins under_domain
 answers_in_a_domain = refl
+
+printed_in_a_domain_and_more : record {
+  -- an alias of the domain is printed under it alone, and not where numbers are asked for
+  printed_in_a_domain : answer (alone (under_domain (Convert output.Sddl))) nobody owned_by_admins
+      ∷ answer (alone (record (under_domain (Convert output.Sddl)) { numeric = true })) nobody owned_by_admins
+      ∷ answer (alone (hex_to (Convert output.Sddl))) nobody owned_by_admins ∷ []
+      ≡ codes "O:DA\n" ∷ codes "O:S-1-5-21-1-2-3-512\n" ∷ codes "O:S-1-5-21-1-2-3-512\n" ∷ [];
+  explained_in_a_domain : answer (alone (under_domain Explain)) nobody owned_by_admins
+      ∷ answer (alone (record (under_domain Explain) { numeric = true })) nobody owned_by_admins ∷ []
+      ≡ codes "control 0x8000 SR\nrm 0x00\nowner S-1-5-21-1-2-3-512 DA\ngroup none\ndacl absent\nsacl absent\nend\n"
+      ∷ codes "control 0x8000 SR\nrm 0x00\nowner S-1-5-21-1-2-3-512\ngroup none\ndacl absent\nsacl absent\nend\n" ∷ [];
+  read_in_a_domain : line_means SddlForm (Some a_domain) (codes "O:DA") ∷ line_means SddlForm None (codes "O:DA") ∷ []
+      ≡ Ok (record
+      { control = 0x8000; rm = 0; owner = Some admins; group = None; sacl = acl.Absent; dacl = acl.Absent })
+      ∷ Err (Sddl (sddl.Sid sid.NeedsDomain)) ∷ [];
+}
+unfolding answered a_domain owned_by_admins under_domain admins
+printed_in_a_domain_and_more = search rules
 
 -- ---- a derivation, from a container that hands nothing on (MS-DTYP 2.5.3.4)
 

@@ -5,8 +5,8 @@ use crate::numbers::Numbers;
 use crate::pattern::BytePattern;
 use crate::section::{Job, invalid};
 use sd_call_access::{
-    AskInput, AskerInput, Bytes, Request, VerdictOutcome, check_many, check_with_token, read_token,
-    token_held, told,
+    AskInput, Asker, AskerInput, Bytes, MAXIMUM, Request, VerdictOutcome, check_many,
+    check_with_token, read_token, token_held, told,
 };
 use sd_check::Verdict;
 use std::alloc::{AllocError, Global};
@@ -112,13 +112,13 @@ pub fn check_together(job: &Job<'_, '_, '_>) -> io::Result<Digest> {
 
 fn request(wanted: u32, maximum: bool) -> Request {
     Request {
+        asker: Asker {
+            mapping: 0,
+            level: 0,
+            options: 0,
+        },
         wanted,
-        mapping: 0,
-        level: 0,
-        has_level: false,
-        maximum,
-        security: false,
-        take_ownership: false,
+        options: if maximum { MAXIMUM } else { 0 },
     }
 }
 
@@ -140,9 +140,9 @@ fn empty_verdicts(alloc: Global, count: usize) -> Result<Vec<VerdictOutcome>, Al
 
 // Adds all that a verdict says.
 fn add(digest: &mut Digest, verdict: &VerdictOutcome) {
-    add_pair(digest, verdict.fault.value(), verdict.part);
-    add_pair(digest, verdict.other_part, verdict.argument);
-    digest.add(verdict.entry as u64);
+    add_pair(digest, verdict.outcome.fault.value(), verdict.outcome.part);
+    add_pair(digest, verdict.outcome.other_part, verdict.outcome.argument);
+    digest.add(verdict.outcome.entry as u64);
     add_pair(digest, verdict.mask, u32::from(verdict.granted));
 }
 

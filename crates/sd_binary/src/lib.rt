@@ -36,13 +36,12 @@
 //! Allow 0x1f01ff
 //! ```
 //!
-//! This crate re-exports the crates below it: `sd_parts`, `sd_acl_view`, `sd_view`, `sd_layout`, `sd_buffer`
-//! and `sd_builder`.
+//! This crate re-exports the crates below it: `sd_parts`, `sd_acl_view`, `sd_view`, `sd_buffer` and
+//! `sd_builder`.
 #![tactic(auto)]
 
 pub use sd_acl_view::{AceView, Aces, AclView};
 pub use sd_buffer::{ByteBuf, Full, HexReader, SdBuf, TextBuf, TextFault};
-pub use sd_builder::{AclTooLarge, Builder, write_layout};
-pub use sd_layout::{print_layout, put_layout};
+pub use sd_builder::{AclTooLarge, Builder, print_layout, put_layout, write_layout};
 pub use sd_parts::{AclFlags, CONTROL_BITS, ControlBit, Which};
 pub use sd_view::{AclPart, Part, SdFault, SdView, read, view_written};

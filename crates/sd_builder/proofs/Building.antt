@@ -18,8 +18,7 @@ use Rattle.sd_ace.specs.AceLayout.{ace_bytes}
 use Rattle.sd_acl_view.specs.AclLayout.{acl_bytes, acl_header, revision_if}
 use Rattle.sd_builder.specs.Builds.{Builds}
 use Rattle.sd_builder.specs.Inner.Building.{Building, OpenAt, OpenIsFree, OpenStands, PartStands, PartsStand}
-use Rattle.sd_builder.specs.Inner.Building.{StandsInOrder}
-use Rattle.sd_builder.specs.Inner.Building.{given, given_acl, given_sid, list, nothing, placed, sid}
+use Rattle.sd_builder.specs.Inner.Building.{StandsInOrder, given, given_acl, given_sid, list, nothing, placed, sid}
 use Rattle.sd_builder.specs.Draft.{CanBegin, Draft, DraftParts, IsOpen, IsOpenIn, acl_for, begun, closed_in, ended}
 use Rattle.sd_builder.specs.Draft.{ended_in, nothing_given, open_size, open_size_in, sid_for, with_ace, with_acl}
 use Rattle.sd_builder.specs.Draft.{with_sid}

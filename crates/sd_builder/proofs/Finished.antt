@@ -23,12 +23,12 @@ use Rattle.sd_builder.specs.declared.builder.Builder.{Builder}
 use Rattle.sd_sid.proofs.laws.SidLaws.{length-sid_bytes}
 use Rattle.sd_view.specs.Layout.{acl_part_size, sid_part_size}
 use Rattle.sd_acl_view.proofs.laws.AclLayoutSizes.{length-acl_bytes}
-use Rattle.sd_layout.proofs.laws.AclLayoutLaws.{acl_bytes-shows}
+use Rattle.sd_builder.proofs.laws.AclLayoutLaws.{acl_bytes-shows}
 use Rattle.sd_parts.proofs.laws.ControlLaws.{control-bits}
 use Rattle.sd_builder.proofs.Building.{closed-from}
 use Rattle.sd_view.proofs.laws.LayoutSizes.{acl_size-read}
-use Rattle.sd_layout.proofs.laws.LayoutLaws.{header-control, header-dacl, header-group, header-owner, header-revision}
-use Rattle.sd_layout.proofs.laws.LayoutLaws.{header-rm, header-sacl}
+use Rattle.sd_builder.proofs.laws.LayoutLaws.{header-control, header-dacl, header-group, header-owner, header-revision}
+use Rattle.sd_builder.proofs.laws.LayoutLaws.{header-rm, header-sacl}
 use Rattle.sd_builder.proofs.Standing.{headed, part-kept, part-small, room}
 
 -- what stands is shown

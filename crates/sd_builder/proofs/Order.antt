@@ -159,9 +159,7 @@ order-alike bytes b t u same h = record {
 pub given-reopened : (t : DraftParts) (o : Option (Which × List AccessControlEntry)) (p : Part)
     → given (record t { «open» = o }) p ≡ given t p
 given-reopened t o part.Owner = refl
-given-reopened t o part.Group = refl
-given-reopened t o part.Sacl = refl
-given-reopened t o part.Dacl = refl
+given-reopened t o _ = refl
 
 pub order-reopened : (bytes : List ℕ) (b : Builder) (t : Draft) (o : Option OpenAcl)
     (u : Option (Which × List AccessControlEntry)) → StandsInOrder bytes b t

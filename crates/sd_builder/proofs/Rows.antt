@@ -1,6 +1,6 @@
 -- Worked rows, computed: what hex and base64 texts spell, what their bytes are read as, and what is laid out.
 use Rattle.std.proofs.Common.{◌≡◌, ℕ, Bool, true, false, List, [], ◌∷◌, ◌++◌, map, Some, None, Result, Ok, Err, codes}
-use Rattle.std.proofs.Common.{refl, replicate}
+use Rattle.std.proofs.Common.{refl, replicate, rules}
 use Prim.Native.String.{String}
 use Rattle.base64.proofs.OnLiterals.{base64_on_literals}
 use Rattle.base64.specs.Engines.{standard}
@@ -61,71 +61,43 @@ system_bytes = refl
 
 -- hex texts
 
-pairs_of_digits : hex_spells (codes "0100") ≡ Ok (1 ∷ 0 ∷ [])
+hex_texts : record {
+  pairs_of_digits : hex_spells (codes "0100") ≡ Ok (1 ∷ 0 ∷ []);
+  either_case : hex_spells (codes "aFFa09") ≡ Ok (0xaf ∷ 0xfa ∷ 0x09 ∷ []);
+  no_digit : hex_spells (codes "zz") ≡ Err HexDigit;
+  odd_before_no_digit : hex_spells (codes "zzz") ≡ Err HexOdd;
+  no_text : hex_spells (codes "") ≡ Ok [];
+}
 unfolding computed
-pairs_of_digits = refl
-
-either_case : hex_spells (codes "aFFa09") ≡ Ok (0xaf ∷ 0xfa ∷ 0x09 ∷ [])
-unfolding computed
-either_case = refl
-
-no_digit : hex_spells (codes "zz") ≡ Err HexDigit
-unfolding computed
-no_digit = refl
-
-odd_before_no_digit : hex_spells (codes "zzz") ≡ Err HexOdd
-unfolding computed
-odd_before_no_digit = refl
-
-no_text : hex_spells (codes "") ≡ Ok []
-unfolding computed
-no_text = refl
+hex_texts = search rules
 
 -- base64 texts
 
-standard_alphabet : engine_symbols standard ≡ codes "ABCDEFGHIJKLMNOPQRSTUVWXYZabcdefghijklmnopqrstuvwxyz0123456789+/"
-standard_alphabet = refl
-
-three_bytes : base64_spells (codes "AQAE") ≡ Ok (1 ∷ 0 ∷ 4 ∷ [])
+base64_texts : record {
+  standard_alphabet : engine_symbols standard
+      ≡ codes "ABCDEFGHIJKLMNOPQRSTUVWXYZabcdefghijklmnopqrstuvwxyz0123456789+/";
+  three_bytes : base64_spells (codes "AQAE") ≡ Ok (1 ∷ 0 ∷ 4 ∷ []);
+  one_byte : base64_spells (codes "AQ==") ≡ Ok (1 ∷ []);
+  no_padding : base64_spells (codes "AQ") ≡ Err Base64;
+  bits_behind_the_last_byte : base64_spells (codes "AR==") ≡ Err Base64;
+  blank_inside : base64_spells (codes "AQ AE") ≡ Err Base64;
+  letters_of_urls : base64_spells (codes "-_-_") ≡ Err Base64;
+  no_base64_text : base64_spells (codes "") ≡ Ok [];
+}
 unfolding base64_spells base64_on_literals
-three_bytes = refl
-
-one_byte : base64_spells (codes "AQ==") ≡ Ok (1 ∷ [])
-unfolding base64_spells base64_on_literals
-one_byte = refl
-
-no_padding : base64_spells (codes "AQ") ≡ Err Base64
-unfolding base64_spells base64_on_literals
-no_padding = refl
-
-bits_behind_the_last_byte : base64_spells (codes "AR==") ≡ Err Base64
-unfolding base64_spells base64_on_literals
-bits_behind_the_last_byte = refl
-
-blank_inside : base64_spells (codes "AQ AE") ≡ Err Base64
-unfolding base64_spells base64_on_literals
-blank_inside = refl
-
-letters_of_urls : base64_spells (codes "-_-_") ≡ Err Base64
-unfolding base64_spells base64_on_literals
-letters_of_urls = refl
-
-no_base64_text : base64_spells (codes "") ≡ Ok []
-unfolding base64_spells base64_on_literals
-no_base64_text = refl
+base64_texts = search rules
 
 -- a header without parts
 
 bare : Descriptor
 bare = record { control = 0x8000; rm = 0; owner = None; group = None; sacl = acl.Absent; dacl = acl.Absent }
 
-bare_is_read : reading (hex "0100008000000000000000000000000000000000") ≡ Ok bare
+header_without_parts : record {
+  bare_is_read : reading (hex "0100008000000000000000000000000000000000") ≡ Ok bare;
+  bare_is_laid_out : layout bare ≡ hex "0100008000000000000000000000000000000000";
+}
 unfolding computed bare
-bare_is_read = refl
-
-bare_is_laid_out : layout bare ≡ hex "0100008000000000000000000000000000000000"
-unfolding computed bare
-bare_is_laid_out = refl
+header_without_parts = search rules
 
 -- an owner behind its group, with a gap between them
 
@@ -139,19 +111,15 @@ moved = record {
   dacl = acl.Absent;
 }
 
-moved_is_read : reading
-    (hex "0100008021000000140000000000000000000000010100000000000100000000aa010100000000000512000000") ≡ Ok moved
+owner_behind_its_group : record {
+  moved_is_read : reading
+      (hex "0100008021000000140000000000000000000000010100000000000100000000aa010100000000000512000000") ≡ Ok moved;
+  moved_is_laid_out : layout moved ≡ hex
+      "0100008014000000200000000000000000000000010100000000000512000000010100000000000100000000";
+  moved_size : size moved ≡ 44;
+}
 unfolding computed moved system everyone
-moved_is_read = refl
-
-moved_is_laid_out : layout moved ≡ hex
-    "0100008014000000200000000000000000000000010100000000000512000000010100000000000100000000"
-unfolding computed moved system everyone
-moved_is_laid_out = refl
-
-moved_size : size moved ≡ 44
-unfolding moved system everyone
-moved_size = refl
+owner_behind_its_group = search rules
 
 -- an owner alone, which has no sub-authority and an authority that needs its high bytes
 
@@ -165,13 +133,12 @@ without_subs = record {
   dacl = acl.Absent;
 }
 
-without_subs_is_read : reading (hex "01000080140000000000000000000000000000000100000100000000") ≡ Ok without_subs
+owner_alone : record {
+  without_subs_is_read : reading (hex "01000080140000000000000000000000000000000100000100000000") ≡ Ok without_subs;
+  without_subs_is_laid_out : layout without_subs ≡ hex "01000080140000000000000000000000000000000100000100000000";
+}
 unfolding computed without_subs
-without_subs_is_read = refl
-
-without_subs_is_laid_out : layout without_subs ≡ hex "01000080140000000000000000000000000000000100000100000000"
-unfolding computed without_subs
-without_subs_is_laid_out = refl
+owner_alone = search rules
 
 -- two SIDs of fifteen sub-authorities
 
@@ -195,63 +162,34 @@ marked = record {
   dacl = acl.Absent;
 }
 
-marked_is_read : reading (hex "017febff0000000014000000ffffffffffffffff010100000000000100000000beef") ≡ Ok marked
+group_alone : record {
+  marked_is_read : reading (hex "017febff0000000014000000ffffffffffffffff010100000000000100000000beef") ≡ Ok marked;
+  marked_is_laid_out : layout marked ≡ hex "017febff00000000140000000000000000000000010100000000000100000000";
+}
 unfolding computed marked everyone
-marked_is_read = refl
-
-marked_is_laid_out : layout marked ≡ hex "017febff00000000140000000000000000000000010100000000000100000000"
-unfolding computed marked everyone
-marked_is_laid_out = refl
+group_alone = search rules
 
 -- faults, in the order in which they are looked for
 
-short : reading (hex "0100048014") ≡ Err faults.Short
+short_and_more : record {
+  short : reading (hex "0100048014") ≡ Err faults.Short;
+  nineteen_bytes : reading (hex "02000400000000000000000000000000000000") ≡ Err faults.Short;
+  revision : reading (hex "0200008000000000000000000000000000000000") ≡ Err faults.Revision;
+  not_self_relative : reading (hex "0100000000000000000000000000000000000000") ≡ Err faults.NotSelfRelative;
+  largest_offset : reading (hex "01000080ffffffff000000000000000000000000010100000000000512000000") ≡ Err
+      (faults.Offset Owner);
+  inside_header : reading (hex "0100008013000000140000000000000000000000010100000000000512000000") ≡ Err
+      (faults.Offset Owner);
+  too_few_bytes : reading (hex "010000800000000014000000000000000000000001000000000000") ≡ Err (faults.Offset Group);
+  sixteen_subs : reading (hex "01000080140000000000000000000000000000000110000000000005") ≡ Err (faults.Sid Owner);
+  cut_short : reading (hex "01000080000000001400000000000000000000000101000000000005120000") ≡ Err (faults.Sid Group);
+  owner_before_group : reading (hex "0100008014000000150000000000000000000000020100000000000512000000") ≡ Err
+      (faults.Sid Owner);
+  shared_extent : reading (hex "0100008014000000140000000000000000000000010100000000000512000000") ≡ Err
+      (faults.Overlap Owner Group);
+}
 unfolding computed
-short = refl
-
-nineteen_bytes : reading (hex "02000400000000000000000000000000000000") ≡ Err faults.Short
-unfolding computed
-nineteen_bytes = refl
-
-revision : reading (hex "0200008000000000000000000000000000000000") ≡ Err faults.Revision
-unfolding computed
-revision = refl
-
-not_self_relative : reading (hex "0100000000000000000000000000000000000000") ≡ Err faults.NotSelfRelative
-unfolding computed
-not_self_relative = refl
-
-largest_offset : reading (hex "01000080ffffffff000000000000000000000000010100000000000512000000") ≡ Err
-    (faults.Offset Owner)
-unfolding computed
-largest_offset = refl
-
-inside_header : reading (hex "0100008013000000140000000000000000000000010100000000000512000000") ≡ Err
-    (faults.Offset Owner)
-unfolding computed
-inside_header = refl
-
-too_few_bytes : reading (hex "010000800000000014000000000000000000000001000000000000") ≡ Err (faults.Offset Group)
-unfolding computed
-too_few_bytes = refl
-
-sixteen_subs : reading (hex "01000080140000000000000000000000000000000110000000000005") ≡ Err (faults.Sid Owner)
-unfolding computed
-sixteen_subs = refl
-
-cut_short : reading (hex "01000080000000001400000000000000000000000101000000000005120000") ≡ Err (faults.Sid Group)
-unfolding computed
-cut_short = refl
-
-owner_before_group : reading (hex "0100008014000000150000000000000000000000020100000000000512000000") ≡ Err
-    (faults.Sid Owner)
-unfolding computed
-owner_before_group = refl
-
-shared_extent : reading (hex "0100008014000000140000000000000000000000010100000000000512000000") ≡ Err
-    (faults.Overlap Owner Group)
-unfolding computed
-shared_extent = refl
+short_and_more = search rules
 
 -- ---- ACLs
 
@@ -272,17 +210,16 @@ with_dacl = record {
   dacl = acl.List (full_access ∷ []);
 }
 
-with_dacl_is_read : reading
-    (hex "0100048040000000500000000000000015000000aa020028000100000000001400ff011f00010100000000000100000000"
-    ++ hex "bbbbbbbbbbbbbbbbbbbbbbbbcccccc01020000000000052000000020020000010100000000000512000000") ≡ Ok with_dacl
+acls : record {
+  with_dacl_is_read : reading
+      (hex "0100048040000000500000000000000015000000aa020028000100000000001400ff011f00010100000000000100000000"
+      ++ hex "bbbbbbbbbbbbbbbbbbbbbbbbcccccc01020000000000052000000020020000010100000000000512000000") ≡ Ok with_dacl;
+  with_dacl_is_laid_out : layout with_dacl
+      ≡ hex "010004801400000024000000000000003000000001020000000000052000000020020000010100000000000512000000"
+      ++ hex "02001c000100000000001400ff011f00010100000000000100000000";
+}
 unfolding computed with_dacl full_access administrators system everyone
-with_dacl_is_read = refl
-
-with_dacl_is_laid_out : layout with_dacl
-    ≡ hex "010004801400000024000000000000003000000001020000000000052000000020020000010100000000000512000000"
-    ++ hex "02001c000100000000001400ff011f00010100000000000100000000"
-unfolding computed with_dacl full_access administrators system everyone
-with_dacl_is_laid_out = refl
+acls = search rules
 
 -- authenticated users may read one property, and the same with both GUIDs
 
@@ -310,25 +247,6 @@ with_object = record {
       (read_property ∷ []);
 }
 
--- under revision 2, and with a bit among the object flags that means nothing
-with_object_is_read : reading
-    (hex "01000480000000000000000000000000140000000200300001000000"
-    ++ hex "050228001000000005000000ba7a96bfe60dd011a28500aa003049e201010000000000050b000000") ≡ Ok with_object
-unfolding computed with_object read_property user_class authenticated
-with_object_is_read = refl
-
-with_object_is_laid_out : layout with_object
-    ≡ hex "01000480000000000000000000000000140000000400300001000000"
-    ++ hex "050228001000000001000000ba7a96bfe60dd011a28500aa003049e201010000000000050b000000"
-unfolding computed with_object read_property user_class authenticated
-with_object_is_laid_out = refl
-
--- a null SACL and an empty DACL with spare bytes
-null_and_empty : reading (hex "01001480000000000000000000000000140000000200100000000000ffffffffffffffff") ≡ Ok
-    (record { control = 0x8014; rm = 0; owner = None; group = None; sacl = acl.Null; dacl = acl.List [] })
-unfolding computed
-null_and_empty = refl
-
 label : AccessControlEntry
 label = record {
   kind = kinds.Label;
@@ -339,203 +257,152 @@ label = record {
   sid = record { authority = 16; subs = 8192 ∷ [] };
 }
 
-label_in_sacl : reading
-    (hex "010010800000000000000000140000000000000002001c000100000011001400010000000101000000000010"
-    ++ hex "0020000000000000") ≡ Ok (record {
-      control = 0x8010;
-      rm = 0;
-      owner = None;
-      group = None;
-      sacl = acl.List (label ∷ []);
-      dacl = acl.Absent;
-    })
-unfolding computed label
-label_in_sacl = refl
-
-acl_of_another_revision : reading (hex "0100048000000000000000000000000014000000030008000000000000000000") ≡ Err
-    (faults.Acl Dacl)
-unfolding computed
-acl_of_another_revision = refl
-
-one_ace_too_many : reading (hex "010004800000000000000000000000001400000002000800ffff0000") ≡ Err (faults.AceSize Dacl)
-unfolding computed
-one_ace_too_many = refl
-
-ace_of_another_type : reading
-    (hex "0100048000000000000000000000000014000000020018000100000009001000000000000100000000000000") ≡ Err
-    (faults.AceType Dacl)
-unfolding computed
-ace_of_another_type = refl
-
-ace_with_the_unused_flag : reading
-    (hex "0100108000000000000000001400000000000000020018000100000000201000000000000100000000000000") ≡ Err
-    (faults.AceFlags Sacl)
-unfolding computed
-ace_with_the_unused_flag = refl
-
-guids_past_the_ace : reading
-    (hex "0100048000000000000000000000000014000000020018000100000005001000000000000100000000000000") ≡ Err
-    (faults.AceSize Dacl)
-unfolding computed
-guids_past_the_ace = refl
-
-sid_past_the_ace : reading
-    (hex "0100048000000000000000000000000014000000020018000100000000001000000000000101000000000000") ≡ Err
-    (faults.Sid Dacl)
-unfolding computed
-sid_past_the_ace = refl
-
-shared_acls : reading (hex "01001480000000000000000014000000140000000200080000000000") ≡ Err (faults.Overlap Sacl Dacl)
-unfolding computed
-shared_acls = refl
-
-shared_owner_and_acl : reading (hex "010004801400000000000000000000001c00000001020000000000050200080000000000") ≡ Err
-    (faults.Overlap Owner Dacl)
-unfolding computed
-shared_owner_and_acl = refl
-
--- a null SACL has no bytes and no offset
-null_and_empty_is_laid_out : layout
-    (record { control = 0x8014; rm = 0; owner = None; group = None; sacl = acl.Null; dacl = acl.List [] })
-    ≡ hex "01001480000000000000000000000000140000000200080000000000"
-unfolding computed
-null_and_empty_is_laid_out = refl
-
--- revision 4 without an object ACE
-fourth_revision : reading (hex "01000480000000000000000000000000140000000400080000000000") ≡ Ok
-    (record { control = 0x8004; rm = 0; owner = None; group = None; sacl = acl.Absent; dacl = acl.List [] })
-unfolding computed
-fourth_revision = refl
-
--- two ACEs of different sizes
-two_aces : reading
-    (hex "010004800000000000000000000000001400000002003400020000000000140000000000010100000000000100000000"
-    ++ hex "00001800ff011f0001020000000000052000000020020000") ≡ Ok (record {
-      control = 0x8004;
-      rm = 0;
-      owner = None;
-      group = None;
-      sacl = acl.Absent;
-      dacl = acl.List (record full_access { mask = 0 } ∷ record full_access { sid = administrators } ∷ []);
-    })
-unfolding computed full_access administrators everyone
-two_aces = refl
-
--- and a fault of the second one
-second_ace_of_another_type : reading
-    (hex "010004800000000000000000000000001400000002003000020000000000140000000000010100000000000100000000"
-    ++ hex "0900140000000000010100000000000100000000")
-    ≡ Err (faults.AceType Dacl)
-unfolding computed
-second_ace_of_another_type = refl
-
--- an inherited object type alone
-with_inherited : reading
-    (hex "01000480000000000000000000000000140000000400300001000000050228001000000002000000"
-    ++ hex "ba7a96bfe60dd011a28500aa003049e201010000000000050b000000") ≡ Ok (record with_object {
-      dacl = acl.List (record read_property { object = None; inherited = Some user_class } ∷ []);
-    })
-unfolding computed with_object read_property user_class authenticated
-with_inherited = refl
-
--- what follows the ACL is no part of it
-ace_behind_the_acl : reading
-    (hex "010004800000000000000000000000001400000002000800010000000000140000000000010100000000000100000000") ≡ Err
-    (faults.AceSize Dacl)
-unfolding computed
-ace_behind_the_acl = refl
+with_object_is_read_and_more : record {
+  -- under revision 2, and with a bit among the object flags that means nothing
+  with_object_is_read : reading
+      (hex "01000480000000000000000000000000140000000200300001000000"
+      ++ hex "050228001000000005000000ba7a96bfe60dd011a28500aa003049e201010000000000050b000000") ≡ Ok with_object;
+  with_object_is_laid_out : layout with_object
+      ≡ hex "01000480000000000000000000000000140000000400300001000000"
+      ++ hex "050228001000000001000000ba7a96bfe60dd011a28500aa003049e201010000000000050b000000";
+  -- a null SACL and an empty DACL with spare bytes
+  null_and_empty : reading (hex "01001480000000000000000000000000140000000200100000000000ffffffffffffffff") ≡ Ok
+      (record { control = 0x8014; rm = 0; owner = None; group = None; sacl = acl.Null; dacl = acl.List [] });
+  label_in_sacl : reading
+      (hex "010010800000000000000000140000000000000002001c000100000011001400010000000101000000000010"
+      ++ hex "0020000000000000") ≡ Ok (record {
+        control = 0x8010;
+        rm = 0;
+        owner = None;
+        group = None;
+        sacl = acl.List (label ∷ []);
+        dacl = acl.Absent;
+      });
+  acl_of_another_revision : reading (hex "0100048000000000000000000000000014000000030008000000000000000000") ≡ Err
+      (faults.Acl Dacl);
+  one_ace_too_many : reading (hex "010004800000000000000000000000001400000002000800ffff0000")
+      ≡ Err (faults.AceSize Dacl);
+  ace_of_another_type : reading
+      (hex "0100048000000000000000000000000014000000020018000100000009001000000000000100000000000000") ≡ Err
+      (faults.AceType Dacl);
+  ace_with_the_unused_flag : reading
+      (hex "0100108000000000000000001400000000000000020018000100000000201000000000000100000000000000") ≡ Err
+      (faults.AceFlags Sacl);
+  guids_past_the_ace : reading
+      (hex "0100048000000000000000000000000014000000020018000100000005001000000000000100000000000000") ≡ Err
+      (faults.AceSize Dacl);
+  sid_past_the_ace : reading
+      (hex "0100048000000000000000000000000014000000020018000100000000001000000000000101000000000000") ≡ Err
+      (faults.Sid Dacl);
+  shared_acls : reading (hex "01001480000000000000000014000000140000000200080000000000")
+      ≡ Err (faults.Overlap Sacl Dacl);
+  shared_owner_and_acl : reading (hex "010004801400000000000000000000001c00000001020000000000050200080000000000") ≡ Err
+      (faults.Overlap Owner Dacl);
+  -- a null SACL has no bytes and no offset
+  null_and_empty_is_laid_out : layout
+      (record { control = 0x8014; rm = 0; owner = None; group = None; sacl = acl.Null; dacl = acl.List [] })
+      ≡ hex "01001480000000000000000000000000140000000200080000000000";
+  -- revision 4 without an object ACE
+  fourth_revision : reading (hex "01000480000000000000000000000000140000000400080000000000") ≡ Ok
+      (record { control = 0x8004; rm = 0; owner = None; group = None; sacl = acl.Absent; dacl = acl.List [] });
+  -- two ACEs of different sizes
+  two_aces : reading
+      (hex "010004800000000000000000000000001400000002003400020000000000140000000000010100000000000100000000"
+      ++ hex "00001800ff011f0001020000000000052000000020020000") ≡ Ok (record {
+        control = 0x8004;
+        rm = 0;
+        owner = None;
+        group = None;
+        sacl = acl.Absent;
+        dacl = acl.List (record full_access { mask = 0 } ∷ record full_access { sid = administrators } ∷ []);
+      });
+  -- and a fault of the second one
+  second_ace_of_another_type : reading
+      (hex "010004800000000000000000000000001400000002003000020000000000140000000000010100000000000100000000"
+      ++ hex "0900140000000000010100000000000100000000")
+      ≡ Err (faults.AceType Dacl);
+  -- an inherited object type alone
+  with_inherited : reading
+      (hex "01000480000000000000000000000000140000000400300001000000050228001000000002000000"
+      ++ hex "ba7a96bfe60dd011a28500aa003049e201010000000000050b000000") ≡ Ok (record with_object {
+        dacl = acl.List (record read_property { object = None; inherited = Some user_class } ∷ []);
+      });
+  -- what follows the ACL is no part of it
+  ace_behind_the_acl : reading
+      (hex "010004800000000000000000000000001400000002000800010000000000140000000000010100000000000100000000") ≡ Err
+      (faults.AceSize Dacl);
+}
+unfolding computed with_object read_property user_class authenticated label full_access administrators everyone
+with_object_is_read_and_more = search rules
 
 -- an ACE of 12 bytes, one of 20 where 16 are left, and one of 18
 
-short_ace : reading
-    (hex "010004800000000000000000000000001400000002001800010000000000" ++ hex "0c00000000000100000000000001") ≡ Err
-    (faults.AceSize Dacl)
+ace_of_12_bytes : record {
+  short_ace : reading
+      (hex "010004800000000000000000000000001400000002001800010000000000" ++ hex "0c00000000000100000000000001") ≡ Err
+      (faults.AceSize Dacl);
+  long_ace : reading
+      (hex "010004800000000000000000000000001400000002001800010000000000" ++ hex "1400000000000100000000000001") ≡ Err
+      (faults.AceSize Dacl);
+  ace_of_18_bytes : reading
+      (hex "010004800000000000000000000000001400000002001a00010000000000" ++ hex "12000000000001000000000000010000")
+      ≡ Err
+      (faults.AceSize Dacl);
+  -- the unused flag beside another
+  two_flags : reading
+      (hex "0100108000000000000000001400000000000000020018000100000000601000000000000100000000000000") ≡ Err
+      (faults.AceFlags Sacl);
+}
 unfolding computed
-short_ace = refl
-
-long_ace : reading
-    (hex "010004800000000000000000000000001400000002001800010000000000" ++ hex "1400000000000100000000000001") ≡ Err
-    (faults.AceSize Dacl)
-unfolding computed
-long_ace = refl
-
-ace_of_18_bytes : reading
-    (hex "010004800000000000000000000000001400000002001a00010000000000" ++ hex "12000000000001000000000000010000") ≡ Err
-    (faults.AceSize Dacl)
-unfolding computed
-ace_of_18_bytes = refl
-
--- the unused flag beside another
-two_flags : reading
-    (hex "0100108000000000000000001400000000000000020018000100000000601000000000000100000000000000") ≡ Err
-    (faults.AceFlags Sacl)
-unfolding computed
-two_flags = refl
+ace_of_12_bytes = search rules
 
 -- an ACL of 7 bytes, one that passes the end, and one inside the header
 
-short_acl : reading (hex "01000480000000000000000000000000140000000200070000000000") ≡ Err (faults.Acl Dacl)
+acl_of_7_bytes : record {
+  short_acl : reading (hex "01000480000000000000000000000000140000000200070000000000") ≡ Err (faults.Acl Dacl);
+  long_acl : reading (hex "01000480000000000000000000000000140000000200090000000000") ≡ Err (faults.Acl Dacl);
+  acl_in_the_header : reading (hex "01001080000000000000000013000000000000000200080000000000")
+      ≡ Err (faults.Offset Sacl);
+}
 unfolding computed
-short_acl = refl
-
-long_acl : reading (hex "01000480000000000000000000000000140000000200090000000000") ≡ Err (faults.Acl Dacl)
-unfolding computed
-long_acl = refl
-
-acl_in_the_header : reading (hex "01001080000000000000000013000000000000000200080000000000") ≡ Err (faults.Offset Sacl)
-unfolding computed
-acl_in_the_header = refl
+acl_of_7_bytes = search rules
 
 -- the other pairs of parts
 
-shared_owner_and_sacl : reading (hex "0100108014000000000000001c0000000000000001020000000000050200080000000000") ≡ Err
-    (faults.Overlap Owner Sacl)
+other_pairs_of_parts : record {
+  shared_owner_and_sacl : reading (hex "0100108014000000000000001c0000000000000001020000000000050200080000000000") ≡ Err
+      (faults.Overlap Owner Sacl);
+  shared_group_and_sacl : reading (hex "0100108000000000140000001c0000000000000001020000000000050200080000000000") ≡ Err
+      (faults.Overlap Group Sacl);
+  shared_group_and_dacl : reading (hex "010004800000000014000000000000001c00000001020000000000050200080000000000") ≡ Err
+      (faults.Overlap Group Dacl);
+}
 unfolding computed
-shared_owner_and_sacl = refl
-
-shared_group_and_sacl : reading (hex "0100108000000000140000001c0000000000000001020000000000050200080000000000") ≡ Err
-    (faults.Overlap Group Sacl)
-unfolding computed
-shared_group_and_sacl = refl
-
-shared_group_and_dacl : reading (hex "010004800000000014000000000000001c00000001020000000000050200080000000000") ≡ Err
-    (faults.Overlap Group Dacl)
-unfolding computed
-shared_group_and_dacl = refl
+other_pairs_of_parts = search rules
 
 -- the control word: the names and the bits of MS-DTYP 2.4.6
 
 lettered : List ControlBit → List (List ℕ × ℕ)
 lettered bits = map (λ b. (b.first ∷ b.second ∷ [], b.bit)) bits
 
-named_bits : lettered CONTROL_BITS ≡
-    (codes "OD", 0x1) ∷ (codes "GD", 0x2) ∷ (codes "DP", 0x4) ∷ (codes "DD", 0x8) ∷ (codes "SP", 0x10)
-    ∷ (codes "SD", 0x20)
-    ∷ (codes "DC", 0x100) ∷ (codes "SC", 0x200) ∷ (codes "DI", 0x400) ∷ (codes "SI", 0x800) ∷ (codes "PD", 0x1000)
-    ∷ (codes "PS", 0x2000) ∷ (codes "RM", 0x4000) ∷ (codes "SR", 0x8000) ∷ []
-unfolding lettered
-named_bits = refl
-
 flags : Bool → Bool → Bool → AclFlags
 flags p r i = record { protected = p; auto_inherit_required = r; auto_inherited = i }
 
--- SR, PD, DI and DP
-flags_of_a_protected_dacl : acl_flags which.Dacl 0x9404 ≡ flags true false true
-unfolding flags
-flags_of_a_protected_dacl = refl
-
-no_flags_of_its_sacl : acl_flags which.Sacl 0x9404 ≡ flags false false false
-unfolding flags
-no_flags_of_its_sacl = refl
-
--- PS, SC and SI; PD, DC and DI
-bits_of_the_flags_of_a_sacl : flag_bits which.Sacl (flags true true true) ≡ 0x2a00
-unfolding flags
-bits_of_the_flags_of_a_sacl = refl
-
-bits_of_the_flags_of_a_dacl : flag_bits which.Dacl (flags true true true) ≡ 0x1500
-unfolding flags
-bits_of_the_flags_of_a_dacl = refl
+control_word : record {
+  named_bits : lettered CONTROL_BITS ≡
+      (codes "OD", 0x1) ∷ (codes "GD", 0x2) ∷ (codes "DP", 0x4) ∷ (codes "DD", 0x8) ∷ (codes "SP", 0x10)
+      ∷ (codes "SD", 0x20)
+      ∷ (codes "DC", 0x100) ∷ (codes "SC", 0x200) ∷ (codes "DI", 0x400) ∷ (codes "SI", 0x800) ∷ (codes "PD", 0x1000)
+      ∷ (codes "PS", 0x2000) ∷ (codes "RM", 0x4000) ∷ (codes "SR", 0x8000) ∷ [];
+  -- SR, PD, DI and DP
+  flags_of_a_protected_dacl : acl_flags which.Dacl 0x9404 ≡ flags true false true;
+  no_flags_of_its_sacl : acl_flags which.Sacl 0x9404 ≡ flags false false false;
+  -- PS, SC and SI; PD, DC and DI
+  bits_of_the_flags_of_a_sacl : flag_bits which.Sacl (flags true true true) ≡ 0x2a00;
+  bits_of_the_flags_of_a_dacl : flag_bits which.Dacl (flags true true true) ≡ 0x1500;
+}
+unfolding lettered flags
+control_word = search rules
 
 -- ---- what a builder was given: the descriptor, and its bytes in the order of the calls
 
@@ -549,17 +416,6 @@ given a t = record t { parts = with_ace a t.parts }
 out_of_order : Draft
 out_of_order =
     with_owner administrators (ended (given full_access (opened which.Dacl (with_group everyone nothing_given))))
-
-out_of_order_is_built : built 0 0 out_of_order.parts ≡ record with_dacl { group = Some everyone }
-unfolding out_of_order opened given with_dacl full_access administrators everyone system
-out_of_order_is_built = refl
-
-out_of_order_bytes : built_bytes 0 0 out_of_order
-    ≡ hex "010004803c000000140000000000000020000000010100000000000100000000"
-    ++ hex "02001c000100000000001400ff011f00010100000000000100000000"
-    ++ hex "01020000000000052000000020020000"
-unfolding computed out_of_order opened given full_access administrators everyone
-out_of_order_bytes = refl
 
 -- an owner, a SACL, a null DACL and a group, under every control bit and a resource manager byte
 labelled : Draft
@@ -578,24 +434,6 @@ with_null_is_built : built 0xffff 0xab with_null.parts ≡ record {
 }
 unfolding with_null labelled opened given label everyone system
 with_null_is_built = refl
-
-with_null_bytes : built_bytes 0xffff 0xab with_null
-    ≡ hex "01abffff140000003c0000002000000000000000010100000000000100000000"
-    ++ hex "02001c000100000011001400010000000101000000000010002000000101000000000005"
-    ++ hex "12000000"
-unfolding computed with_null labelled opened given label everyone system
-with_null_bytes = refl
-
--- nothing: neither SP nor DP, whatever was asked for
-nothing_bytes : built_bytes 0x14 0 nothing_given ≡ hex "0100008000000000000000000000000000000000"
-unfolding computed
-nothing_bytes = refl
-
--- an ACL that is open has its header and its ACEs; without one there is no size
-open_sizes : open_size no_parts ∷ open_size (begun which.Sacl no_parts)
-    ∷ open_size (with_ace full_access (begun which.Dacl no_parts)) ∷ [] ≡ 0 ∷ 8 ∷ 28 ∷ []
-unfolding full_access everyone
-open_sizes = refl
 
 -- an ACL can begin where none is open and its part is not given
 first_can_begin : CanBegin which.Sacl no_parts
@@ -616,10 +454,25 @@ given_cannot_begin h = let e = h.1 in cc
 open_cannot_begin : CanBegin which.Dacl (begun which.Sacl no_parts) → ⊥
 open_cannot_begin h = let e = h.0 in cc
 
-presence : is_present acl.Absent ∷ is_present acl.Null ∷ is_present (acl.List []) ∷ [] ≡ false ∷ true ∷ true ∷ []
-presence = refl
-
-closed_is_a_list : closed (with_ace full_access (begun which.Sacl no_parts))
-    ≡ record no_parts { sacl = acl.List (full_access ∷ []) }
-unfolding full_access everyone
-closed_is_a_list = refl
+out_of_order_is_built_and_more : record {
+  out_of_order_is_built : built 0 0 out_of_order.parts ≡ record with_dacl { group = Some everyone };
+  out_of_order_bytes : built_bytes 0 0 out_of_order
+      ≡ hex "010004803c000000140000000000000020000000010100000000000100000000"
+      ++ hex "02001c000100000000001400ff011f00010100000000000100000000"
+      ++ hex "01020000000000052000000020020000";
+  with_null_bytes : built_bytes 0xffff 0xab with_null
+      ≡ hex "01abffff140000003c0000002000000000000000010100000000000100000000"
+      ++ hex "02001c000100000011001400010000000101000000000010002000000101000000000005"
+      ++ hex "12000000";
+  -- nothing: neither SP nor DP, whatever was asked for
+  nothing_bytes : built_bytes 0x14 0 nothing_given ≡ hex "0100008000000000000000000000000000000000";
+  -- an ACL that is open has its header and its ACEs; without one there is no size
+  open_sizes : open_size no_parts ∷ open_size (begun which.Sacl no_parts)
+      ∷ open_size (with_ace full_access (begun which.Dacl no_parts)) ∷ [] ≡ 0 ∷ 8 ∷ 28 ∷ [];
+  presence : is_present acl.Absent ∷ is_present acl.Null ∷ is_present (acl.List []) ∷ [] ≡ false ∷ true ∷ true ∷ [];
+  closed_is_a_list : closed (with_ace full_access (begun which.Sacl no_parts))
+      ≡ record no_parts { sacl = acl.List (full_access ∷ []) };
+}
+unfolding out_of_order opened given with_dacl full_access administrators everyone system computed with_null labelled
+    label
+out_of_order_is_built_and_more = search rules

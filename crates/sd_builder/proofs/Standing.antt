@@ -181,9 +181,7 @@ closed-more t u p g h =
 extent-kept : (b : Builder) (t : DraftParts) (p : Part)
     → get_part p (extents_kept b t) ≡ extent_at (get_part p b.offsets) (given t p)
 extent-kept b t part.Owner = refl
-extent-kept b t part.Group = refl
-extent-kept b t part.Sacl = refl
-extent-kept b t part.Dacl = refl
+extent-kept b t _ = refl
 
 one-more : (bytes new : List ℕ) (b : Builder) (t u : DraftParts) (p : Part) (n : ℕ) (g : Given) → IsOneMore t u p g
     → Kept bytes new → PartStands new (Some n) g → length new ≡ length bytes + given_size g

@@ -16,12 +16,12 @@ ghost use Rattle.sd_builder.specs.Draft.{open_size, sid_for, with_ace, with_acl,
 ghost use Rattle.sd_builder.specs.Draft.{with_owner_or_group};
 ghost use Rattle.sd_view.specs.declared.acl_part.AclPart.TheVariants as acl;
 
+use crate::acl_layout::acl_header;
 use crate::append::{append_ace, append_parts, append_sid_at, plain_size};
 use crate::changed::{ChangedAce, append_changed};
 use crate::trustee::Trustee;
 use sd_ace::{Ace, AceHead, AceParts};
 use sd_buffer::SdBuf;
-use sd_layout::acl_header;
 use sd_parts::{
     ACL_HEADER_SIZE, HEADER_SIZE, MOST_ACL_SIZE, Part, Parts, SidPart, Which, control_of, header,
 };

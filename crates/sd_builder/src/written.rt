@@ -3,8 +3,8 @@
 ghost use Rattle.std.specs.Prelude.{◌≡◌};
 ghost use Rattle.sd_view.specs.Layout.{layout};
 
+use crate::layout::put_layout;
 use sd_buffer::SdBuf;
-use sd_layout::put_layout;
 use sd_sink::{Sink, SinkFault};
 use sd_view::SdView;
 

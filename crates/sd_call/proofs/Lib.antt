@@ -1,3 +1,4 @@
 mod Rows
 pub mod WalkLemmas
 mod WalkRows
+pub mod laws

@@ -1,6 +1,6 @@
 -- The numbers that a caller sees, as include/sdtool.h writes them out, and what a number means.
 use Rattle.std.proofs.Common.{◌≡◌, inl, inr, ℕ, List, [], ◌∷◌, length, map, take, Some, None, Ok, Err, codes, refl}
-use Rattle.std.proofs.Common.{replicate, arith}
+use Rattle.std.proofs.Common.{replicate, arith, rules}
 use Rattle.std.specs.List.{flat_map}
 use Rattle.sd_text.specs.Chains.{fault_as}
 use Rattle.sd_faults.specs.declared.line_fault.LineFault.TheVariants as line
@@ -31,65 +31,12 @@ arguments_of_checks = (refl, refl, refl, refl, refl, refl)
 other_arguments : (argument_number which.Creator ≡ 7) × (argument_number which.Owner ≡ 8)
     × (argument_number which.Group ≡ 9) × (argument_number which.Kind ≡ 10) × (argument_number which.Fault ≡ 11)
     × (argument_number which.Sid ≡ 12) × (argument_number which.Sacl ≡ 13) × (argument_number which.Dacl ≡ 14)
-    × (argument_number which.Token ≡ 15)
-other_arguments = (refl, refl, refl, refl, refl, refl, refl, refl, refl)
+    × (argument_number which.Token ≡ 15) × (argument_number which.Changes ≡ 16)
+other_arguments = (refl, refl, refl, refl, refl, refl, refl, refl, refl, refl)
 
--- struct sdtool_outcome
-third_sid : failed (call.Argument which.Sids 3)
-    ≡ record { fault = 70; part = 0; other_part = 0; argument = 2; entry = 3; length = 0 }
-third_sid = refl
-
-shared_byte : failed (call.Line (line.Sd (sd.Overlap part.Sacl part.Dacl)))
-    ≡ record { fault = 14; part = 3; other_part = 4; argument = 0; entry = 0; length = 0 }
-shared_byte = refl
-
--- A request is no argument.
-nothing_is_asked : failed (call.Ask ask.EmptyRequest)
-    ≡ record { fault = 50; part = 0; other_part = 0; argument = 0; entry = 0; length = 0 }
-nothing_is_asked = refl
-
-without_fault : done 7 ≡ record { fault = 0; part = 0; other_part = 0; argument = 0; entry = 0; length = 7 }
-without_fault = refl
-
-no_room : too_small 7 ≡ record { fault = 71; part = 0; other_part = 0; argument = 0; entry = 0; length = 7 }
-no_room = refl
-
-refused_malloc : no_memory ≡ record { fault = 72; part = 0; other_part = 0; argument = 0; entry = 0; length = 0 }
-refused_malloc = refl
-
--- enum sdtool_mapping: files, keys and directory objects, and no other number
-of_files : mapping_in 0 ≡ Ok (record { read = 0x120089; write = 0x120116; execute = 0x1200a0; all = 0x1f01ff })
-of_files = refl
-
-of_keys : mapping_in 1 ≡ Ok (record { read = 0x20019; write = 0x20006; execute = 0x20019; all = 0xf003f })
-of_keys = refl
-
-of_directories : mapping_in 2 ≡ Ok (record { read = 0x20094; write = 0x20028; execute = 0x20004; all = 0xf01ff })
-of_directories = refl
-
-of_nothing : mapping_in 3 ≡ Err (call.Argument which.Mapping 0)
-of_nothing = refl
-
--- a number is not cut to 8 or 16 bits
-of_wide_numbers : map mapping_in (256 ∷ 257 ∷ 258 ∷ 0x1_0000 ∷ 0x1_0001 ∷ 0xffff_ffff ∷ [])
-    ≡ replicate 6 (Err (call.Argument which.Mapping 0))
-of_wide_numbers = refl
-
--- A SID takes all bytes of its argument: S-1-1-0, with a byte behind it, and cut.
-everyone : sid_in which.Owner (1 ∷ 1 ∷ 0 ∷ 0 ∷ 0 ∷ 0 ∷ 0 ∷ 1 ∷ 0 ∷ 0 ∷ 0 ∷ 0 ∷ [])
-    ≡ Ok (record { authority = 1; subs = 0 ∷ [] })
-unfolding sid_at
-everyone = refl
-
-byte_behind : sid_in which.Owner (1 ∷ 1 ∷ 0 ∷ 0 ∷ 0 ∷ 0 ∷ 0 ∷ 1 ∷ 0 ∷ 0 ∷ 0 ∷ 0 ∷ 0 ∷ [])
-    ≡ Err (call.Argument which.Owner 0)
-unfolding sid_at
-byte_behind = refl
-
-cut_short : sid_in which.Group (1 ∷ 1 ∷ 0 ∷ 0 ∷ 0 ∷ 0 ∷ 0 ∷ 1 ∷ 0 ∷ 0 ∷ 0 ∷ [])
-    ≡ Err (call.Argument which.Group 0)
-unfolding sid_at
-cut_short = refl
+later_arguments : (argument_number which.Options ≡ 17) × (argument_number which.Ace ≡ 18)
+    × (argument_number which.Flags ≡ 19) × (argument_number which.Guid ≡ 20)
+later_arguments = (refl, refl, refl, refl)
 
 none_and_empty : (optional_sid_in which.Domain [] ≡ Ok None)
     × (sid_in which.Owner [] ≡ Err (call.Argument which.Owner 0))
@@ -113,11 +60,6 @@ domain_without_room : domain_in longest_domain ≡ Ok (Some (record {
 unfolding optional_sid_in sid_at
 domain_without_room = refl
 
--- and so is the shortest, S-1-5
-shortest_domain : domain_in (1 ∷ 0 ∷ 0 ∷ 0 ∷ 0 ∷ 0 ∷ 0 ∷ 5 ∷ []) ≡ Ok (Some (record { authority = 5; subs = [] }))
-unfolding optional_sid_in sid_at
-shortest_domain = refl
-
 -- SDTOOL_MOST_BYTES: so many bytes are read, and one byte more is too long, whatever the bytes are
 longest : (bytes : List ℕ) → length bytes ≡ 131226
     → descriptor_in bytes ≡ fault_as (λ fault. call.Line (line.Sd fault)) (reading bytes)
@@ -137,11 +79,6 @@ names = (refl, refl, refl, refl)
 no_names : (name_of 0 ≡ Err (call.Argument which.Fault 0)) × (name_of 74 ≡ Err (call.Argument which.Fault 0))
 unfolding name_of
 no_names = (refl, refl)
-
--- neither is the number of a fault
-wide_names : map name_of (256 ∷ 257 ∷ 0x1_0001 ∷ 0xffff_ffff ∷ []) ≡ replicate 4 (Err (call.Argument which.Fault 0))
-unfolding name_of
-wide_names = refl
 
 -- Two bytes: an output of two has room for them, and one of a single byte has not.
 abbrev two : List ℕ
@@ -180,3 +117,38 @@ stays_after_a_fault new outcome h = h
 
 filled : Fills 2 two (0 ∷ 0 ∷ []) two
 filled = record { count = refl; within = omega arith; front = refl }
+
+third_sid_and_more : record {
+  -- struct sdtool_outcome
+  third_sid : failed (call.Argument which.Sids 3)
+      ≡ record { fault = 70; part = 0; other_part = 0; argument = 2; entry = 3; length = 0 };
+  shared_byte : failed (call.Line (line.Sd (sd.Overlap part.Sacl part.Dacl)))
+      ≡ record { fault = 14; part = 3; other_part = 4; argument = 0; entry = 0; length = 0 };
+  -- A request is no argument.
+  nothing_is_asked : failed (call.Ask ask.EmptyRequest)
+      ≡ record { fault = 50; part = 0; other_part = 0; argument = 0; entry = 0; length = 0 };
+  without_fault : done 7 ≡ record { fault = 0; part = 0; other_part = 0; argument = 0; entry = 0; length = 7 };
+  no_room : too_small 7 ≡ record { fault = 71; part = 0; other_part = 0; argument = 0; entry = 0; length = 7 };
+  refused_malloc : no_memory ≡ record { fault = 72; part = 0; other_part = 0; argument = 0; entry = 0; length = 0 };
+  -- enum sdtool_mapping: files, keys and directory objects, and no other number
+  of_files : mapping_in 0 ≡ Ok (record { read = 0x120089; write = 0x120116; execute = 0x1200a0; all = 0x1f01ff });
+  of_keys : mapping_in 1 ≡ Ok (record { read = 0x20019; write = 0x20006; execute = 0x20019; all = 0xf003f });
+  of_directories : mapping_in 2 ≡ Ok (record { read = 0x20094; write = 0x20028; execute = 0x20004; all = 0xf01ff });
+  of_nothing : mapping_in 3 ≡ Err (call.Argument which.Mapping 0);
+  -- a number is not cut to 8 or 16 bits
+  of_wide_numbers : map mapping_in (256 ∷ 257 ∷ 258 ∷ 0x1_0000 ∷ 0x1_0001 ∷ 0xffff_ffff ∷ [])
+      ≡ replicate 6 (Err (call.Argument which.Mapping 0));
+  -- A SID takes all bytes of its argument: S-1-1-0, with a byte behind it, and cut.
+  everyone : sid_in which.Owner (1 ∷ 1 ∷ 0 ∷ 0 ∷ 0 ∷ 0 ∷ 0 ∷ 1 ∷ 0 ∷ 0 ∷ 0 ∷ 0 ∷ [])
+      ≡ Ok (record { authority = 1; subs = 0 ∷ [] });
+  byte_behind : sid_in which.Owner (1 ∷ 1 ∷ 0 ∷ 0 ∷ 0 ∷ 0 ∷ 0 ∷ 1 ∷ 0 ∷ 0 ∷ 0 ∷ 0 ∷ 0 ∷ [])
+      ≡ Err (call.Argument which.Owner 0);
+  cut_short : sid_in which.Group (1 ∷ 1 ∷ 0 ∷ 0 ∷ 0 ∷ 0 ∷ 0 ∷ 1 ∷ 0 ∷ 0 ∷ 0 ∷ [])
+      ≡ Err (call.Argument which.Group 0);
+  -- and so is the shortest, S-1-5
+  shortest_domain : domain_in (1 ∷ 0 ∷ 0 ∷ 0 ∷ 0 ∷ 0 ∷ 0 ∷ 5 ∷ []) ≡ Ok (Some (record { authority = 5; subs = [] }));
+  -- neither is the number of a fault
+  wide_names : map name_of (256 ∷ 257 ∷ 0x1_0001 ∷ 0xffff_ffff ∷ []) ≡ replicate 4 (Err (call.Argument which.Fault 0));
+}
+unfolding sid_at optional_sid_in name_of
+third_sid_and_more = search rules

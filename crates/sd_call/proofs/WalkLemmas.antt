@@ -1,7 +1,6 @@
 -- Where the ACE behind another one lies.
-use Rattle.std.proofs.Common.{◌≡◌, inl, inr, ℕ, ◌-◌, List, [], length, drop, refl, ap, arith, length-drop}
+use Rattle.std.proofs.Common.{◌≡◌, inl, inr, ℕ, ◌-◌, List, [], length, drop, refl, ap, arith, length-drop, nat_lt}
 use Rattle.std.proofs.lemmas.Bool.{cases_Bool, ltb-false, ltb-true}
-use Rattle.std.proofs.Common.{nat_lt}
 use Rattle.std.proofs.lemmas.List.{drop_all}
 use Rattle.sd_acl_view.specs.AclReading.{ace_fault}
 use Rattle.sd_call.specs.Walk.{front_found}

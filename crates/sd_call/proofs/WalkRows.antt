@@ -1,6 +1,6 @@
 -- Parts and ACEs whose places were counted by hand (MS-DTYP 2.4.6, 2.4.5 and 2.4.4).
-use Rattle.std.proofs.Common.{◌≡◌, [], ◌∷◌, ◌++◌, length, true, false, Some, None, Ok, Err, refl}
-use Rattle.std.specs.Prelude.{List, ℕ}
+use Rattle.std.proofs.Common.{◌≡◌, [], ◌∷◌, ◌++◌, length, true, false, Some, None, Ok, Err, refl, rules}
+use Rattle.std.specs.Prelude.{List, ℕ, drop, take}
 use Rattle.sd_ace.specs.Ace.{AccessControlEntry}
 use Rattle.sd_parts.specs.declared.part.Part.TheVariants as part
 use Rattle.sd_kinds.specs.declared.kinds.AceKind.TheVariants as kinds
@@ -18,7 +18,8 @@ use Rattle.sd_call.specs.Arguments.{descriptor_in}
 use Rattle.sd_call.specs.declared.outcome.CallFault.TheVariants as call
 use Rattle.sd_call.specs.Contents.{contents_in, refused}
 use Rattle.sd_call.specs.Places.{nowhere}
-use Rattle.sd_call.specs.Walk.{begins_with_header, fault_number, found, front_found, next, steps_to}
+use Rattle.sd_call.specs.Walk.{at_front, begins_with_header, fault_number, found, front_found, next, nothing_found}
+use Rattle.sd_call.specs.Walk.{steps_to}
 use Rattle.sd_call.specs.declared.ace.AceFound.{AceFound}
 use Rattle.sd_call.specs.declared.contents.AclPlace.{AclPlace}
 use Rattle.sd_call.specs.declared.contents.Contents.{Contents}
@@ -33,17 +34,7 @@ acl = (2 ∷ 0 ∷ 48 ∷ 0 ∷ 2 ∷ 0 ∷ 0 ∷ 0 ∷ []) ++ (0 ∷ 2 ∷ 20 �
     ++ (1 ∷ 0 ∷ 20 ∷ 0 ∷ 2 ∷ 0 ∷ 0 ∷ 0 ∷ []) ++ everyone
 
 abbrev start : AceFound
-start = record {
-  fault = 0;
-  mask = 0;
-  number = 0;
-  kind = 0;
-  flags = 0;
-  place = nowhere;
-  object_type = nowhere;
-  inherited_object_type = nowhere;
-  sid = nowhere;
-}
+start = nothing_found
 
 abbrev first : AceFound
 first = record start {
@@ -63,62 +54,21 @@ second = record start {
   sid = record { offset = 36; size = 12 };
 }
 
-begins : next acl start ≡ Ok (Some first)
-unfolding next begins_with_header front_found sid_at u16_at u32_at ace_fault extent_fault kind_of sid_offset_in kind_in
-    kind_code object_in
-    inherited_in kind_entry guid_if announces_object announces_inherited
-begins = refl
-
-goes_on : next acl first ≡ Ok (Some second)
-unfolding next begins_with_header front_found sid_at u16_at u32_at ace_fault extent_fault kind_of sid_offset_in kind_in
-    kind_code object_in
-    inherited_in kind_entry guid_if announces_object announces_inherited
-goes_on = refl
-
-ends : next acl second ≡ Ok None
-unfolding next begins_with_header front_found u16_at
-ends = refl
-
 -- a size that says one byte less than the header has, and a revision between the two
 no_header : (next (2 ∷ 0 ∷ 7 ∷ 0 ∷ 0 ∷ 0 ∷ 0 ∷ 0 ∷ []) start ≡ Err (sd.Acl part.Dacl))
     × (next (3 ∷ 0 ∷ 8 ∷ 0 ∷ 0 ∷ 0 ∷ 0 ∷ 0 ∷ []) start ≡ Err (sd.Acl part.Dacl))
 unfolding next begins_with_header u16_at
 no_header = (refl, refl)
 
--- a size of 7 also where a count stands behind it, a size of a byte more than there are, and 7 bytes
-size_has_two_bytes : next (2 ∷ 0 ∷ 7 ∷ 0 ∷ 1 ∷ 0 ∷ 0 ∷ 0 ∷ []) start ≡ Err (sd.Acl part.Dacl)
-unfolding next begins_with_header u16_at
-size_has_two_bytes = refl
-
 cut_acl : (next (2 ∷ 0 ∷ 9 ∷ 0 ∷ 0 ∷ 0 ∷ 0 ∷ 0 ∷ []) start ≡ Err (sd.Acl part.Dacl))
     × (next (2 ∷ 0 ∷ 8 ∷ 0 ∷ 0 ∷ 0 ∷ 0 ∷ []) start ≡ Err (sd.Acl part.Dacl))
 unfolding next begins_with_header u16_at
 cut_acl = (refl, refl)
 
--- the two bytes behind the count mean nothing
-count_has_two_bytes : next (2 ∷ 0 ∷ 8 ∷ 0 ∷ 0 ∷ 0 ∷ 1 ∷ 0 ∷ []) start ≡ Ok None
-unfolding next begins_with_header u16_at
-count_has_two_bytes = refl
-
 empty : (next (4 ∷ 0 ∷ 8 ∷ 0 ∷ 0 ∷ 0 ∷ 0 ∷ 0 ∷ []) start ≡ Ok None)
     × (next (2 ∷ 0 ∷ 8 ∷ 0 ∷ 0 ∷ 0 ∷ 0 ∷ 0 ∷ 5 ∷ []) start ≡ Ok None)
 unfolding next begins_with_header u16_at
 empty = (refl, refl)
-
--- an ACL that says it has one ACE, and has none
-missing : next (2 ∷ 0 ∷ 8 ∷ 0 ∷ 1 ∷ 0 ∷ 0 ∷ 0 ∷ []) start ≡ Err (sd.AceSize part.Dacl)
-unfolding next begins_with_header front_found sid_at u16_at u32_at ace_fault
-missing = refl
-
-steps : steps_to start (Ok (Some first)) ≡ (true, first)
-steps = refl
-
--- the fault is told, and the walk stays where it is
-stays : steps_to second (Err (sd.AceSize part.Dacl)) ≡ (false, record second { fault = 11 })
-stays = refl
-
-stops : steps_to (record second { fault = 11 }) (Ok None) ≡ (false, second)
-stops = refl
 
 abbrev guid : List ℕ
 guid = 0 ∷ 1 ∷ 2 ∷ 3 ∷ 4 ∷ 5 ∷ 6 ∷ 7 ∷ 8 ∷ 9 ∷ 10 ∷ 11 ∷ 12 ∷ 13 ∷ 14 ∷ 15 ∷ []
@@ -157,8 +107,31 @@ inherited_alone : found 1 (record { offset = 8; size = 40 }) (record object_ace 
 unfolding kind_code kind_entry
 inherited_alone = refl
 
-nothing : nowhere ≡ record { offset = 0; size = 0 }
-nothing = refl
+begins_and_more : record {
+  begins : next acl start ≡ Ok (Some first);
+  goes_on : next acl first ≡ Ok (Some second);
+  ends : next acl second ≡ Ok None;
+  -- a size of 7 also where a count stands behind it, a size of a byte more than there are, and 7 bytes
+  size_has_two_bytes : next (2 ∷ 0 ∷ 7 ∷ 0 ∷ 1 ∷ 0 ∷ 0 ∷ 0 ∷ []) start ≡ Err (sd.Acl part.Dacl);
+  -- the two bytes behind the count mean nothing
+  count_has_two_bytes : next (2 ∷ 0 ∷ 8 ∷ 0 ∷ 0 ∷ 0 ∷ 1 ∷ 0 ∷ []) start ≡ Ok None;
+  -- an ACL that says it has one ACE, and has none
+  missing : next (2 ∷ 0 ∷ 8 ∷ 0 ∷ 1 ∷ 0 ∷ 0 ∷ 0 ∷ []) start ≡ Err (sd.AceSize part.Dacl);
+  steps : steps_to start (Ok (Some first)) ≡ (true, first);
+  -- the fault is told, and the walk stays where it is
+  stays : steps_to second (Err (sd.AceSize part.Dacl)) ≡ (false, record second { fault = 11 });
+  stops : steps_to (record second { fault = 11 }) (Ok None) ≡ (false, second);
+  nothing : nowhere ≡ record { offset = 0; size = 0 };
+  -- the same ACEs without the header of an ACL: the first one alone is read, and nothing of one that is cut
+  at_the_front : at_front (drop 8 acl)
+      ≡ record first { place = record { offset = 0; size = 20 }; sid = record { offset = 8; size = 12 } };
+  cut : at_front (take 19 (drop 8 acl)) ≡ record start { fault = 11 };
+  empty : at_front [] ≡ record start { fault = 11 };
+  of_no_kind : at_front (9 ∷ drop 9 acl) ≡ record start { fault = 12 };
+}
+unfolding next begins_with_header front_found sid_at u16_at u32_at ace_fault extent_fault kind_of sid_offset_in kind_in
+    kind_code object_in inherited_in kind_entry guid_if announces_object announces_inherited
+begins_and_more = search rules
 
 -- ---- whole descriptors
 
@@ -170,9 +143,14 @@ list state count offset size = record { state = state; ace_count = count; place 
 
 abbrev nothing_but : ℕ → ℕ → ℕ → Contents
 nothing_but fault_number first_part second_part = record {
-  fault = fault_number;
-  part = first_part;
-  other_part = second_part;
+  outcome = record {
+    fault = fault_number;
+    part = first_part;
+    other_part = second_part;
+    argument = 0;
+    entry = 0;
+    length = 0;
+  };
   control = 0;
   resource_manager = 0;
   owner = place 0 0;
@@ -224,27 +202,22 @@ spare_behind_a_sid : (next spare start ≡ Ok (Some (record first { place = plac
 unfolding next begins_with_header front_found computed spare
 spare_behind_a_sid = (refl, refl, refl)
 
--- So does an ACL: that one stands at 20, and the owner behind its spare bytes.
-spare_in_an_acl : contents_in ((1 ∷ 0 ∷ 4 ∷ 0x80 ∷ 76 ∷ 0 ∷ 0 ∷ 0 ∷ 0 ∷ 0 ∷ 0 ∷ 0 ∷ 0 ∷ 0 ∷ 0 ∷ 0 ∷ 20 ∷ 0 ∷ 0 ∷ 0 ∷ [])
-    ++ spare ++ system) ≡ record no_parts { control = 0x8004; owner = place 76 12; dacl = list 2 2 20 56 }
-unfolding computed spare system
-spare_in_an_acl = refl
-
--- a null DACL, and nothing else: its present bit is set, and its offset is 0
-null_dacl : contents_in (1 ∷ 0 ∷ 4 ∷ 0x80 ∷ 0 ∷ 0 ∷ 0 ∷ 0 ∷ 0 ∷ 0 ∷ 0 ∷ 0 ∷ 0 ∷ 0 ∷ 0 ∷ 0 ∷ 0 ∷ 0 ∷ 0 ∷ 0 ∷ [])
-    ≡ record no_parts { control = 0x8004; dacl = list 1 0 0 0 }
-unfolding computed
-null_dacl = refl
-
--- After a fault all else is 0.
-no_descriptor : contents_in [] ≡ nothing_but 5 0 0
-unfolding computed
-no_descriptor = refl
-
 -- SDTOOL_MOST_BYTES: one byte more is too long, whatever the bytes are
 too_many_bytes : (bytes : List ℕ) → length bytes ≡ 131227 → contents_in bytes ≡ nothing_but 1 0 0
 unfolding descriptor_in
 too_many_bytes bytes h = rw h refl
 
-shared_byte : refused (call.Line (line.Sd (sd.Overlap part.Sacl part.Dacl))) ≡ nothing_but 14 3 4
-shared_byte = refl
+whole_descriptors : record {
+  -- So does an ACL: that one stands at 20, and the owner behind its spare bytes.
+  spare_in_an_acl : contents_in ((1 ∷ 0 ∷ 4 ∷ 0x80 ∷ 76 ∷ 0 ∷ 0 ∷ 0 ∷ 0 ∷ 0 ∷ 0 ∷ 0 ∷ 0 ∷ 0 ∷ 0 ∷ 0 ∷ 20 ∷ 0 ∷ 0 ∷ 0
+      ∷ [])
+      ++ spare ++ system) ≡ record no_parts { control = 0x8004; owner = place 76 12; dacl = list 2 2 20 56 };
+  -- a null DACL, and nothing else: its present bit is set, and its offset is 0
+  null_dacl : contents_in (1 ∷ 0 ∷ 4 ∷ 0x80 ∷ 0 ∷ 0 ∷ 0 ∷ 0 ∷ 0 ∷ 0 ∷ 0 ∷ 0 ∷ 0 ∷ 0 ∷ 0 ∷ 0 ∷ 0 ∷ 0 ∷ 0 ∷ 0 ∷ [])
+      ≡ record no_parts { control = 0x8004; dacl = list 1 0 0 0 };
+  -- After a fault all else is 0.
+  no_descriptor : contents_in [] ≡ nothing_but 5 0 0;
+  shared_byte : refused (call.Line (line.Sd (sd.Overlap part.Sacl part.Dacl))) ≡ nothing_but 14 3 4;
+}
+unfolding computed spare system
+whole_descriptors = search rules

@@ -2,8 +2,7 @@
 use Rattle.std.specs.Prelude.{ℕ, ◌-◌, List, length, Some, None, Result, Ok, Err}
 use Rattle.sd_parts.specs.declared.part.Parts.{Parts}
 use Rattle.sd_call.specs.Arguments.{descriptor_in}
-use Rattle.sd_faults.specs.Faults.{part_number}
-use Rattle.sd_call.specs.Outcomes.{named_parts, number}
+use Rattle.sd_call.specs.Outcomes.{done, failed}
 use Rattle.sd_call.specs.declared.outcome.CallFault.{CallFault}
 use Rattle.sd_view.specs.Descriptor.{Descriptor, Extent, extents_of}
 use Rattle.sd_view.specs.declared.acl_part.AclPart.{AclPart}
@@ -34,9 +33,7 @@ acl_place extent part = record { state = acl_state part; ace_count = ace_count p
 -- a descriptor whose parts lie there
 abbrev pub contents_of : Parts Extent → Descriptor → Contents
 contents_of extents d = record {
-  fault = 0;
-  part = 0;
-  other_part = 0;
+  outcome = done 0;
   control = d.control;
   resource_manager = d.rm;
   owner = place_of extents.owner;
@@ -48,9 +45,7 @@ contents_of extents d = record {
 -- the bytes show no descriptor
 abbrev pub refused : CallFault → Contents
 refused fault = record {
-  fault = number fault;
-  part = part_number (named_parts fault).0;
-  other_part = part_number (named_parts fault).1;
+  outcome = failed fault;
   control = 0;
   resource_manager = 0;
   owner = nowhere;

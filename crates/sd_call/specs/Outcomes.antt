@@ -47,6 +47,10 @@ argument_number which.Sacl = 13
 argument_number which.Dacl = 14
 argument_number which.Token = 15
 argument_number which.Changes = 16
+argument_number which.Options = 17
+argument_number which.Ace = 18
+argument_number which.Flags = 19
+argument_number which.Guid = 20
 
 -- the argument that a fault is about, as a number; 0 where it is about none
 abbrev pub argument_of : CallFault → ℕ

@@ -83,3 +83,22 @@ abbrev pub steps_to : AceFound → Result (Option AceFound) SdFault → Bool × 
 steps_to at (Ok (Some ace)) = (true, ace)
 steps_to at (Ok None) = (false, record at { fault = 0 })
 steps_to at (Err fault) = (false, record at { fault = fault_number fault })
+
+-- 4. The first ACE of some bytes, as a walk that begins there would find it.
+
+-- what a walk begins with
+abbrev pub nothing_found : AceFound
+nothing_found = record {
+  fault = 0;
+  mask = 0;
+  number = 0;
+  kind = 0;
+  flags = 0;
+  place = nowhere;
+  object_type = nowhere;
+  inherited_object_type = nowhere;
+  sid = nowhere;
+}
+
+abbrev pub at_front : List ℕ → AceFound
+at_front bytes = (steps_to nothing_found (some_found (front_found 1 0 bytes))).1

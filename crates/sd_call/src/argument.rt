@@ -32,6 +32,14 @@ pub enum Argument {
     Token,
     /// The changes of an edit.
     Changes,
+    /// The options of a request, or of who asks.
+    Options,
+    /// The bytes of an ACE.
+    Ace,
+    /// The flags of an ACE.
+    Flags,
+    /// A GUID.
+    Guid,
 }
 
 /// The number of an argument.
@@ -55,5 +63,9 @@ pub fn argument_number(argument: Argument) -> u32
         Argument::Dacl => 14,
         Argument::Token => 15,
         Argument::Changes => 16,
+        Argument::Options => 17,
+        Argument::Ace => 18,
+        Argument::Flags => 19,
+        Argument::Guid => 20,
     }
 }

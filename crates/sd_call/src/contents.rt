@@ -1,10 +1,9 @@
 //! What is found in a descriptor (MS-DTYP 2.4.6): its header, and where its parts lie.
 
 ghost use Rattle.std.specs.Prelude.{◌≡◌};
-ghost use Rattle.sd_call.specs.Contents.{ace_count, acl_place, acl_state, contents_in, contents_of, place_of};
-ghost use Rattle.sd_call.specs.Contents.{refused};
+ghost use Rattle.sd_call.specs.Contents.{ace_count, acl_place, acl_state, contents_in, contents_of, place_of, refused};
 
-use crate::outcome::{CallFault, failed};
+use crate::outcome::{CallFault, Outcome, done, failed};
 use crate::place::{Place, nowhere};
 use sd_faults::LineFault;
 use sd_parts::{CAPACITY, Parts};
@@ -24,12 +23,8 @@ pub struct AclPlace {
 #[repr(C)]
 #[derive(Clone, Copy)]
 pub struct Contents {
-    /// 0, or the number of the fault.
-    pub fault: u32,
-    /// The part that the fault names, or 0.
-    pub part: u32,
-    /// The second part that the fault names, or 0.
-    pub other_part: u32,
+    /// Its length is 0.
+    pub outcome: Outcome,
     /// The control word.
     pub control: u16,
     pub resource_manager: u8,
@@ -57,11 +52,8 @@ pub fn parts_of(bytes: &[u8]) -> Contents
 fn refused(fault: CallFault) -> Contents
     ensures { result ≡ refused fault }
 {
-    let outcome = failed(fault);
     Contents {
-        fault: outcome.fault.value(),
-        part: outcome.part,
-        other_part: outcome.other_part,
+        outcome: failed(fault),
         control: 0,
         resource_manager: 0,
         owner: nowhere(),
@@ -76,9 +68,7 @@ fn contents_of(view: &SdView<'_>, extents: &Parts<Extent>) -> Contents
     ensures { result ≡ contents_of extents.now view.now }
 {
     Contents {
-        fault: 0,
-        part: 0,
-        other_part: 0,
+        outcome: done(0),
         control: view.control(),
         resource_manager: view.rm(),
         owner: place_of(extents.owner),

@@ -21,7 +21,7 @@ pub use contents::{AclPlace, Contents, parts_of};
 pub use counter::Counter;
 pub use fault_names::fault_text;
 pub use input::{descriptor_in, domain_in, mapping_in, optional_sid_in, sid_in};
-pub use next::next_ace;
+pub use next::{next_ace, read_ace};
 pub use outcome::{CallFault, FaultNumber, Outcome, done, failed, no_memory, too_small};
 pub use output::{Front, give, write_at};
 pub use place::Place;

@@ -8,7 +8,7 @@ use crate::argument::{Argument, argument_number};
 use sd_check::AskFault;
 use sd_edit::ChangeFault;
 use sd_faults::{LineFault, part_number};
-use sd_memory::NoMemory;
+use sd_sink::NoMemory;
 use sd_view::Part;
 use std::marker::Model;
 

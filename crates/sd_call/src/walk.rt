@@ -40,9 +40,9 @@ fn found_behind(extent: &[u8], at: &AceFound) -> Result<AceFound, SdFault>
     front_found(at.number + 1, extent.len() - left.len(), left)
 }
 
-// The ACE at the front of some bytes that lie at an offset.
+/// The ACE at the front of some bytes that lie at an offset.
 #[tactic(auto, unfolding(crate::specs::Walk::front_found))]
-fn front_found(number: u32, offset: usize, bytes: &[u8]) -> Result<AceFound, SdFault>
+pub fn front_found(number: u32, offset: usize, bytes: &[u8]) -> Result<AceFound, SdFault>
     requires { offset < 2 ^ 32 }
     ensures { result ≡ front_found number offset bytes.now }
 {

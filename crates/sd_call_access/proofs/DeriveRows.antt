@@ -1,6 +1,6 @@
 -- The arguments of a derivation, what it gives and what is told of its origins, by hand from include/sdtool.h (MS-DTYP
 -- 2.4.6 and 2.5.3.4).
-use Rattle.std.proofs.Common.{◌≡◌, ℕ, List, [], ◌∷◌, length, map, Some, None, Ok, Err, refl, replicate}
+use Rattle.std.proofs.Common.{◌≡◌, ℕ, List, [], ◌∷◌, length, map, Some, None, Ok, Err, refl, replicate, rules}
 use Rattle.sd_sid.specs.Sid.{sid_at}
 use Rattle.sd_rights.specs.Mapping.{file_mapping, key_mapping}
 use Rattle.sd_inherit.specs.Derived.{derive_fault, derived}
@@ -29,47 +29,17 @@ targets : (target_in 0 ≡ Ok target.File) × (target_in 1 ≡ Ok target.Contain
     × (target_in 2 ≡ Err (call.Argument which.Kind 0))
 targets = (refl, refl, refl)
 
--- a number is not cut to 8 or 16 bits
-wide_targets : map target_in (256 ∷ 257 ∷ 0x1_0000 ∷ 0x1_0001 ∷ 0xffff_ffff ∷ [])
-    ≡ replicate 5 (Err (call.Argument which.Kind 0))
-wide_targets = refl
-
-no_creator : creator_in [] ≡ Ok None
-unfolding creator_in
-no_creator = refl
-
-wrong_creator : creator_in (1 ∷ []) ≡ Err (call.Argument which.Creator 0)
-unfolding creator_in descriptor_in reading fault header_fault
-wrong_creator = refl
-
 -- SDTOOL_MOST_BYTES: one byte more is no descriptor, whatever the bytes are
 creator_of_too_many_bytes : (bytes : List ℕ) → length bytes ≡ 131227
     → creator_in bytes ≡ Err (call.Argument which.Creator 0)
 unfolding creator_in descriptor_in
 creator_of_too_many_bytes bytes h = rw h refl
 
--- The arguments are looked at in this order: kind, mapping, owner, group.
-kind_first : plan_in 2 3 [] [] ≡ Err (call.Argument which.Kind 0)
-unfolding plan_in
-kind_first = refl
-
-mapping_second : plan_in 1 3 [] [] ≡ Err (call.Argument which.Mapping 0)
-unfolding plan_in
-mapping_second = refl
-
-owner_third : plan_in 1 2 [] [] ≡ Err (call.Argument which.Owner 0)
-unfolding plan_in sid_at
-owner_third = refl
-
 abbrev everyone : List ℕ
 everyone = 1 ∷ 1 ∷ 0 ∷ 0 ∷ 0 ∷ 0 ∷ 0 ∷ 1 ∷ 0 ∷ 0 ∷ 0 ∷ 0 ∷ []
 
 abbrev system : List ℕ
 system = 1 ∷ 1 ∷ 0 ∷ 0 ∷ 0 ∷ 0 ∷ 0 ∷ 5 ∷ 18 ∷ 0 ∷ 0 ∷ 0 ∷ []
-
-group_last : plan_in 0 0 everyone [] ≡ Err (call.Argument which.Group 0)
-unfolding plan_in sid_at
-group_last = refl
 
 plan : plan_in 1 1 everyone system ≡ Ok (record {
   target = target.Container;
@@ -79,15 +49,6 @@ plan : plan_in 1 1 everyone system ≡ Ok (record {
 })
 unfolding plan_in sid_at
 plan = refl
-
--- Then the creator's descriptor is looked at, and the container's last.
-creator_before_parent : input_in [] (1 ∷ []) everyone system 1 1 ≡ Err (call.Argument which.Creator 0)
-unfolding input_in plan_in sid_at creator_in descriptor_in reading fault header_fault
-creator_before_parent = refl
-
-parent_last : input_in [] [] everyone system 1 1 ≡ Err (call.Line (line.Sd sd.Short))
-unfolding input_in plan_in sid_at creator_in descriptor_in reading fault header_fault
-parent_last = refl
 
 parent_of_too_many_bytes : (bytes : List ℕ) → length bytes ≡ 131227
     → input_in bytes [] everyone system 1 1 ≡ Err (call.Line line.TooLong)
@@ -136,33 +97,21 @@ too_large from why h = rw h refl
 
 -- Too few cells: the counts say how many are needed. After any other fault there are none.
 counts_are_told : refused (TooSmall (record { sacl = 3; dacl = 4095 })) ≡ record {
-  fault = 71;
-  part = 0;
-  other_part = 0;
-  argument = 0;
-  entry = 0;
+  outcome = record { fault = 71; part = 0; other_part = 0; argument = 0; entry = 0; length = 0 };
   sacl_count = 3;
   dacl_count = 4095;
 }
 counts_are_told = refl
 
 no_counts : map (λ w. refused (Derive (DerivedTooLarge w))) (Sacl ∷ Dacl ∷ []) ≡ map (λ part. record {
-  fault = 40;
-  part = part;
-  other_part = 0;
-  argument = 0;
-  entry = 0;
+  outcome = record { fault = 40; part = part; other_part = 0; argument = 0; entry = 0; length = 0 };
   sacl_count = 0;
   dacl_count = 0;
 }) (3 ∷ 4 ∷ [])
 no_counts = refl
 
 no_counts_of_a_wrong_creator : nothing_derived (call.Argument which.Creator 0) ≡ record {
-  fault = 70;
-  part = 0;
-  other_part = 0;
-  argument = 7;
-  entry = 0;
+  outcome = record { fault = 70; part = 0; other_part = 0; argument = 7; entry = 0; length = 0 };
   sacl_count = 0;
   dacl_count = 0;
 }
@@ -181,3 +130,21 @@ no_cells : counts_of (record {
 }) 0 0 ≡ Ok (record { sacl = 0; dacl = 0 })
 unfolding derived derive_fault
 no_cells = refl
+
+wide_targets_and_more : record {
+  -- a number is not cut to 8 or 16 bits
+  wide_targets : map target_in (256 ∷ 257 ∷ 0x1_0000 ∷ 0x1_0001 ∷ 0xffff_ffff ∷ [])
+      ≡ replicate 5 (Err (call.Argument which.Kind 0));
+  no_creator : creator_in [] ≡ Ok None;
+  wrong_creator : creator_in (1 ∷ []) ≡ Err (call.Argument which.Creator 0);
+  -- The arguments are looked at in this order: kind, mapping, owner, group.
+  kind_first : plan_in 2 3 [] [] ≡ Err (call.Argument which.Kind 0);
+  mapping_second : plan_in 1 3 [] [] ≡ Err (call.Argument which.Mapping 0);
+  owner_third : plan_in 1 2 [] [] ≡ Err (call.Argument which.Owner 0);
+  group_last : plan_in 0 0 everyone [] ≡ Err (call.Argument which.Group 0);
+  -- Then the creator's descriptor is looked at, and the container's last.
+  creator_before_parent : input_in [] (1 ∷ []) everyone system 1 1 ≡ Err (call.Argument which.Creator 0);
+  parent_last : input_in [] [] everyone system 1 1 ≡ Err (call.Line (line.Sd sd.Short));
+}
+unfolding creator_in descriptor_in reading fault header_fault plan_in sid_at input_in
+wide_targets_and_more = search rules

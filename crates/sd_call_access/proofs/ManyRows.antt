@@ -16,10 +16,10 @@ use Rattle.sd_call_access.specs.declared.bytes.Bytes.{Bytes}
 
 -- struct sdtool_verdict
 abbrev granted : VerdictOutcome
-granted = record { fault = 0; part = 0; other_part = 0; argument = 0; entry = 0; mask = 3; granted = true }
+granted = record { outcome = done 0; mask = 3; granted = true }
 
 abbrev denied : VerdictOutcome
-denied = record { fault = 0; part = 0; other_part = 0; argument = 0; entry = 0; mask = 3; granted = false }
+denied = record { outcome = done 0; mask = 3; granted = false }
 
 grants : (holder : Holder) (ask : Asked) (d : Bytes) → verdict_on d.bytes.now holder ask ≡ Ok (Granted 3)
     → judged_by holder ask d ≡ granted
@@ -33,11 +33,7 @@ denies holder ask d h = rw h refl
 keeps_each_field_of_a_fault : (holder : Holder) (ask : Asked) (d : Bytes)
     → verdict_on d.bytes.now holder ask ≡ Err (call.Argument which.Sid 7)
     → judged_by holder ask d ≡ record {
-      fault = 70;
-      part = 0;
-      other_part = 0;
-      argument = 12;
-      entry = 7;
+      outcome = record { fault = 70; part = 0; other_part = 0; argument = 12; entry = 7; length = 0 };
       mask = 0;
       granted = false;
     }
@@ -46,7 +42,11 @@ keeps_each_field_of_a_fault holder ask d h = rw h refl
 -- SDTOOL_MOST_BYTES: one byte more is too long
 too_many_bytes : (holder : Holder) (ask : Asked) (d : Bytes) → length d.bytes.now ≡ 131227
     → judged_by holder ask d
-    ≡ record { fault = 1; part = 0; other_part = 0; argument = 0; entry = 0; mask = 0; granted = false }
+    ≡ record {
+      outcome = record { fault = 1; part = 0; other_part = 0; argument = 0; entry = 0; length = 0 };
+      mask = 0;
+      granted = false;
+    }
 unfolding verdict_on descriptor_in
 too_many_bytes holder ask d h = rw h refl
 

@@ -1,7 +1,8 @@
 -- What the access check gives: a verdict, or why there is none.
-use Rattle.std.specs.Prelude.{◌≡◌, ◌⊎◌, ◌+◌, ℕ, List, [], ◌∷◌, true, false, ◌||◌, if◌then◌else◌, nat_eq, nat_lt, length}
-use Rattle.std.specs.Prelude.{drop, Option, Some, None, Result, Ok, Err}
+use Rattle.std.specs.Prelude.{◌≡◌, ◌⊎◌, ◌+◌, ℕ, List, [], ◌∷◌, Bool, true, false, ◌||◌, if◌then◌else◌, nat_eq, nat_lt}
+use Rattle.std.specs.Prelude.{drop, length, Option, Some, None, Result, Ok, Err}
 use Rattle.uuid.specs.Parts.{swap_fields}
+use Rattle.sd_text.specs.Bits.{has_bit}
 use Rattle.sd_text.specs.Chains.{◌>>=◌, fault_as, unless}
 use Rattle.sd_token.specs.Limits.{most_entries}
 use Rattle.sd_rights.specs.Mapping.{GenericMapping}
@@ -15,8 +16,7 @@ use Rattle.sd_check.specs.Verdict.{verdict}
 use Rattle.sd_check.specs.declared.verdict.Verdict.{Verdict}
 use Rattle.sd_check.specs.declared.verdict.Verdict.TheVariants.{Denied, Granted}
 use Rattle.sd_call.specs.Arguments.{descriptor_in, mapping_in, optional_sid_in}
-use Rattle.sd_faults.specs.Faults.{part_number}
-use Rattle.sd_call.specs.Outcomes.{argument_of, entry_of, named_parts, number}
+use Rattle.sd_call.specs.Outcomes.{done, failed, no_memory}
 use Rattle.sd_call.specs.declared.argument.Argument.TheVariants as which
 use Rattle.sd_call.specs.declared.outcome.CallFault.{CallFault}
 use Rattle.sd_call.specs.declared.outcome.CallFault.TheVariants.{Ask}
@@ -54,8 +54,9 @@ entries_from n sids (byte ∷ bytes) = do
   others ← entries_from (n + 1) (drop front.1 sids) bytes
   Ok (front.0 ∷ others)
 
+-- its level, if the options have the bit for one
 abbrev pub level_of : Request → Option ℕ
-level_of request = if request.has_level then Some request.level else None
+level_of request = if has_bit 1 request.asker.options then Some request.asker.level else None
 
 unfoldable pub entries_in : List ℕ → List ℕ → Result (List Entry) CallFault
 entries_in sids kinds =
@@ -76,23 +77,33 @@ object_in bytes =
     else if nat_eq (length bytes) 16 then Ok (Some (swap_fields bytes))
     else Err (call.Argument which.Object 0)
 
+-- The options of who asks have bits for a level and the two privileges, those of a request a bit for the maximum. No
+-- other bit means anything.
+abbrev pub options_in : Request → Result (Unit {0}) CallFault
+options_in request =
+    if nat_lt 7 request.asker.options || nat_lt 1 request.options then Err (call.Argument which.Options 0) else Ok tt
+
+abbrev pub is_maximum : Request → Bool
+is_maximum request = has_bit 1 request.options
+
 abbrev pub asked : Request → GenericMapping → Option (List ℕ) → Option SecurityId → Asked
 asked request mapping object principal_self = record {
   wanted = wanted_of mapping request.wanted;
-  maximum = request.maximum || asks_maximum request.wanted;
+  maximum = is_maximum request || asks_maximum request.wanted;
   mapping = mapping;
   object = object;
   principal_self = principal_self;
-  security = request.security;
-  take_ownership = request.take_ownership;
+  security = has_bit 2 request.asker.options;
+  take_ownership = has_bit 4 request.asker.options;
 }
 
 unfoldable pub ask_in : Request → List ℕ → List ℕ → Result Asked CallFault
 ask_in request object principal_self = do
-  mapping ← mapping_in request.mapping
+  mapping ← mapping_in request.asker.mapping
+  options ← options_in request
   type ← object_in object
   principal ← optional_sid_in which.PrincipalSelf principal_self
-  fault_as Ask (unless (ask_fault request.wanted request.maximum) (asked request mapping type principal))
+  fault_as Ask (unless (ask_fault request.wanted (is_maximum request)) (asked request mapping type principal))
 
 -- who asks, and what
 unfoldable pub asker_in : List ℕ → List ℕ → List ℕ → List ℕ → Request → Result (Holder × Asked) CallFault
@@ -136,22 +147,12 @@ checked_for bytes input =
     checked bytes input.sids.now input.kinds.now input.ask.object.now input.ask.principal_self.now input.ask.request.now
 
 abbrev pub told : Result Verdict CallFault → VerdictOutcome
-told (Ok (Granted mask)) =
-    record { fault = 0; part = 0; other_part = 0; argument = 0; entry = 0; mask = mask; granted = true }
-told (Ok (Denied mask)) =
-    record { fault = 0; part = 0; other_part = 0; argument = 0; entry = 0; mask = mask; granted = false }
-told (Err fault) = record {
-  fault = number fault;
-  part = part_number (named_parts fault).0;
-  other_part = part_number (named_parts fault).1;
-  argument = argument_of fault;
-  entry = entry_of fault;
-  mask = 0;
-  granted = false;
-}
+told (Ok (Granted mask)) = record { outcome = done 0; mask = mask; granted = true }
+told (Ok (Denied mask)) = record { outcome = done 0; mask = mask; granted = false }
+told (Err fault) = record { outcome = failed fault; mask = 0; granted = false }
 
 abbrev pub untold : VerdictOutcome
-untold = record { fault = 72; part = 0; other_part = 0; argument = 0; entry = 0; mask = 0; granted = false }
+untold = record { outcome = no_memory; mask = 0; granted = false }
 
 -- what is told where memory was refused for a token: a fault all the same
 abbrev pub told_without_memory : Result Verdict CallFault → VerdictOutcome

@@ -15,15 +15,8 @@ use Rattle.sd_call_access.specs.declared.derivations.DerivationInput.{Derivation
 use Rattle.sd_call_access.specs.declared.origins.OriginsOutcome.{OriginsOutcome}
 
 abbrev pub with_counts : Outcome → AceCounts → OriginsOutcome
-with_counts outcome counts = record {
-  fault = outcome.fault;
-  part = outcome.part;
-  other_part = outcome.other_part;
-  argument = outcome.argument;
-  entry = outcome.entry;
-  sacl_count = counts.sacl;
-  dacl_count = counts.dacl;
-}
+with_counts outcome counts =
+    record { outcome = outcome; sacl_count = counts.sacl; dacl_count = counts.dacl }
 
 abbrev pub no_aces : AceCounts
 no_aces = record { sacl = 0; dacl = 0 }

@@ -1,5 +1,5 @@
 -- Why each right is granted or denied, as the library tells it.
-use Rattle.std.specs.Prelude.{◌≡◌, ℕ, List, true, map, replicate, MatchResult, Result, Ok, Err, unwrap_or}
+use Rattle.std.specs.Prelude.{◌≡◌, ℕ, List, map, replicate, MatchResult, Result, Ok, Err, unwrap_or}
 use Rattle.sd_text.specs.Chains.{◌>>=◌}
 use Rattle.sd_token.specs.Token.{Holder}
 use Rattle.sd_check.specs.Ask.{Asked}
@@ -12,22 +12,14 @@ use Rattle.sd_call.specs.declared.outcome.CallFault.{CallFault}
 use Rattle.sd_call.specs.declared.outcome.Outcome.{Outcome}
 use Rattle.sd_call_access.specs.Checks.{ask_in, level_of}
 use Rattle.sd_call_access.specs.TokenMemory.{holder_held}
-use Rattle.sd_call_access.specs.declared.reason.Asker.{Asker}
+use Rattle.sd_call_access.specs.declared.request.Asker.{Asker}
 use Rattle.sd_call_access.specs.declared.reason.ReasonTold.{ReasonTold}
 use Rattle.sd_call_access.specs.declared.request.Request.{Request}
 
 -- 1. Who asks. Nothing is wanted but all that is granted.
 
 abbrev pub request_of : Asker → Request
-request_of asker = record {
-  wanted = 0;
-  mapping = asker.mapping;
-  level = asker.level;
-  has_level = asker.has_level;
-  maximum = true;
-  security = asker.security;
-  take_ownership = asker.take_ownership;
-}
+request_of asker = record { asker = asker; wanted = 0; options = 1 }
 
 -- 2. The reasons on the descriptor that some bytes show.
 

@@ -9,7 +9,7 @@ use crate::asker::{AskerInput, asker_in, check_asker};
 use crate::verdict::{VerdictOutcome, told, untold};
 use sd_call::{CallFault, descriptor_in};
 use sd_check::{Ask, Verdict, check};
-use sd_memory::NoMemory;
+use sd_sink::NoMemory;
 use sd_token::{Memory, Token, TokenIn};
 
 /// Says whether a descriptor grants a new token, which gets the SIDs, what is asked for.

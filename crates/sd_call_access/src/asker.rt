@@ -3,7 +3,7 @@
 ghost use Rattle.std.specs.Prelude.{◌≡◌, [], Ok, Err, MatchResult};
 ghost use Rattle.sd_call_access.specs.Checks.{ask_in, asker_of, fault_of, object_in};
 
-use crate::request::Request;
+use crate::request::{Request, SECURITY, TAKE_OWNERSHIP, has_option, is_maximum, options_in};
 use crate::token::{check_entries, give_holder};
 use sd_ace::guid_read;
 use sd_call::{Argument, CallFault, mapping_in, optional_sid_in};
@@ -68,16 +68,17 @@ pub(crate) fn ask_at_once(input: &AskInput<'_>) -> Result<Ask, CallFault>
     ensures { result ≡ ask_in input.now.request.now input.now.object.now input.now.principal_self.now }
 {
     let request = input.request;
-    let mapping = mapping_in(request.mapping)?;
+    let mapping = mapping_in(request.asker.mapping)?;
+    options_in(request)?;
     let object = object_in(input.object)?;
     let principal = optional_sid_in(Argument::PrincipalSelf, input.principal_self)?;
     let privileges = Privileges {
-        security: request.security,
-        take_ownership: request.take_ownership,
+        security: has_option(request.asker.options, SECURITY),
+        take_ownership: has_option(request.asker.options, TAKE_OWNERSHIP),
     };
     Ask::new(
         request.wanted,
-        request.maximum,
+        is_maximum(request),
         mapping,
         object,
         principal,

@@ -10,7 +10,7 @@ use sd_call::{
 };
 use sd_faults::LineFault;
 use sd_inherit::{Plan, Target, derive};
-use sd_memory::NoMemory;
+use sd_sink::NoMemory;
 use sd_view::SdView;
 use std::alloc::Global;
 

@@ -21,10 +21,9 @@ pub use derivations::{NewObject, derive_new};
 pub use many::check_many;
 pub use origins::{MOST_DERIVED_ACES, OriginsOutcome, derive_origins};
 pub use reason::{
-    Asker, ReasonTold, explain_access, explain_with_token, explain_without_token, request_of,
-    tell_none,
+    ReasonTold, explain_access, explain_with_token, explain_without_token, request_of, tell_none,
 };
-pub use request::Request;
+pub use request::{Asker, HAS_LEVEL, MAXIMUM, Request, SECURITY, TAKE_OWNERSHIP};
 pub use sd_inherit::AceOrigin;
 pub use token_memory::{read_token, token_held};
 pub use verdict::{VerdictOutcome, told, untold};

@@ -11,7 +11,7 @@ use crate::bytes::Bytes;
 use crate::verdict::{VerdictOutcome, told};
 use sd_call::{Outcome, done, failed, no_memory, too_small};
 use sd_check::Ask;
-use sd_memory::NoMemory;
+use sd_sink::NoMemory;
 use sd_token::Token;
 use std::alloc::Global;
 

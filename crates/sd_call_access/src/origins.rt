@@ -18,16 +18,8 @@ pub const MOST_DERIVED_ACES: usize = 4095;
 #[repr(C)]
 #[derive(Clone, Copy)]
 pub struct OriginsOutcome {
-    /// 0, or the number of the fault.
-    pub fault: u32,
-    /// The part that the fault names, or 0.
-    pub part: u32,
-    /// The second part that the fault names, or 0.
-    pub other_part: u32,
-    /// With fault 70 the number of the argument that is wrong, or 0.
-    pub argument: u32,
-    /// Which entry of that argument is wrong, from 0 on, where it is a list; or 0.
-    pub entry: usize,
+    /// Its length is 0.
+    pub outcome: Outcome,
     /// How many origins the SACL has, or needs room for.
     pub sacl_count: usize,
     /// How many origins the DACL has, or needs room for.
@@ -86,11 +78,7 @@ fn with_counts(outcome: Outcome, counts: AceCounts) -> OriginsOutcome
     ensures { result ≡ with_counts outcome counts }
 {
     OriginsOutcome {
-        fault: outcome.fault.value(),
-        part: outcome.part,
-        other_part: outcome.other_part,
-        argument: outcome.argument,
-        entry: outcome.entry,
+        outcome,
         sacl_count: counts.sacl,
         dacl_count: counts.dacl,
     }

@@ -8,26 +8,11 @@ ghost use Rattle.sd_call_access.specs.Reasons.{kind_of, outcome_without, place_o
 
 use crate::access::check_arguments;
 use crate::asker::{AskInput, AskerInput, ask_in, asker_in};
-use crate::request::Request;
+use crate::request::{Asker, MAXIMUM, Request};
 use sd_call::{CallFault, Outcome, descriptor_in, done, failed, no_memory};
 use sd_check::{Ask, Reason, reasons};
-use sd_memory::NoMemory;
+use sd_sink::NoMemory;
 use sd_token::{LentToken, Memory, Token, TokenIn};
-
-/// `struct sdtool_asker` of the header: who asks, apart from the SIDs.
-#[repr(C)]
-#[derive(Clone, Copy)]
-pub struct Asker {
-    /// The number of the kind of object: 0 for files, 1 for keys, 2 for objects of a directory service.
-    pub mapping: u32,
-    /// The integrity level of the token, if it has one.
-    pub level: u32,
-    pub has_level: bool,
-    /// Whether the token has SeSecurityPrivilege.
-    pub security: bool,
-    /// Whether the token has SeTakeOwnershipPrivilege.
-    pub take_ownership: bool,
-}
 
 /// `struct sdtool_reason` of the header.
 #[repr(C)]
@@ -94,13 +79,9 @@ pub fn request_of(asker: &Asker) -> Request
     ensures { result ≡ request_of asker.now }
 {
     Request {
+        asker: *asker,
         wanted: 0,
-        mapping: asker.mapping,
-        level: asker.level,
-        has_level: asker.has_level,
-        maximum: true,
-        security: asker.security,
-        take_ownership: asker.take_ownership,
+        options: MAXIMUM,
     }
 }
 

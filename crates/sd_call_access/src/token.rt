@@ -85,7 +85,7 @@ fn read_entries(sids: &[u8], kinds: &[u8]) -> Result<(), CallFault>
 }
 
 // The entry with this number, whose SID stands at the front of the bytes, and the SID's size.
-#[tactic(auto, using(crate::proofs::TokenLemmas::sid_fits))]
+#[tactic(auto, using(sd_call::proofs::laws::SidSizes::sid_fits))]
 pub(crate) fn entry_at(
     n: usize,
     sids: &[u8],

@@ -2,3 +2,4 @@ pub mod ListLemmas
 pub mod NewLemmas
 mod Rows
 pub mod SizeLemmas
+pub mod laws

@@ -1,6 +1,6 @@
 -- What an ACE and a SID of a new descriptor can be, and what is built, by hand (MS-DTYP 2.4.4.1, 2.4.4.3, 2.4.2 and
 -- 2.4.6).
-use Rattle.std.proofs.Common.{◌≡◌, ℕ, List, [], ◌∷◌, ◌++◌, true, false, Some, None, Ok, Err, refl, arith}
+use Rattle.std.proofs.Common.{◌≡◌, ℕ, List, [], ◌∷◌, ◌++◌, true, false, Some, None, Ok, Err, refl, arith, rules}
 use Rattle.std.specs.Borrow.{Bor}
 use Rattle.sd_sid.specs.Sid.{sid_at}
 use Rattle.sd_kinds.specs.Kinds.{kind_code, kind_entry, kind_of}
@@ -36,11 +36,6 @@ guids : (can_be kinds.Audit 0 (Some []) None ≡ false) × (can_be kinds.Deny 0 
     × (can_be kinds.ObjectDeny 0 (Some []) None ≡ true) × (can_be kinds.ObjectAllow 0 None (Some []) ≡ true)
 guids = (refl, refl, refl, refl)
 
--- bytes 00 01 02 .. 0f spell the GUID 03020100-0504-0706-0809-0a0b0c0d0e0f
-guid_bytes : guid_in (0 ∷ 1 ∷ 2 ∷ 3 ∷ 4 ∷ 5 ∷ 6 ∷ 7 ∷ 8 ∷ 9 ∷ 10 ∷ 11 ∷ 12 ∷ 13 ∷ 14 ∷ 15 ∷ [])
-    ≡ Some (Some (3 ∷ 2 ∷ 1 ∷ 0 ∷ 5 ∷ 4 ∷ 7 ∷ 6 ∷ 8 ∷ 9 ∷ 10 ∷ 11 ∷ 12 ∷ 13 ∷ 14 ∷ 15 ∷ []))
-guid_bytes = refl
-
 guid_sizes : (guid_in [] ≡ Some None) × (guid_in (0 ∷ []) ≡ None)
     × (guid_in (0 ∷ 1 ∷ 2 ∷ 3 ∷ 4 ∷ 5 ∷ 6 ∷ 7 ∷ 8 ∷ 9 ∷ 10 ∷ 11 ∷ 12 ∷ 13 ∷ 14 ∷ 15 ∷ 16 ∷ []) ≡ None)
 guid_sizes = (refl, refl, refl)
@@ -57,9 +52,6 @@ wrong_sids : (is_wrong_sid [] ≡ false) × (is_wrong_sid (1 ∷ []) ≡ true)
 unfolding sid_at
 wrong_sids = (refl, refl, refl)
 
-no_guid_in_a_plain_ace : made kinds.Allow 0 1 (Some []) None (record { authority = 1; subs = 0 ∷ [] }) ≡ None
-no_guid_in_a_plain_ace = refl
-
 plain_ace : made kinds.Allow 3 1 None None (record { authority = 1; subs = 0 ∷ [] }) ≡ Some (record {
   kind = kinds.Allow;
   flags = 3;
@@ -69,6 +61,14 @@ plain_ace : made kinds.Allow 3 1 None None (record { authority = 1; subs = 0 ∷
   sid = record { authority = 1; subs = 0 ∷ [] };
 })
 plain_ace = refl
+
+guid_bytes_and_more : record {
+  -- bytes 00 01 02 .. 0f spell the GUID 03020100-0504-0706-0809-0a0b0c0d0e0f
+  guid_bytes : guid_in (0 ∷ 1 ∷ 2 ∷ 3 ∷ 4 ∷ 5 ∷ 6 ∷ 7 ∷ 8 ∷ 9 ∷ 10 ∷ 11 ∷ 12 ∷ 13 ∷ 14 ∷ 15 ∷ [])
+      ≡ Some (Some (3 ∷ 2 ∷ 1 ∷ 0 ∷ 5 ∷ 4 ∷ 7 ∷ 6 ∷ 8 ∷ 9 ∷ 10 ∷ 11 ∷ 12 ∷ 13 ∷ 14 ∷ 15 ∷ []));
+  no_guid_in_a_plain_ace : made kinds.Allow 0 1 (Some []) None (record { authority = 1; subs = 0 ∷ [] }) ≡ None;
+}
+guid_bytes_and_more = search rules
 
 -- ---- whole arguments
 
@@ -157,14 +157,6 @@ wrong : (wrong_ace (list (deny ∷ unknown ∷ unknown ∷ [])) ≡ Some 1) × (
 unfolding ace_in sid_at kind_of kind_code kind_entry
 wrong = (refl, refl, refl, refl, refl)
 
--- An absent ACL has no ACE either, and a state is not cut to 8 bits.
-no_list : wrong_ace (record { aces = lent (deny ∷ []); state = 0 }) ∷ wrong_ace (record { aces = lent []; state = 0 })
-    ∷ wrong_ace (record { aces = lent []; state = 256 }) ∷ wrong_ace (record { aces = lent []; state = 257 })
-    ∷ wrong_ace (record { aces = lent []; state = 258 }) ∷ wrong_ace (record { aces = lent (deny ∷ []); state = 258 })
-    ∷ [] ≡ Some 0 ∷ None ∷ Some 0 ∷ Some 0 ∷ Some 0 ∷ Some 0 ∷ []
-unfolding ace_in sid_at kind_of kind_code kind_entry
-no_list = refl
-
 abbrev of_parts : List ℕ → List ℕ → NewAcl → NewAcl → NewDescriptor
 of_parts owner group sacl dacl = record {
   owner = lent owner;
@@ -197,26 +189,6 @@ entries : (new_fault (of_parts [] [] (list []) (list (deny ∷ unknown ∷ [])))
 unfolding new_fault ace_in sid_at kind_of kind_code kind_entry
 entries = (refl, refl)
 
--- 2.4.6: of the control word, SR and the bits for the ACLs are set as they have to be
-descriptor : new_descriptor (of_parts everyone system (record { aces = lent []; state = 0 }) (list (deny ∷ [])))
-    ≡ record {
-      control = 0x9004;
-      rm = 0;
-      owner = Some (record { authority = 1; subs = 0 ∷ [] });
-      group = Some (record { authority = 5; subs = 18 ∷ [] });
-      sacl = acl.Absent;
-      dacl = acl.List (record {
-        kind = kinds.Deny;
-        flags = 2;
-        mask = 2;
-        object = None;
-        inherited = None;
-        sid = record { authority = 1; subs = 0 ∷ [] };
-      } ∷ []);
-    }
-unfolding ace_in sid_at kind_of kind_code kind_entry
-descriptor = refl
-
 -- SR is always set. SP and DP say whether there is an ACL, and a null one counts. The caller's other bits stay.
 abbrev null : NewAcl
 null = record { aces = lent []; state = 1 }
@@ -224,34 +196,12 @@ null = record { aces = lent []; state = 1 }
 abbrev control_with : ℕ → NewAcl → NewAcl → ℕ
 control_with bits sacl dacl = (new_descriptor (record (of_parts [] [] sacl dacl) { control = bits })).control
 
-control_bits : control_with 0xffff absent absent ∷ control_with 0x10 absent (list []) ∷ control_with 4 (list []) absent
-    ∷ control_with 0 null null ∷ control_with 0x7fff (list []) null ∷ []
-    ≡ 0xffeb ∷ 0x8004 ∷ 0x8010 ∷ 0x8014 ∷ 0xffff ∷ []
-control_bits = refl
-
--- a null DACL has no bytes, and its offset is 0
-null_dacl : built (of_parts [] [] absent null)
-    ≡ Ok (1 ∷ 0 ∷ 4 ∷ 0x90 ∷ 0 ∷ 0 ∷ 0 ∷ 0 ∷ 0 ∷ 0 ∷ 0 ∷ 0 ∷ 0 ∷ 0 ∷ 0 ∷ 0 ∷ 0 ∷ 0 ∷ 0 ∷ 0 ∷ [])
-unfolding built new_fault sid_at header_bytes
-null_dacl = refl
-
--- an owner, a group, no SACL and a DACL of one ACE, one behind the other without gaps
-layout : built (of_parts everyone system (record { aces = lent []; state = 0 }) (list (deny ∷ []))) ≡ Ok (
-    (1 ∷ 0 ∷ 0x04 ∷ 0x90 ∷ 20 ∷ 0 ∷ 0 ∷ 0 ∷ 32 ∷ 0 ∷ 0 ∷ 0 ∷ 0 ∷ 0 ∷ 0 ∷ 0 ∷ 44 ∷ 0 ∷ 0 ∷ 0 ∷ []) ++ everyone ++ system
-    ++ (2 ∷ 0 ∷ 28 ∷ 0 ∷ 1 ∷ 0 ∷ 0 ∷ 0 ∷ []) ++ (1 ∷ 2 ∷ 20 ∷ 0 ∷ 2 ∷ 0 ∷ 0 ∷ 0 ∷ []) ++ everyone)
-unfolding built new_fault ace_in sid_at kind_of kind_code kind_entry header_bytes
-layout = refl
-
 -- the resource manager byte, behind the revision
 resource_manager : ((new_descriptor (record (of_parts [] [] absent absent) { resource_manager = 7 })).rm ≡ 7)
     × (built (record (of_parts [] [] absent absent) { resource_manager = 7 })
     ≡ Ok (1 ∷ 7 ∷ 0 ∷ 0x90 ∷ 0 ∷ 0 ∷ 0 ∷ 0 ∷ 0 ∷ 0 ∷ 0 ∷ 0 ∷ 0 ∷ 0 ∷ 0 ∷ 0 ∷ 0 ∷ 0 ∷ 0 ∷ 0 ∷ []))
 unfolding built new_fault sid_at header_bytes
 resource_manager = (refl, refl)
-
-not_built : built (of_parts (1 ∷ []) [] (list []) (list [])) ≡ Err (call.Argument argument.Owner 0)
-unfolding built new_fault sid_at
-not_built = refl
 
 -- the size of each part
 sizes : part_sizes (record {
@@ -290,3 +240,43 @@ sacl_too_large d h = rw h refl
 dacl_too_large : (d : Descriptor) → acl_part_size d.sacl ≡ 65535 → acl_part_size d.dacl ≡ 65536
     → large_fault d ≡ Some (call.Line (line.Sddl (sddl.AclTooLarge Dacl)))
 dacl_too_large d s h = rw s (rw h refl)
+
+whole_arguments : record {
+  -- An absent ACL has no ACE either, and a state is not cut to 8 bits.
+  no_list : wrong_ace (record { aces = lent (deny ∷ []); state = 0 }) ∷ wrong_ace (record { aces = lent []; state = 0 })
+      ∷ wrong_ace (record { aces = lent []; state = 256 }) ∷ wrong_ace (record { aces = lent []; state = 257 })
+      ∷ wrong_ace (record { aces = lent []; state = 258 }) ∷ wrong_ace (record { aces = lent (deny ∷ []); state = 258 })
+      ∷ [] ≡ Some 0 ∷ None ∷ Some 0 ∷ Some 0 ∷ Some 0 ∷ Some 0 ∷ [];
+  -- 2.4.6: of the control word, SR and the bits for the ACLs are set as they have to be
+  descriptor : new_descriptor (of_parts everyone system (record { aces = lent []; state = 0 }) (list (deny ∷ [])))
+      ≡ record {
+        control = 0x9004;
+        rm = 0;
+        owner = Some (record { authority = 1; subs = 0 ∷ [] });
+        group = Some (record { authority = 5; subs = 18 ∷ [] });
+        sacl = acl.Absent;
+        dacl = acl.List (record {
+          kind = kinds.Deny;
+          flags = 2;
+          mask = 2;
+          object = None;
+          inherited = None;
+          sid = record { authority = 1; subs = 0 ∷ [] };
+        } ∷ []);
+      };
+  control_bits : control_with 0xffff absent absent ∷ control_with 0x10 absent (list [])
+      ∷ control_with 4 (list []) absent
+      ∷ control_with 0 null null ∷ control_with 0x7fff (list []) null ∷ []
+      ≡ 0xffeb ∷ 0x8004 ∷ 0x8010 ∷ 0x8014 ∷ 0xffff ∷ [];
+  -- a null DACL has no bytes, and its offset is 0
+  null_dacl : built (of_parts [] [] absent null)
+      ≡ Ok (1 ∷ 0 ∷ 4 ∷ 0x90 ∷ 0 ∷ 0 ∷ 0 ∷ 0 ∷ 0 ∷ 0 ∷ 0 ∷ 0 ∷ 0 ∷ 0 ∷ 0 ∷ 0 ∷ 0 ∷ 0 ∷ 0 ∷ 0 ∷ []);
+  -- an owner, a group, no SACL and a DACL of one ACE, one behind the other without gaps
+  layout : built (of_parts everyone system (record { aces = lent []; state = 0 }) (list (deny ∷ []))) ≡ Ok (
+      (1 ∷ 0 ∷ 0x04 ∷ 0x90 ∷ 20 ∷ 0 ∷ 0 ∷ 0 ∷ 32 ∷ 0 ∷ 0 ∷ 0 ∷ 0 ∷ 0 ∷ 0 ∷ 0 ∷ 44 ∷ 0 ∷ 0 ∷ 0
+      ∷ []) ++ everyone ++ system
+      ++ (2 ∷ 0 ∷ 28 ∷ 0 ∷ 1 ∷ 0 ∷ 0 ∷ 0 ∷ []) ++ (1 ∷ 2 ∷ 20 ∷ 0 ∷ 2 ∷ 0 ∷ 0 ∷ 0 ∷ []) ++ everyone);
+  not_built : built (of_parts (1 ∷ []) [] (list []) (list [])) ≡ Err (call.Argument argument.Owner 0);
+}
+unfolding ace_in sid_at kind_of kind_code kind_entry built new_fault header_bytes
+whole_arguments = search rules

@@ -97,7 +97,8 @@ fn give_new(new: &NewDescriptor<'_>, sizes: &Parts<u32>, output: &mut [u8]) -> O
     }
 }
 
-fn whole_size(sizes: &Parts<u32>) -> usize
+/// The size of a layout whose parts have these sizes.
+pub fn whole_size(sizes: &Parts<u32>) -> usize
     requires { AreSmall sizes.now }
     ensures { result ≡ 20 + sizes.now.owner + sizes.now.group + sizes.now.sacl + sizes.now.dacl }
 {

@@ -15,7 +15,7 @@ use crate::new::{LIST, NewAce, NewAcl, NewDescriptor};
 use crate::printing::{print_aces, print_sid};
 use crate::reading::whole_sid;
 use crate::sizes::has_object;
-use sd_layout::{acl_header, offsets_of};
+use sd_builder::{acl_header, offsets_of};
 use sd_parts::{HEADER_SIZE, Parts, control_of, header};
 use sd_sink::{Print, Printer, Sink, SinkFault};
 

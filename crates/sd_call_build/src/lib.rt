@@ -8,6 +8,6 @@ mod printing;
 mod reading;
 mod sizes;
 
-pub use build::build_descriptor;
+pub use build::{build_descriptor, whole_size};
 pub use new::{NewAce, NewAcl, NewDescriptor};
 pub use printing::{print_ace, print_sid};

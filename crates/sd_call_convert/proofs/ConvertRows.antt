@@ -1,5 +1,5 @@
 -- Conversions by hand: the order in which arguments are looked at, and short descriptors (MS-DTYP 2.4.6, 2.5.1.1).
-use Rattle.std.proofs.Common.{◌≡◌, ℕ, List, [], ◌∷◌, ◌++◌, length, true, false, Some, None, codes, Ok, Err, refl}
+use Rattle.std.proofs.Common.{◌≡◌, ℕ, List, [], ◌∷◌, ◌++◌, length, true, false, Some, None, codes, Ok, Err, refl, rules}
 use Rattle.std.specs.Fmt.{digits}
 use Rattle.sd_sid.specs.Sid.{sid_at}
 use Rattle.sd_sid.specs.SidText.{alias_of, has_form, letters_read, numbers_read, sid_reads}
@@ -28,10 +28,6 @@ domain_first : (to_sddl [] (1 ∷ []) false ≡ Err (call.Argument which.Domain 
 unfolding named_in optional_sid_in sid_at
 domain_first = (refl, refl, refl)
 
-no_domain : domain_for (codes "O:BA") [] ≡ Ok None
-unfolding optional_sid_in read_under
-no_domain = refl
-
 short : (to_sddl [] [] false ≡ Err (call.Line (line.Sd sd.Short)))
     × (normalized [] ≡ Err (call.Line (line.Sd sd.Short)))
 unfolding named_in optional_sid_in descriptor_in reading fault header_fault
@@ -40,25 +36,6 @@ short = (refl, refl)
 -- a control word of 0x8000, and a resource manager byte of 0xff that is kept
 abbrev header : List ℕ
 header = 1 ∷ 0xff ∷ 0 ∷ 0x80 ∷ 0 ∷ 0 ∷ 0 ∷ 0 ∷ 0 ∷ 0 ∷ 0 ∷ 0 ∷ 0 ∷ 0 ∷ 0 ∷ 0 ∷ 0 ∷ 0 ∷ 0 ∷ 0 ∷ []
-
-layout_of_header : normalized header ≡ Ok header
-unfolding descriptor_in reading fault header_fault parts_fault sid_fault sid_shown acl_part_fault acl_shown
-    overlaps_fault
-    overlap_fault u16_at u32_at header_bytes
-layout_of_header = refl
-
-no_text : to_sddl header [] false ≡ Ok []
-unfolding named_in optional_sid_in descriptor_in reading fault header_fault parts_fault sid_fault sid_shown
-    acl_part_fault
-    acl_shown overlaps_fault overlap_fault u16_at u32_at sddl owner_text group_text dacl_text sacl_text
-no_text = refl
-
-explained_header : explained header [] false
-    ≡ Ok (codes "control 0x8000 SR\nrm 0xff\nowner none\ngroup none\ndacl absent\nsacl absent\nend\n")
-unfolding named_in optional_sid_in descriptor_in reading fault header_fault parts_fault sid_fault sid_shown
-    acl_part_fault
-    acl_shown overlaps_fault overlap_fault u16_at u32_at explain control_line rm_line sid_line
-explained_header = refl
 
 -- SDTOOL_MOST_TEXT: a text of so many bytes is read, and one of a byte more is too long, whatever its bytes are
 longest : (text : List ℕ) → length text ≡ 1049872 → domain_for text [] ≡ Ok None
@@ -84,26 +61,10 @@ too_many_bytes : (bytes : List ℕ) → length bytes ≡ 131227
 unfolding named_in optional_sid_in descriptor_in
 too_many_bytes bytes h = (rw h refl, rw h refl, rw h refl)
 
--- The empty text is a descriptor without parts.
-empty_text : from_sddl [] []
-    ≡ Ok (1 ∷ 0 ∷ 0 ∷ 0x80 ∷ 0 ∷ 0 ∷ 0 ∷ 0 ∷ 0 ∷ 0 ∷ 0 ∷ 0 ∷ 0 ∷ 0 ∷ 0 ∷ 0 ∷ 0 ∷ 0 ∷ 0 ∷ 0 ∷ [])
-unfolding optional_sid_in read_under means body_reads header_bytes
-empty_text = refl
-
--- A text with the end of its line is refused.
-text_with_its_line_end : from_sddl (codes "O:BA\n") [] ≡ Err (call.Line (line.Sddl (sddl_fault.Sid sid.SidForm)))
-unfolding optional_sid_in read_under means body_reads sid_reads has_form
-text_with_its_line_end = refl
-
 -- Administrators as the owner, behind the header
 abbrev owned : List ℕ
 owned = (1 ∷ 0 ∷ 0 ∷ 0x80 ∷ 20 ∷ 0 ∷ 0 ∷ 0 ∷ 0 ∷ 0 ∷ 0 ∷ 0 ∷ 0 ∷ 0 ∷ 0 ∷ 0 ∷ 0 ∷ 0 ∷ 0 ∷ 0 ∷ [])
     ++ (1 ∷ 2 ∷ 0 ∷ 0 ∷ 0 ∷ 0 ∷ 0 ∷ 5 ∷ 32 ∷ 0 ∷ 0 ∷ 0 ∷ 32 ∷ 2 ∷ 0 ∷ 0 ∷ [])
-
-layout_of_owned : normalized owned ≡ Ok owned
-unfolding descriptor_in reading fault header_fault parts_fault sid_fault sid_shown sid_at acl_part_fault acl_shown
-    overlaps_fault overlap_fault u16_at u32_at header_bytes
-layout_of_owned = refl
 
 owner_alone : (to_sddl owned [] false ≡ Ok (codes "O:BA")) × (to_sddl owned [] true ≡ Ok (codes "O:S-1-5-32-544"))
 unfolding named_in optional_sid_in descriptor_in reading fault header_fault parts_fault sid_fault sid_shown sid_at
@@ -121,6 +82,24 @@ meant : laid_out (Ok (record {
 })) ≡ Ok owned
 unfolding header_bytes
 meant = refl
+
+no_domain_and_more : record {
+  no_domain : domain_for (codes "O:BA") [] ≡ Ok None;
+  layout_of_header : normalized header ≡ Ok header;
+  no_text : to_sddl header [] false ≡ Ok [];
+  explained_header : explained header [] false
+      ≡ Ok (codes "control 0x8000 SR\nrm 0xff\nowner none\ngroup none\ndacl absent\nsacl absent\nend\n");
+  -- The empty text is a descriptor without parts.
+  empty_text : from_sddl [] []
+      ≡ Ok (1 ∷ 0 ∷ 0 ∷ 0x80 ∷ 0 ∷ 0 ∷ 0 ∷ 0 ∷ 0 ∷ 0 ∷ 0 ∷ 0 ∷ 0 ∷ 0 ∷ 0 ∷ 0 ∷ 0 ∷ 0 ∷ 0 ∷ 0 ∷ []);
+  -- A text with the end of its line is refused.
+  text_with_its_line_end : from_sddl (codes "O:BA\n") [] ≡ Err (call.Line (line.Sddl (sddl_fault.Sid sid.SidForm)));
+  layout_of_owned : normalized owned ≡ Ok owned;
+}
+unfolding optional_sid_in read_under descriptor_in reading fault header_fault parts_fault sid_fault sid_shown
+    acl_part_fault acl_shown overlaps_fault overlap_fault u16_at u32_at header_bytes named_in sddl owner_text group_text
+    dacl_text sacl_text explain control_line rm_line sid_line means body_reads sid_reads has_form sid_at
+no_domain_and_more = search rules
 
 -- ---- a domain: S-1-5-21-1-2-3, whose administrators are the owner
 

@@ -1,5 +1,5 @@
 -- SIDs and their texts, by hand (MS-DTYP 2.4.2, and 2.5.1.1 for the aliases).
-use Rattle.std.proofs.Common.{◌≡◌, [], ◌∷◌, ◌++◌, true, false, codes, Ok, Err, refl}
+use Rattle.std.proofs.Common.{◌≡◌, [], ◌∷◌, ◌++◌, true, false, codes, Ok, Err, refl, rules}
 use Rattle.std.specs.Fmt.{digits}
 use Rattle.std.specs.List.{flat_map}
 use Rattle.std.specs.Prelude.{List, ℕ}
@@ -25,35 +25,6 @@ abbrev domain_admins : List ℕ
 domain_admins =
     1 ∷ 5 ∷ 0 ∷ 0 ∷ 0 ∷ 0 ∷ 0 ∷ 5 ∷ 21 ∷ 0 ∷ 0 ∷ 0 ∷ 1 ∷ 0 ∷ 0 ∷ 0 ∷ 2 ∷ 0 ∷ 0 ∷ 0 ∷ 3 ∷ 0 ∷ 0 ∷ 0
     ∷ 0 ∷ 2 ∷ 0 ∷ 0 ∷ []
-
-from_alias : sid_from_text (codes "BA") [] ≡ Ok administrators
-unfolding named_sid sid_reads letters_read optional_sid_in sid_at
-from_alias = refl
-
-from_relative_alias : sid_from_text (codes "da") domain ≡ Ok domain_admins
-unfolding named_sid sid_reads letters_read optional_sid_in sid_at
-from_relative_alias = refl
-
-wants_a_domain : sid_from_text (codes "DA") [] ≡ Err (call.Line (line.Sddl (sddl.Sid sid.NeedsDomain)))
-unfolding named_sid sid_reads letters_read optional_sid_in sid_at
-wants_a_domain = refl
-
-from_numbers : sid_from_text (codes "S-1-5-32-544") [] ≡ Ok administrators
-unfolding named_sid sid_reads has_form numbers_read optional_sid_in sid_at
-from_numbers = refl
-
--- The domain is looked at before the text.
-wrong_domain : sid_from_text (codes "ZZ") (1 ∷ []) ≡ Err (call.Argument which.Domain 0)
-unfolding named_sid optional_sid_in sid_at
-wrong_domain = refl
-
-to_alias : sid_to_text administrators [] false ≡ Ok (codes "BA")
-unfolding named_in optional_sid_in sid_at alias_of trustee_text
-to_alias = refl
-
-to_numbers : sid_to_text administrators [] true ≡ Ok (codes "S-1-5-32-544")
-unfolding named_in optional_sid_in sid_at alias_of digits trustee_text
-to_numbers = refl
 
 -- under a domain the relative alias, and else the numbers, also where numbers alone are asked for under a domain
 to_relative_alias : (sid_to_text domain_admins domain false ≡ Ok (codes "DA"))
@@ -93,11 +64,6 @@ text_with_its_line_end : (sid_from_text (codes "BA\n") [] ≡ Err (call.Line (li
 unfolding named_sid sid_reads has_form optional_sid_in
 text_with_its_line_end = (refl, refl, refl)
 
--- The SID is looked at before the domain, and it takes all of its bytes.
-wrong_sid : sid_to_text [] (1 ∷ []) false ≡ Err (call.Argument which.Sid 0)
-unfolding named_in sid_at
-wrong_sid = refl
-
 byte_behind : (sid_to_text (administrators ++ 0 ∷ []) [] false ≡ Err (call.Argument which.Sid 0))
     × (sid_to_text administrators (1 ∷ []) false ≡ Err (call.Argument which.Domain 0))
 unfolding named_in optional_sid_in sid_at
@@ -111,3 +77,19 @@ first_of_two = (refl, refl)
 sizes : (sid_size_at administrators ≡ 16) × (sid_size_at domain_admins ≡ 28) × (sid_size_at [] ≡ 0)
 unfolding sid_at
 sizes = (refl, refl, refl)
+
+from_alias_and_more : record {
+  from_alias : sid_from_text (codes "BA") [] ≡ Ok administrators;
+  from_relative_alias : sid_from_text (codes "da") domain ≡ Ok domain_admins;
+  wants_a_domain : sid_from_text (codes "DA") [] ≡ Err (call.Line (line.Sddl (sddl.Sid sid.NeedsDomain)));
+  from_numbers : sid_from_text (codes "S-1-5-32-544") [] ≡ Ok administrators;
+  -- The domain is looked at before the text.
+  wrong_domain : sid_from_text (codes "ZZ") (1 ∷ []) ≡ Err (call.Argument which.Domain 0);
+  to_alias : sid_to_text administrators [] false ≡ Ok (codes "BA");
+  to_numbers : sid_to_text administrators [] true ≡ Ok (codes "S-1-5-32-544");
+  -- The SID is looked at before the domain, and it takes all of its bytes.
+  wrong_sid : sid_to_text [] (1 ∷ []) false ≡ Err (call.Argument which.Sid 0);
+}
+unfolding named_sid sid_reads letters_read optional_sid_in sid_at has_form numbers_read named_in alias_of trustee_text
+    digits
+from_alias_and_more = search rules

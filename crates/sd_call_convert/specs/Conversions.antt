@@ -17,14 +17,17 @@ use Rattle.sd_call_convert.specs.declared.printing.Named.{Named}
 use Rattle.sd_call_convert.specs.declared.printing.Text.{Text}
 use Rattle.sd_call_convert.specs.declared.printing.Text.TheVariants as text
 
--- the domain under which a text is read, if the text is not too long
-unfoldable pub read_under : List ℕ → Option SecurityId → Result (Option SecurityId) CallFault
-read_under text domain = if nat_lt most_sddl_text (length text) then Err (Line line.TooLong) else Ok domain
+-- the domain under which a text of so many bytes is read, if these are not too many
+unfoldable pub read_under : ℕ → Option SecurityId → Result (Option SecurityId) CallFault
+read_under size domain = if nat_lt most_sddl_text size then Err (Line line.TooLong) else Ok domain
+
+abbrev pub domain_of_size : ℕ → List ℕ → Result (Option SecurityId) CallFault
+domain_of_size size domain = do
+  named ← domain_in domain
+  read_under size named
 
 abbrev pub domain_for : List ℕ → List ℕ → Result (Option SecurityId) CallFault
-domain_for text domain = do
-  named ← domain_in domain
-  read_under text named
+domain_for text domain = domain_of_size (length text) domain
 
 -- what a text means
 abbrev pub text_in : Option SecurityId → List ℕ → Result Descriptor CallFault

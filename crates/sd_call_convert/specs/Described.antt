@@ -35,6 +35,10 @@ argument_text number =
     else if nat_eq number 14 then codes "dacl: "
     else if nat_eq number 15 then codes "token: "
     else if nat_eq number 16 then codes "changes: "
+    else if nat_eq number 17 then codes "options: "
+    else if nat_eq number 18 then codes "ace: "
+    else if nat_eq number 19 then codes "flags: "
+    else if nat_eq number 20 then codes "guid: "
     else []
 
 -- 2. The fault, as in the program's `error` line, and what it means.

@@ -1,6 +1,5 @@
 -- What is told of the place of a fault.
-use Rattle.std.specs.Prelude.{ℕ, nat_lt, if◌then◌else◌, List, length, Option, Some, None}
-use Rattle.std.specs.Prelude.{Result, Ok, Err}
+use Rattle.std.specs.Prelude.{ℕ, nat_lt, if◌then◌else◌, List, length, Option, Some, None, Result, Ok, Err}
 use Rattle.sd_text.specs.Limits.{most_sddl_text}
 use Rattle.sd_sid.specs.Sid.{SecurityId}
 use Rattle.sd_parts.specs.declared.limits.TheConstants.{CAPACITY}

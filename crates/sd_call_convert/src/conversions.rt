@@ -4,19 +4,19 @@ ghost use Rattle.std.specs.Prelude.{◌≡◌, MatchResult, codes};
 ghost use Rattle.std.specs.Option.{option_copied};
 ghost use Rattle.sd_view.specs.Layout.{layout};
 ghost use Rattle.sd_call.specs.Outcomes.{Answers, AnswersWithin, Gives, Refused};
-ghost use Rattle.sd_call_convert.specs.Conversions.{domain_for, explained, from_sddl, laid_out, normalized, text_in};
-ghost use Rattle.sd_call_convert.specs.Conversions.{to_sddl};
+ghost use Rattle.sd_call_convert.specs.Conversions.{domain_for, domain_of_size, explained, from_sddl, laid_out};
+ghost use Rattle.sd_call_convert.specs.Conversions.{normalized, text_in, to_sddl};
 
 use crate::printing::{Text, give_text, named_in};
 use sd_buffer::SdBuf;
+use sd_builder::put_layout;
 use sd_call::{
     CallFault, Front, Outcome, descriptor_in, domain_in, done, failed, give, no_memory, too_small,
 };
 use sd_faults::LineFault;
-use sd_layout::put_layout;
-use sd_memory::NoMemory;
 use sd_sddl_reader::read_sddl;
 use sd_sid::Sid;
+use sd_sink::NoMemory;
 use sd_text::MOST_SDDL_TEXT;
 use sd_view::{SdView, view_written};
 use std::alloc::Global;
@@ -64,19 +64,19 @@ pub fn from_sddl(alloc: Global, text: &[u8], domain: &[u8], output: &mut [u8]) -
     ensures { AnswersWithin (domain_for text.now domain.now) (from_sddl text.now domain.now)
         output.old output.new result }
 {
-    match domain_for(text, domain) {
+    match domain_of_size(text.len(), domain) {
         Ok(domain) => give_meant(text, domain.as_ref(), SdBuf::new(alloc), output),
         Err(fault) => failed(fault),
     }
 }
 
-// The domain under which a text is read, if the text is not too long.
+/// The domain under which a text of so many bytes is read, if these are not too many.
 #[tactic(auto, unfolding(crate::specs::Conversions::read_under))]
-fn domain_for(text: &[u8], domain: &[u8]) -> Result<Option<Sid>, CallFault>
-    ensures { result ≡ domain_for text.now domain.now }
+pub(crate) fn domain_of_size(size: usize, domain: &[u8]) -> Result<Option<Sid>, CallFault>
+    ensures { result ≡ domain_of_size size domain.now }
 {
     let domain = domain_in(domain)?;
-    if text.len() > MOST_SDDL_TEXT {
+    if size > MOST_SDDL_TEXT {
         return Err(CallFault::Line(LineFault::TooLong));
     }
     Ok(domain)

@@ -176,6 +176,10 @@ fn argument_text(number: u32) -> &'static str
         14 => "dacl: ",
         15 => "token: ",
         16 => "changes: ",
+        17 => "options: ",
+        18 => "ace: ",
+        19 => "flags: ",
+        20 => "guid: ",
         _ => "",
     }
 }

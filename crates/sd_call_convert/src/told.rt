@@ -3,8 +3,7 @@
 ghost use Rattle.std.specs.Prelude.{◌≡◌, ◌<◌, ◌^◌, length};
 ghost use Rattle.std.specs.Option.{option_copied};
 ghost use Rattle.sd_faults.specs.declared.line_fault.LineFault.TheVariants as line;
-ghost use Rattle.sd_call_convert.specs.PlaceTold.{field_number, no_place, place_told, sddl_place_told, told};
-ghost use Rattle.sd_call_convert.specs.PlaceTold.{told_at};
+ghost use Rattle.sd_call_convert.specs.PlaceTold.{field_number, no_place, place_told, sddl_place_told, told, told_at};
 ghost use Rattle.sd_sddl_places.specs.Places.{place_of_sddl_fault};
 
 use sd_call::{Place, domain_in};

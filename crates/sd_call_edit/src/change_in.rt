@@ -395,7 +395,7 @@ fn ace_type_in(use_of: u8, bytes: &[u8; 16]) -> Option<Option<Uuid>>
 }
 
 // The SID at the front, with zeros behind it.
-#[tactic(auto, using(crate::proofs::ListLemmas::sid_fits))]
+#[tactic(auto, using(sd_call::proofs::laws::SidSizes::sid_fits))]
 fn sid_in(bytes: &[u8]) -> Option<Sid>
     ensures { result ≡ sid_in bytes.now }
 {

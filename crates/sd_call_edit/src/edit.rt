@@ -14,7 +14,7 @@ use crate::input::ChangeInput;
 use crate::layout::give_layout;
 use sd_call::{Argument, CallFault, Outcome, descriptor_in, failed, no_memory};
 use sd_edit::Edited;
-use sd_memory::NoMemory;
+use sd_sink::NoMemory;
 use sd_view::SdView;
 use std::alloc::Global;
 

@@ -13,10 +13,10 @@ ghost use Rattle.sd_sink.specs.Sink.{Puts};
 ghost use Rattle.sd_view.specs.Layout.{acl_part, acl_part_size, descriptor_header, layout, sid_part, sid_part_size};
 
 use sd_ace::Ace;
+use sd_builder::{acl_header, offsets_of};
 use sd_call::{Front, Outcome, done, too_small};
-use sd_call_build::{print_ace, print_sid};
+use sd_call_build::{print_ace, print_sid, whole_size};
 use sd_edit::{Edited, EditedAcl, acl_size};
-use sd_layout::{acl_header, offsets_of};
 use sd_parts::{HEADER_SIZE, Parts, header};
 use sd_sid::Sid;
 use sd_sink::{Print, Printer, Sink, SinkFault};
@@ -37,13 +37,6 @@ pub fn give_layout(edited: &Edited, output: &mut [u8]) -> Outcome
         Ok(()) => done(size),
         Err(_) => too_small(size),
     }
-}
-
-fn whole_size(sizes: &Parts<u32>) -> usize
-    requires { AreSmall sizes.now }
-    ensures { result ≡ 20 + sizes.now.owner + sizes.now.group + sizes.now.sacl + sizes.now.dacl }
-{
-    HEADER_SIZE + (sizes.owner + sizes.group + sizes.sacl + sizes.dacl) as usize
 }
 
 fn part_sizes(edited: &Edited) -> Parts<u32>

@@ -1,6 +1,6 @@
 -- Words and endings as a caller spells and sees them, by hand from include/sdtool.h.
 use Rattle.std.proofs.Common.{◌≡◌, ◌++◌, inl, ℕ, List, [], ◌∷◌, length, true, false, Some, None, Ok, Err, codes, refl}
-use Rattle.std.proofs.Common.{arith}
+use Rattle.std.proofs.Common.{arith, rules}
 use Rattle.std.specs.Str.{is_utf8}
 use Rattle.clap.specs.Words.{Text}
 use Rattle.clap.proofs.OnLiterals.{clap_on_literals}
@@ -15,15 +15,6 @@ use Rattle.sd_command.specs.declared.settings.UsageFault.TheVariants.{Value}
 use Rattle.sd_call_run.specs.Runs.{EndsBehind, EndsBy, EndsOn, EndsRefused, EndsRun, EndsSettled, EndsTaken}
 use Rattle.sd_call_run.specs.Runs.{EndsWithoutMemory, Runs, ShowsHelp, command_words, words_in}
 use Rattle.sd_call_run.specs.declared.run.Ending.{Ending}
-
-no_words : command_words [] ≡ Some (codes "sdtool" ∷ [])
-unfolding command_words words_in
-no_words = refl
-
--- A word may be empty.
-words : words_in (codes "explain" ++ 0 ∷ 0 ∷ codes "x" ++ 0 ∷ []) ≡ Some (codes "explain" ∷ [] ∷ codes "x" ∷ [])
-unfolding words_in
-words = refl
 
 -- no NUL behind the last word
 no_end : (command_words (codes "explain") ≡ None) × (command_words (0 ∷ codes "x") ≡ None)
@@ -50,6 +41,14 @@ without_memory = record { is = refl; no_answer = refl; says = record { count = r
 
 help : ShowsHelp (codes "Convert") (codes "Conv") (ending 0 4 0)
 help = record { is = refl; no_message = refl; shown = record { count = refl; front = refl } }
+
+no_words_and_more : record {
+  no_words : command_words [] ≡ Some (codes "sdtool" ∷ []);
+  -- A word may be empty.
+  words : words_in (codes "explain" ++ 0 ∷ 0 ∷ codes "x" ++ 0 ∷ []) ≡ Some (codes "explain" ∷ [] ∷ codes "x" ∷ []);
+}
+unfolding command_words words_in
+no_words_and_more = search rules
 
 -- 1. A run.
 

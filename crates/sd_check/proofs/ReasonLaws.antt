@@ -1,8 +1,7 @@
 -- The reasons, right by right.
-use Rattle.std.proofs.Common.{◌≡◌, ◌<◌, ◌≤◌, ℕ, zero, suc, ◌+◌, ◌-◌, ◌*◌, ◌%◌, ◌^◌, Bool, true, false, not, ◌&&◌}
-use Rattle.std.proofs.Common.{◌||◌, cond, eqb, ltb, List, [], ◌∷◌, length, set, take, get_or, Option, Some, None, refl}
-use Rattle.std.proofs.Common.{sym, ap, subst, map, replicate}
-use Rattle.std.proofs.Common.{◌∙◌, ⊎_elim, arith, lit<, bit_and, bit_or, slice_get}
+use Rattle.std.proofs.Common.{◌≡◌, ◌<◌, ◌≤◌, ℕ, zero, suc, ◌+◌, ◌-◌, ◌*◌, ◌%◌, ◌^◌, Bool, true, false, not, ◌&&◌, ◌||◌}
+use Rattle.std.proofs.Common.{cond, eqb, ltb, List, [], ◌∷◌, length, set, take, get_or, Option, Some, None, refl, sym}
+use Rattle.std.proofs.Common.{ap, subst, map, replicate, ◌∙◌, ⊎_elim, arith, lit<, bit_and, bit_or, slice_get}
 use Rattle.std.specs.List.{find, list_any, position_from, position_or_len, range_with_len}
 use Rattle.std.specs.Int.Count.{count_trailing_zeros}
 use Rattle.std.specs.Int.{w32}
@@ -24,8 +23,7 @@ use Rattle.sd_token.specs.Token.{Entry, Holder}
 use Rattle.sd_view.specs.Descriptor.{Descriptor}
 use Rattle.sd_check.specs.Acl.{listed_aces}
 use Rattle.sd_check.specs.Ask.{Asked}
-use Rattle.sd_check.specs.Applies.{applies, is_access, is_allow, is_deny}
-use Rattle.sd_check.specs.Applies.{is_inherit_only}
+use Rattle.sd_check.specs.Applies.{applies, is_access, is_allow, is_deny, is_inherit_only}
 use Rattle.sd_check.specs.Granted.{allows, decides, granted, is_allowed, is_open, is_owned, needs_no_ace}
 use Rattle.sd_check.specs.Label.{is_mandatory_label, label_allows}
 use Rattle.sd_check.specs.Need.{all_below}

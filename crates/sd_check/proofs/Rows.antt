@@ -1,5 +1,5 @@
 -- Worked rows, computed: verdicts and the ACEs that they need.
-use Rattle.std.proofs.Common.{◌≡◌, ℕ, Bool, true, false, List, [], ◌∷◌, map, Option, Some, None, refl, arith}
+use Rattle.std.proofs.Common.{◌≡◌, ℕ, Bool, true, false, List, [], ◌∷◌, map, Option, Some, None, refl, arith, rules}
 use Rattle.sd_ace.specs.Ace.{AccessControlEntry}
 use Rattle.sd_rights.specs.Mapping.{GenericMapping, mapped}
 use Rattle.sd_sid.specs.Sid.{SecurityId}
@@ -67,88 +67,8 @@ asked wanted maximum = record {
 held : List Entry → Holder
 held entries = record { entries = entries; level = None }
 
--- a deny-only entry does not allow
-deny_only : verdict (descriptor None (acl.List (ace kinds.Allow 0 0x1f01ff administrators ∷ [])))
-    (held ((user, Enabled) ∷ (administrators, DenyOnly) ∷ [])) (asked 0x120089 false) ≡ Denied 0x120089
-unfolding computed everyone administrators user ace descriptor files asked held
-deny_only = refl
-
 two_entries : List Entry
 two_entries = (administrators, DenyOnly) ∷ (everyone, Enabled) ∷ []
-
-denied_first : verdict (descriptor None (acl.List
-    (ace kinds.Deny 0 0x120116 administrators ∷ ace kinds.Allow 0 0x1f01ff everyone ∷ [])))
-    (held two_entries) (asked 0 true) ≡ Granted 0xd00e9
-unfolding computed everyone administrators ace descriptor files asked two_entries held
-denied_first = refl
-
-allowed_first : verdict (descriptor None (acl.List
-    (ace kinds.Allow 0 0x1f01ff everyone ∷ ace kinds.Deny 0 0x120116 administrators ∷ [])))
-    (held two_entries) (asked 0 true) ≡ Granted 0x1f01ff
-unfolding computed everyone administrators ace descriptor files asked two_entries held
-allowed_first = refl
-
-owner_reads_and_writes_the_dacl : verdict (descriptor (Some user) (acl.List []))
-    (held ((user, Enabled) ∷ [])) (asked 0x60000 false) ≡ Granted 0x60000
-unfolding computed user descriptor files asked held
-owner_reads_and_writes_the_dacl = refl
-
-owner_rights_bind : verdict (descriptor (Some user) (acl.List (ace kinds.Allow 0 0x20000 owner_rights ∷ [])))
-    (held ((user, Enabled) ∷ [])) (asked 0 true) ≡ Granted 0x20000
-unfolding computed owner_rights user ace descriptor files asked held
-owner_rights_bind = refl
-
--- inherited only
-owner_rights_pass : verdict (descriptor (Some user) (acl.List (ace kinds.Allow 0xa 0x1 owner_rights ∷ [])))
-    (held ((user, Enabled) ∷ [])) (asked 0x60001 false) ≡ Denied 0x1
-unfolding computed owner_rights user ace descriptor files asked held
-owner_rights_pass = refl
-
-all_that_are_missing : verdict (descriptor None (acl.List
-    (ace kinds.Deny 0 0x1 everyone ∷ ace kinds.Deny 0 0x2 everyone ∷ [])))
-    (held ((everyone, Enabled) ∷ [])) (asked 0x3 false) ≡ Denied 0x3
-unfolding computed everyone ace descriptor files asked held
-all_that_are_missing = refl
-
-null_dacl : verdict (descriptor None acl.Null) (held ((everyone, Enabled) ∷ [])) (asked 0 true) ≡ Granted 0x1f01ff
-unfolding computed everyone descriptor files asked held
-null_dacl = refl
-
-no_system_security : verdict (descriptor None acl.Null) (held ((everyone, Enabled) ∷ [])) (asked 0x1000000 false)
-    ≡ Denied 0x1000000
-unfolding computed everyone descriptor files asked held
-no_system_security = refl
-
-empty_dacl : verdict (descriptor None (acl.List [])) (held ((everyone, Enabled) ∷ [])) (asked 0 true) ≡ Denied 0
-unfolding computed everyone descriptor files asked held
-empty_dacl = refl
-
--- by itself, without a SID that it stands for
-self_is_itself : verdict (descriptor None (acl.List (ace kinds.Allow 0 0x1 principal_self ∷ [])))
-    (held ((principal_self, Enabled) ∷ [])) (asked 0x1 false) ≡ Granted 0x1
-unfolding computed principal_self ace descriptor files asked held
-self_is_itself = refl
-
-one_ace_is_enough : need (descriptor None (acl.List
-    (ace kinds.Allow 0 0x1f01ff everyone ∷ ace kinds.Allow 0 0x1f01ff administrators ∷ [])))
-    ((everyone, Enabled) ∷ []) (asked 0x120089 false) ≡ 1
-unfolding computed everyone administrators ace descriptor files asked
-one_ace_is_enough = refl
-
-no_ace_is_enough : need (descriptor None (acl.List
-    (ace kinds.Allow 0 0x1f01ff administrators ∷ ace kinds.Allow 0 0x1 administrators ∷ [])))
-    ((everyone, Enabled) ∷ []) (asked 0x120089 false) ≡ 2
-unfolding computed everyone administrators ace descriptor files asked
-no_ace_is_enough = refl
-
-empty_request : ask_fault 0 false ≡ Some EmptyRequest
-empty_request = refl
-
-reserved_bits : ask_fault 0x4000000 false ≡ Some ReservedBits
-reserved_bits = refl
-
-maximum_allowed : ask_fault 0x2000000 false ≡ None
-maximum_allowed = refl
 
 -- the label of a file that grants all to everyone, at a level
 at_level : List AccessControlEntry → ℕ → Verdict
@@ -160,35 +80,6 @@ at_level labels level = verdict (record (descriptor None (acl.List (ace kinds.Al
 level_sid : ℕ → SecurityId
 level_sid level = record { authority = 16; subs = level ∷ [] }
 
-not_written_from_below : at_level (ace kinds.Label 0 1 (level_sid 12288) ∷ []) 8192 ≡ Granted 0x1200a9
-unfolding computed everyone ace descriptor files asked at_level level_sid
-not_written_from_below = refl
-
-equal_level : at_level (ace kinds.Label 0 1 (level_sid 12288) ∷ []) 12288 ≡ Granted 0x1f01ff
-unfolding computed everyone ace descriptor files asked at_level level_sid
-equal_level = refl
-
-no_label : at_level [] 4096 ≡ Granted 0x1200a9
-unfolding computed everyone ace descriptor files asked at_level level_sid
-no_label = refl
-
-only_write_is_left : at_level (ace kinds.Label 0 6 (level_sid 12288) ∷ []) 8192 ≡ Granted 0x120116
-unfolding computed everyone ace descriptor files asked at_level level_sid
-only_write_is_left = refl
-
-empty_policy : at_level (ace kinds.Label 0 0 (level_sid 12288) ∷ []) 8192 ≡ Granted 0x1201bf
-unfolding computed everyone ace descriptor files asked at_level level_sid
-empty_policy = refl
-
-nothing_is_left : at_level (ace kinds.Label 0 7 (level_sid 12288) ∷ []) 8192 ≡ Denied 0
-unfolding computed everyone ace descriptor files asked at_level level_sid
-nothing_is_left = refl
-
-inherit_only_label : at_level
-    (ace kinds.Label 8 1 (level_sid 16384) ∷ ace kinds.Label 0 4 (level_sid 4096) ∷ []) 8192 ≡ Granted 0x1f01ff
-unfolding computed everyone ace descriptor files asked at_level level_sid
-inherit_only_label = refl
-
 -- the null DACL of an object of high integrity
 null_dacl_under_a_label : verdict (record (descriptor None acl.Null) {
   sacl = acl.List (ace kinds.Label 0 1 (level_sid 12288) ∷ []);
@@ -196,64 +87,92 @@ null_dacl_under_a_label : verdict (record (descriptor None acl.Null) {
 unfolding computed everyone ace descriptor files asked level_sid
 null_dacl_under_a_label = refl
 
+deny_only_and_more : record {
+  -- a deny-only entry does not allow
+  deny_only : verdict (descriptor None (acl.List (ace kinds.Allow 0 0x1f01ff administrators ∷ [])))
+      (held ((user, Enabled) ∷ (administrators, DenyOnly) ∷ [])) (asked 0x120089 false) ≡ Denied 0x120089;
+  denied_first : verdict (descriptor None (acl.List
+      (ace kinds.Deny 0 0x120116 administrators ∷ ace kinds.Allow 0 0x1f01ff everyone ∷ [])))
+      (held two_entries) (asked 0 true) ≡ Granted 0xd00e9;
+  allowed_first : verdict (descriptor None (acl.List
+      (ace kinds.Allow 0 0x1f01ff everyone ∷ ace kinds.Deny 0 0x120116 administrators ∷ [])))
+      (held two_entries) (asked 0 true) ≡ Granted 0x1f01ff;
+  owner_reads_and_writes_the_dacl : verdict (descriptor (Some user) (acl.List []))
+      (held ((user, Enabled) ∷ [])) (asked 0x60000 false) ≡ Granted 0x60000;
+  owner_rights_bind : verdict (descriptor (Some user) (acl.List (ace kinds.Allow 0 0x20000 owner_rights ∷ [])))
+      (held ((user, Enabled) ∷ [])) (asked 0 true) ≡ Granted 0x20000;
+  -- inherited only
+  owner_rights_pass : verdict (descriptor (Some user) (acl.List (ace kinds.Allow 0xa 0x1 owner_rights ∷ [])))
+      (held ((user, Enabled) ∷ [])) (asked 0x60001 false) ≡ Denied 0x1;
+  all_that_are_missing : verdict (descriptor None (acl.List
+      (ace kinds.Deny 0 0x1 everyone ∷ ace kinds.Deny 0 0x2 everyone ∷ [])))
+      (held ((everyone, Enabled) ∷ [])) (asked 0x3 false) ≡ Denied 0x3;
+  null_dacl : verdict (descriptor None acl.Null) (held ((everyone, Enabled) ∷ [])) (asked 0 true) ≡ Granted 0x1f01ff;
+  no_system_security : verdict (descriptor None acl.Null) (held ((everyone, Enabled) ∷ [])) (asked 0x1000000 false)
+      ≡ Denied 0x1000000;
+  empty_dacl : verdict (descriptor None (acl.List [])) (held ((everyone, Enabled) ∷ [])) (asked 0 true) ≡ Denied 0;
+  -- by itself, without a SID that it stands for
+  self_is_itself : verdict (descriptor None (acl.List (ace kinds.Allow 0 0x1 principal_self ∷ [])))
+      (held ((principal_self, Enabled) ∷ [])) (asked 0x1 false) ≡ Granted 0x1;
+  one_ace_is_enough : need (descriptor None (acl.List
+      (ace kinds.Allow 0 0x1f01ff everyone ∷ ace kinds.Allow 0 0x1f01ff administrators ∷ [])))
+      ((everyone, Enabled) ∷ []) (asked 0x120089 false) ≡ 1;
+  no_ace_is_enough : need (descriptor None (acl.List
+      (ace kinds.Allow 0 0x1f01ff administrators ∷ ace kinds.Allow 0 0x1 administrators ∷ [])))
+      ((everyone, Enabled) ∷ []) (asked 0x120089 false) ≡ 2;
+  empty_request : ask_fault 0 false ≡ Some EmptyRequest;
+  reserved_bits : ask_fault 0x4000000 false ≡ Some ReservedBits;
+  maximum_allowed : ask_fault 0x2000000 false ≡ None;
+  not_written_from_below : at_level (ace kinds.Label 0 1 (level_sid 12288) ∷ []) 8192 ≡ Granted 0x1200a9;
+  equal_level : at_level (ace kinds.Label 0 1 (level_sid 12288) ∷ []) 12288 ≡ Granted 0x1f01ff;
+  no_label : at_level [] 4096 ≡ Granted 0x1200a9;
+  only_write_is_left : at_level (ace kinds.Label 0 6 (level_sid 12288) ∷ []) 8192 ≡ Granted 0x120116;
+  empty_policy : at_level (ace kinds.Label 0 0 (level_sid 12288) ∷ []) 8192 ≡ Granted 0x1201bf;
+  nothing_is_left : at_level (ace kinds.Label 0 7 (level_sid 12288) ∷ []) 8192 ≡ Denied 0;
+  inherit_only_label : at_level
+      (ace kinds.Label 8 1 (level_sid 16384) ∷ ace kinds.Label 0 4 (level_sid 4096) ∷ []) 8192 ≡ Granted 0x1f01ff;
+}
+unfolding computed everyone administrators user ace descriptor files asked held two_entries owner_rights principal_self
+    at_level level_sid
+deny_only_and_more = search rules
+
 -- 8192, medium, where there is no label, and NW (MS-DTYP 2.4.4.13)
 
-below_medium : at_level [] 8191 ≡ Granted 0x1200a9
+below_medium_and_more : record {
+  below_medium : at_level [] 8191 ≡ Granted 0x1200a9;
+  medium : at_level [] 8192 ≡ Granted 0x1f01ff;
+}
 unfolding computed everyone ace descriptor files asked at_level level_sid
-below_medium = refl
-
-medium : at_level [] 8192 ≡ Granted 0x1f01ff
-unfolding computed everyone ace descriptor files asked at_level level_sid
-medium = refl
+below_medium_and_more = search rules
 
 -- what is no label decides nothing: two numbers, none, another authority, an audit ACE
 
-two_numbers : at_level (ace kinds.Label 0 1 (record { authority = 16; subs = 12288 ∷ 0 ∷ [] }) ∷ []) 8192
-    ≡ Granted 0x1f01ff
+two_numbers_and_more : record {
+  two_numbers : at_level (ace kinds.Label 0 1 (record { authority = 16; subs = 12288 ∷ 0 ∷ [] }) ∷ []) 8192
+      ≡ Granted 0x1f01ff;
+  no_number : at_level (ace kinds.Label 0 1 (record { authority = 16; subs = [] }) ∷ []) 8192 ≡ Granted 0x1f01ff;
+  other_authority : at_level (ace kinds.Label 0 1 (record { authority = 15; subs = 12288 ∷ [] })
+      ∷ ace kinds.Label 0 1 (record { authority = 17; subs = 12288 ∷ [] }) ∷ []) 8192 ≡ Granted 0x1f01ff;
+  audit_of_a_level : at_level (ace kinds.Audit 0 1 (level_sid 12288) ∷ []) 8192 ≡ Granted 0x1f01ff;
+  -- the first label counts, whatever its other flags
+  first_label : at_level (ace kinds.Label 0xd7 1 (level_sid 12288) ∷ ace kinds.Label 0 7 (level_sid 16384) ∷ []) 8192
+      ≡ Granted 0x1200a9;
+  first_label_is_lower : at_level (ace kinds.Label 0 7 (level_sid 4096) ∷ ace kinds.Label 0 7 (level_sid 16384) ∷ [])
+      4096 ≡ Granted 0x1f01ff;
+}
 unfolding computed everyone ace descriptor files asked at_level level_sid
-two_numbers = refl
-
-no_number : at_level (ace kinds.Label 0 1 (record { authority = 16; subs = [] }) ∷ []) 8192 ≡ Granted 0x1f01ff
-unfolding computed everyone ace descriptor files asked at_level level_sid
-no_number = refl
-
-other_authority : at_level (ace kinds.Label 0 1 (record { authority = 15; subs = 12288 ∷ [] })
-    ∷ ace kinds.Label 0 1 (record { authority = 17; subs = 12288 ∷ [] }) ∷ []) 8192 ≡ Granted 0x1f01ff
-unfolding computed everyone ace descriptor files asked at_level level_sid
-other_authority = refl
-
-audit_of_a_level : at_level (ace kinds.Audit 0 1 (level_sid 12288) ∷ []) 8192 ≡ Granted 0x1f01ff
-unfolding computed everyone ace descriptor files asked at_level level_sid
-audit_of_a_level = refl
-
--- the first label counts, whatever its other flags
-first_label : at_level (ace kinds.Label 0xd7 1 (level_sid 12288) ∷ ace kinds.Label 0 7 (level_sid 16384) ∷ []) 8192
-    ≡ Granted 0x1200a9
-unfolding computed everyone ace descriptor files asked at_level level_sid
-first_label = refl
-
-first_label_is_lower : at_level (ace kinds.Label 0 7 (level_sid 4096) ∷ ace kinds.Label 0 7 (level_sid 16384) ∷ [])
-    4096 ≡ Granted 0x1f01ff
-unfolding computed everyone ace descriptor files asked at_level level_sid
-first_label_is_lower = refl
+two_numbers_and_more = search rules
 
 -- each bit of the policy by itself: no read up, no execute up; further bits of the mask say nothing
 
-no_read_up_alone : at_level (ace kinds.Label 0 2 (level_sid 12288) ∷ []) 8192 ≡ Granted 0x1201b6
+no_read_up_alone_and_more : record {
+  no_read_up_alone : at_level (ace kinds.Label 0 2 (level_sid 12288) ∷ []) 8192 ≡ Granted 0x1201b6;
+  no_execute_up_alone : at_level (ace kinds.Label 0 4 (level_sid 12288) ∷ []) 8192 ≡ Granted 0x12019f;
+  further_bits : at_level (ace kinds.Label 0 9 (level_sid 12288) ∷ []) 8192 ≡ Granted 0x1200a9;
+  one_level_below : at_level (ace kinds.Label 0 7 (level_sid 12288) ∷ []) 12287 ≡ Denied 0;
+}
 unfolding computed everyone ace descriptor files asked at_level level_sid
-no_read_up_alone = refl
-
-no_execute_up_alone : at_level (ace kinds.Label 0 4 (level_sid 12288) ∷ []) 8192 ≡ Granted 0x12019f
-unfolding computed everyone ace descriptor files asked at_level level_sid
-no_execute_up_alone = refl
-
-further_bits : at_level (ace kinds.Label 0 9 (level_sid 12288) ∷ []) 8192 ≡ Granted 0x1200a9
-unfolding computed everyone ace descriptor files asked at_level level_sid
-further_bits = refl
-
-one_level_below : at_level (ace kinds.Label 0 7 (level_sid 12288) ∷ []) 12287 ≡ Denied 0
-unfolding computed everyone ace descriptor files asked at_level level_sid
-one_level_below = refl
+no_read_up_alone_and_more = search rules
 
 -- what one asks of a descriptor, with the token of everyone
 
@@ -265,74 +184,35 @@ to_everyone aces ask = of_everyone (descriptor None (acl.List aces)) ask
 
 -- generic rights mean those of files, in an ACE and in what is asked
 
-generic_read_in_an_ace : to_everyone (ace kinds.Allow 0 0x80000000 everyone ∷ []) (asked 0 true) ≡ Granted 0x120089
+generic_rows : record {
+  generic_read_in_an_ace : to_everyone (ace kinds.Allow 0 0x80000000 everyone ∷ []) (asked 0 true) ≡ Granted 0x120089;
+  generic_write_in_an_ace : to_everyone (ace kinds.Allow 0 0x40000000 everyone ∷ []) (asked 0 true) ≡ Granted 0x120116;
+  generic_execute_in_an_ace : to_everyone (ace kinds.Allow 0 0x20000000 everyone ∷ []) (asked 0 true)
+      ≡ Granted 0x1200a0;
+  generic_all_is_asked : to_everyone (ace kinds.Allow 0 0x1f01fe everyone ∷ []) (asked 0x10000000 false) ≡ Denied 0x1;
+}
 unfolding computed everyone ace descriptor files asked held of_everyone to_everyone
-generic_read_in_an_ace = refl
-
-generic_write_in_an_ace : to_everyone (ace kinds.Allow 0 0x40000000 everyone ∷ []) (asked 0 true) ≡ Granted 0x120116
-unfolding computed everyone ace descriptor files asked held of_everyone to_everyone
-generic_write_in_an_ace = refl
-
-generic_execute_in_an_ace : to_everyone (ace kinds.Allow 0 0x20000000 everyone ∷ []) (asked 0 true) ≡ Granted 0x1200a0
-unfolding computed everyone ace descriptor files asked held of_everyone to_everyone
-generic_execute_in_an_ace = refl
-
-generic_all_is_asked : to_everyone (ace kinds.Allow 0 0x1f01fe everyone ∷ []) (asked 0x10000000 false) ≡ Denied 0x1
-unfolding computed everyone ace descriptor files asked held of_everyone to_everyone
-generic_all_is_asked = refl
+generic_rows = search rules
 
 -- the two privileges: right 24 by the one alone, WRITE_OWNER by the other, and nothing else by either
 
 privileged : Asked → Asked
 privileged ask = record ask { security = true; take_ownership = true }
 
-security_privilege : to_everyone [] (privileged (asked 0x1000000 false)) ≡ Granted 0x1000000
-unfolding computed everyone ace descriptor files asked held of_everyone to_everyone privileged
-security_privilege = refl
-
-security_is_no_maximum : of_everyone (descriptor None acl.Null) (privileged (asked 0 true)) ≡ Granted 0x1f01ff
-unfolding computed everyone descriptor files asked held of_everyone privileged
-security_is_no_maximum = refl
-
-take_ownership_privilege : to_everyone [] (privileged (asked 0 true)) ≡ Granted 0x80000
-unfolding computed everyone ace descriptor files asked held of_everyone to_everyone privileged
-take_ownership_privilege = refl
-
-no_other_right : to_everyone [] (privileged (asked 0x1f0000 false)) ≡ Denied 0x170000
-unfolding computed everyone ace descriptor files asked held of_everyone to_everyone privileged
-no_other_right = refl
-
-no_privilege : to_everyone (ace kinds.Allow 0 0x1f01ff administrators ∷ []) (asked 0x80000 false) ≡ Denied 0x80000
-unfolding computed everyone administrators ace descriptor files asked held of_everyone to_everyone
-no_privilege = refl
-
--- right 24 in an ACE grants nothing
-system_security_in_an_ace : to_everyone (ace kinds.Allow 0 0x1000000 everyone ∷ []) (asked 0x1000000 false)
-    ≡ Denied 0x1000000
-unfolding computed everyone ace descriptor files asked held of_everyone to_everyone
-system_security_in_an_ace = refl
+two_privileges : record {
+  security_privilege : to_everyone [] (privileged (asked 0x1000000 false)) ≡ Granted 0x1000000;
+  security_is_no_maximum : of_everyone (descriptor None acl.Null) (privileged (asked 0 true)) ≡ Granted 0x1f01ff;
+  take_ownership_privilege : to_everyone [] (privileged (asked 0 true)) ≡ Granted 0x80000;
+  no_other_right : to_everyone [] (privileged (asked 0x1f0000 false)) ≡ Denied 0x170000;
+  no_privilege : to_everyone (ace kinds.Allow 0 0x1f01ff administrators ∷ []) (asked 0x80000 false) ≡ Denied 0x80000;
+  -- right 24 in an ACE grants nothing
+  system_security_in_an_ace : to_everyone (ace kinds.Allow 0 0x1000000 everyone ∷ []) (asked 0x1000000 false)
+      ≡ Denied 0x1000000;
+}
+unfolding computed everyone ace descriptor files asked held of_everyone to_everyone privileged administrators
+two_privileges = search rules
 
 -- the owner: deny-only is not enough; an audit ACE for OWNER RIGHTS takes nothing, and one of an object type does
-
-owner_is_deny_only : verdict (descriptor (Some user) (acl.List [])) (held ((user, DenyOnly) ∷ [])) (asked 0x20000 false)
-    ≡ Denied 0x20000
-unfolding computed user descriptor files asked held
-owner_is_deny_only = refl
-
-owner_has_no_more : verdict (descriptor (Some user) (acl.List [])) (held ((user, Enabled) ∷ [])) (asked 0xf0000 false)
-    ≡ Denied 0x90000
-unfolding computed user descriptor files asked held
-owner_has_no_more = refl
-
-audit_of_owner_rights : verdict (descriptor (Some user) (acl.List (ace kinds.Audit 0 0x20000 owner_rights ∷ [])))
-    (held ((user, Enabled) ∷ [])) (asked 0x60000 false) ≡ Granted 0x60000
-unfolding computed owner_rights user ace descriptor files asked held
-audit_of_owner_rights = refl
-
-denied_owner_rights : verdict (descriptor (Some user) (acl.List (ace kinds.Deny 0 0x1 owner_rights ∷ [])))
-    (held ((user, Enabled) ∷ [])) (asked 0x60001 false) ≡ Denied 0x60001
-unfolding computed owner_rights user ace descriptor files asked held
-denied_owner_rights = refl
 
 object_type : List ℕ
 object_type = 0xba ∷ 0x7a ∷ 0x96 ∷ 0xbf ∷ 0xe6 ∷ 0x0d ∷ 0xd0 ∷ 0x11 ∷ 0xa2 ∷ 0x85 ∷ 0 ∷ 0xaa ∷ 0 ∷ 0x30 ∷ 0x49 ∷ 0xe2
@@ -342,40 +222,42 @@ object_type = 0xba ∷ 0x7a ∷ 0x96 ∷ 0xbf ∷ 0xe6 ∷ 0x0d ∷ 0xd0 ∷ 0x1
 typed : AceKind → ℕ → SecurityId → AccessControlEntry
 typed kind mask sid = record (ace kind 0 mask sid) { object = Some object_type }
 
-object_of_owner_rights : verdict (descriptor (Some user)
-    (acl.List (typed kinds.ObjectAllow 0x100 owner_rights ∷ []))) (held ((user, Enabled) ∷ [])) (asked 0x20000 false)
-    ≡ Denied 0x20000
-unfolding computed owner_rights user ace descriptor files asked held object_type typed
-object_of_owner_rights = refl
-
--- without an owner, OWNER RIGHTS is nobody, also for a token that lists it
-nobodys_rights : verdict (descriptor None (acl.List (ace kinds.Allow 0 0x1 owner_rights ∷ [])))
-    (held ((owner_rights, Enabled) ∷ [])) (asked 0x1 false) ≡ Denied 0x1
-unfolding computed owner_rights ace descriptor files asked held
-nobodys_rights = refl
+owner_is_deny_only_and_more : record {
+  owner_is_deny_only : verdict (descriptor (Some user) (acl.List [])) (held ((user, DenyOnly)
+      ∷ [])) (asked 0x20000 false)
+      ≡ Denied 0x20000;
+  owner_has_no_more : verdict (descriptor (Some user) (acl.List [])) (held ((user, Enabled) ∷ [])) (asked 0xf0000 false)
+      ≡ Denied 0x90000;
+  audit_of_owner_rights : verdict (descriptor (Some user) (acl.List (ace kinds.Audit 0 0x20000 owner_rights ∷ [])))
+      (held ((user, Enabled) ∷ [])) (asked 0x60000 false) ≡ Granted 0x60000;
+  denied_owner_rights : verdict (descriptor (Some user) (acl.List (ace kinds.Deny 0 0x1 owner_rights ∷ [])))
+      (held ((user, Enabled) ∷ [])) (asked 0x60001 false) ≡ Denied 0x60001;
+  object_of_owner_rights : verdict (descriptor (Some user)
+      (acl.List (typed kinds.ObjectAllow 0x100 owner_rights ∷ []))) (held ((user, Enabled) ∷ [])) (asked 0x20000 false)
+      ≡ Denied 0x20000;
+  -- without an owner, OWNER RIGHTS is nobody, also for a token that lists it
+  nobodys_rights : verdict (descriptor None (acl.List (ace kinds.Allow 0 0x1 owner_rights ∷ [])))
+      (held ((owner_rights, Enabled) ∷ [])) (asked 0x1 false) ≡ Denied 0x1;
+}
+unfolding computed user descriptor files asked held owner_rights ace object_type typed
+owner_is_deny_only_and_more = search rules
 
 -- object types: of none, of the one that is asked for, and of another; the inherited one is not looked at
 
 of_type : Asked → Asked
 of_type ask = record ask { object = Some object_type }
 
-object_ace_without_a_type : to_everyone (ace kinds.ObjectAllow 0 0x100 everyone ∷ []) (asked 0x100 false)
-    ≡ Granted 0x100
-unfolding computed everyone ace descriptor files asked held of_everyone to_everyone
-object_ace_without_a_type = refl
-
-type_is_not_asked : to_everyone (typed kinds.ObjectAllow 0x100 everyone ∷ []) (asked 0x100 false) ≡ Denied 0x100
-unfolding computed everyone ace descriptor files asked held of_everyone to_everyone object_type typed
-type_is_not_asked = refl
-
-type_is_asked : to_everyone (typed kinds.ObjectAllow 0x100 everyone ∷ []) (of_type (asked 0x100 false)) ≡ Granted 0x100
+object_types : record {
+  object_ace_without_a_type : to_everyone (ace kinds.ObjectAllow 0 0x100 everyone ∷ []) (asked 0x100 false)
+      ≡ Granted 0x100;
+  type_is_not_asked : to_everyone (typed kinds.ObjectAllow 0x100 everyone ∷ []) (asked 0x100 false) ≡ Denied 0x100;
+  type_is_asked : to_everyone (typed kinds.ObjectAllow 0x100 everyone ∷ []) (of_type (asked 0x100 false))
+      ≡ Granted 0x100;
+  type_is_denied : to_everyone (typed kinds.ObjectDeny 0x100 everyone ∷ ace kinds.Allow 0 0x1f01ff everyone ∷ [])
+      (of_type (asked 0x101 false)) ≡ Denied 0x100;
+}
 unfolding computed everyone ace descriptor files asked held of_everyone to_everyone object_type typed of_type
-type_is_asked = refl
-
-type_is_denied : to_everyone (typed kinds.ObjectDeny 0x100 everyone ∷ ace kinds.Allow 0 0x1f01ff everyone ∷ [])
-    (of_type (asked 0x101 false)) ≡ Denied 0x100
-unfolding computed everyone ace descriptor files asked held of_everyone to_everyone object_type typed of_type
-type_is_denied = refl
+object_types = search rules
 
 -- another one in its first byte, or in its last
 
@@ -385,69 +267,49 @@ other_types =
     ∷ (0xba ∷ 0x7a ∷ 0x96 ∷ 0xbf ∷ 0xe6 ∷ 0x0d ∷ 0xd0 ∷ 0x11 ∷ 0xa2 ∷ 0x85 ∷ 0 ∷ 0xaa ∷ 0 ∷ 0x30 ∷ 0x49 ∷ 0xe3 ∷ [])
     ∷ []
 
-another_type_is_asked : map (λ other. to_everyone (typed kinds.ObjectAllow 0x100 everyone ∷ [])
-    (record (asked 0x100 false) { object = Some other })) other_types ≡ Denied 0x100 ∷ Denied 0x100 ∷ []
+another_type_is_asked_and_more : record {
+  another_type_is_asked : map (λ other. to_everyone (typed kinds.ObjectAllow 0x100 everyone ∷ [])
+      (record (asked 0x100 false) { object = Some other })) other_types ≡ Denied 0x100 ∷ Denied 0x100 ∷ [];
+  another_type_is_denied : map (λ other. to_everyone
+      (typed kinds.ObjectDeny 0x100 everyone ∷ ace kinds.Allow 0 0x1f01ff everyone ∷ [])
+      (record (asked 0x100 false) { object = Some other })) other_types ≡ Granted 0x100 ∷ Granted 0x100 ∷ [];
+  inherited_type : to_everyone
+      (record (ace kinds.ObjectAllow 0 0x100 everyone) { inherited = Some object_type } ∷ []) (asked 0x100 false)
+      ≡ Granted 0x100;
+}
 unfolding computed everyone ace descriptor files asked held of_everyone to_everyone object_type typed other_types
-another_type_is_asked = refl
-
-another_type_is_denied : map (λ other. to_everyone
-    (typed kinds.ObjectDeny 0x100 everyone ∷ ace kinds.Allow 0 0x1f01ff everyone ∷ [])
-    (record (asked 0x100 false) { object = Some other })) other_types ≡ Granted 0x100 ∷ Granted 0x100 ∷ []
-unfolding computed everyone ace descriptor files asked held of_everyone to_everyone object_type typed other_types
-another_type_is_denied = refl
-
-inherited_type : to_everyone
-    (record (ace kinds.ObjectAllow 0 0x100 everyone) { inherited = Some object_type } ∷ []) (asked 0x100 false)
-    ≡ Granted 0x100
-unfolding computed everyone ace descriptor files asked held of_everyone to_everyone object_type
-inherited_type = refl
+another_type_is_asked_and_more = search rules
 
 -- PRINCIPAL SELF is replaced once
 
-self_is_the_user : verdict (descriptor None (acl.List (ace kinds.Allow 0 0x1 principal_self ∷ [])))
-    (held ((user, Enabled) ∷ [])) (record (asked 0x1 false) { principal_self = Some user }) ≡ Granted 0x1
-unfolding computed principal_self user ace descriptor files asked held
-self_is_the_user = refl
-
-self_is_owner_rights : verdict (descriptor (Some user) (acl.List (ace kinds.Allow 0 0x1 principal_self ∷ [])))
-    (held ((user, Enabled) ∷ [])) (record (asked 0x1 false) { principal_self = Some owner_rights }) ≡ Denied 0x1
-unfolding computed principal_self owner_rights user ace descriptor files asked held
-self_is_owner_rights = refl
+self_is_rows : record {
+  self_is_the_user : verdict (descriptor None (acl.List (ace kinds.Allow 0 0x1 principal_self ∷ [])))
+      (held ((user, Enabled) ∷ [])) (record (asked 0x1 false) { principal_self = Some user }) ≡ Granted 0x1;
+  self_is_owner_rights : verdict (descriptor (Some user) (acl.List (ace kinds.Allow 0 0x1 principal_self ∷ [])))
+      (held ((user, Enabled) ∷ [])) (record (asked 0x1 false) { principal_self = Some owner_rights }) ≡ Denied 0x1;
+}
+unfolding computed principal_self user ace descriptor files asked held owner_rights
+self_is_rows = search rules
 
 -- an ACE that is inherit-only does not apply; one with any other flag does
 
-inherit_only : to_everyone (ace kinds.Allow 0x8 0x1 everyone ∷ []) (asked 0x1 false) ≡ Denied 0x1
+inherit_only_and_more : record {
+  inherit_only : to_everyone (ace kinds.Allow 0x8 0x1 everyone ∷ []) (asked 0x1 false) ≡ Denied 0x1;
+  other_flags : to_everyone (ace kinds.Allow 0xd7 0x1 everyone ∷ []) (asked 0x1 false) ≡ Granted 0x1;
+  -- audit ACEs and labels of the DACL decide nothing
+  no_access_kind : to_everyone (ace kinds.Audit 0 0x1 everyone ∷ ace kinds.ObjectAudit 0 0x1 everyone
+      ∷ ace kinds.Label 0 0x1 everyone ∷ []) (asked 0x1 false) ≡ Denied 0x1;
+  absent_dacl : of_everyone (descriptor None acl.Absent) (asked 0 true) ≡ Granted 0x1f01ff;
+  second_reserved_bit : ask_fault 0x8000000 true ≡ Some ReservedBits;
+  generic_all_is_not_reserved : ask_fault 0x10000000 false ≡ None;
+}
 unfolding computed everyone ace descriptor files asked held of_everyone to_everyone
-inherit_only = refl
-
-other_flags : to_everyone (ace kinds.Allow 0xd7 0x1 everyone ∷ []) (asked 0x1 false) ≡ Granted 0x1
-unfolding computed everyone ace descriptor files asked held of_everyone to_everyone
-other_flags = refl
-
--- audit ACEs and labels of the DACL decide nothing
-no_access_kind : to_everyone (ace kinds.Audit 0 0x1 everyone ∷ ace kinds.ObjectAudit 0 0x1 everyone
-    ∷ ace kinds.Label 0 0x1 everyone ∷ []) (asked 0x1 false) ≡ Denied 0x1
-unfolding computed everyone ace descriptor files asked held of_everyone to_everyone
-no_access_kind = refl
-
-absent_dacl : of_everyone (descriptor None acl.Absent) (asked 0 true) ≡ Granted 0x1f01ff
-unfolding computed everyone descriptor files asked held of_everyone
-absent_dacl = refl
-
-second_reserved_bit : ask_fault 0x8000000 true ≡ Some ReservedBits
-second_reserved_bit = refl
-
-generic_all_is_not_reserved : ask_fault 0x10000000 false ≡ None
-generic_all_is_not_reserved = refl
+inherit_only_and_more = search rules
 
 -- ACCESS_SYSTEM_SECURITY is the last right, and bit 25 asks for the maximum
 
 bit_25 : (asks_maximum 0x2000000 ≡ true) × (asks_maximum 0xfdffffff ≡ false)
 bit_25 = (refl, refl)
-
-wanted_rights : wanted_of files 0x83000001 ∷ wanted_of files 0x2000000 ∷ [] ≡ 0x1120089 ∷ 0 ∷ []
-unfolding computed files
-wanted_rights = refl
 
 every_right : AreRights (record (asked 0 false) {
   wanted = 0x1ffffff;
@@ -466,12 +328,15 @@ one_more_of_all : AreRights (record (asked 0 false) {
 unfolding asked
 one_more_of_all h = let more = h.all in omega arith
 
--- a deny-only entry denies, by an object ACE too, and does not allow
-deny_only_by_an_object_ace : verdict (descriptor None (acl.List
-    (ace kinds.ObjectDeny 0 0x1 administrators ∷ ace kinds.ObjectAllow 0 0x2 administrators
-    ∷ ace kinds.Allow 0 0x1 everyone ∷ []))) (held two_entries) (asked 0x3 false) ≡ Denied 0x3
-unfolding computed everyone administrators ace descriptor files asked two_entries held
-deny_only_by_an_object_ace = refl
+wanted_rights_and_more : record {
+  wanted_rights : wanted_of files 0x83000001 ∷ wanted_of files 0x2000000 ∷ [] ≡ 0x1120089 ∷ 0 ∷ [];
+  -- a deny-only entry denies, by an object ACE too, and does not allow
+  deny_only_by_an_object_ace : verdict (descriptor None (acl.List
+      (ace kinds.ObjectDeny 0 0x1 administrators ∷ ace kinds.ObjectAllow 0 0x2 administrators
+      ∷ ace kinds.Allow 0 0x1 everyone ∷ []))) (held two_entries) (asked 0x3 false) ≡ Denied 0x3;
+}
+unfolding computed files everyone administrators ace descriptor asked two_entries held
+wanted_rights_and_more = search rules
 
 -- how much is compared: each ACE and the owner with each entry
 
@@ -506,13 +371,12 @@ maximum_alone = (refl, refl)
 
 -- each privilege by itself grants its own right
 
-by_security : to_everyone [] (record (asked 0x1080000 false) { security = true }) ≡ Denied 0x80000
+by_and_more : record {
+  by_security : to_everyone [] (record (asked 0x1080000 false) { security = true }) ≡ Denied 0x80000;
+  by_take_ownership : to_everyone [] (record (asked 0x1080000 false) { take_ownership = true }) ≡ Denied 0x1000000;
+}
 unfolding computed everyone ace descriptor files asked held of_everyone to_everyone
-by_security = refl
-
-by_take_ownership : to_everyone [] (record (asked 0x1080000 false) { take_ownership = true }) ≡ Denied 0x1000000
-unfolding computed everyone ace descriptor files asked held of_everyone to_everyone
-by_take_ownership = refl
+by_and_more = search rules
 
 -- with the maximum, the rights of generic all are in question, and no others
 
@@ -540,38 +404,11 @@ five_aces : List AccessControlEntry
 five_aces = ace kinds.Audit 0 0x1 everyone ∷ ace kinds.Allow 8 0x1 everyone ∷ ace kinds.Allow 0 0x1 administrators
     ∷ ace kinds.Deny 0 0x1 everyone ∷ ace kinds.Allow 0 0x3 everyone ∷ []
 
-first_that_applies : why (acl.List five_aces) (0 ∷ 1 ∷ 2 ∷ [])
-    ≡ reason.Denied 3 ∷ reason.Granted 4 ∷ reason.Nothing ∷ []
-unfolding computed everyone administrators user ace descriptor files asked of_user user_at why five_aces
-first_that_applies = refl
-
--- generic read has the rights 0, 3 and 7, and not 1
-generic_right_decides : why (acl.List (ace kinds.Deny 0 0x80000000 everyone ∷ ace kinds.Allow 0 0x3 everyone ∷ []))
-    (0 ∷ 1 ∷ 3 ∷ 7 ∷ []) ≡ reason.Denied 0 ∷ reason.Granted 1 ∷ reason.Denied 0 ∷ reason.Denied 0 ∷ []
-unfolding computed everyone user ace descriptor files asked of_user user_at why
-generic_right_decides = refl
-
--- an owner has two rights, also if an ACE denies them
-owner_comes_first : why (acl.List (ace kinds.Deny 0 0xe0000 everyone ∷ [])) (17 ∷ 18 ∷ 19 ∷ [])
-    ≡ reason.Owner ∷ reason.Owner ∷ reason.Denied 0 ∷ []
-unfolding computed everyone user ace descriptor files asked of_user user_at why
-owner_comes_first = refl
-
-owner_is_bound : why (acl.List (ace kinds.Allow 0 0x20000 owner_rights ∷ [])) (17 ∷ 18 ∷ [])
-    ≡ reason.Granted 0 ∷ reason.Nothing ∷ []
-unfolding computed everyone owner_rights user ace descriptor files asked of_user user_at why
-owner_is_bound = refl
-
 without_a_dacl : (why acl.Null (0 ∷ 17 ∷ 23 ∷ 24 ∷ [])
     ≡ reason.NoDacl ∷ reason.NoDacl ∷ reason.NoDacl ∷ reason.Nothing ∷ [])
     × (why acl.Absent (0 ∷ 19 ∷ 24 ∷ []) ≡ reason.NoDacl ∷ reason.NoDacl ∷ reason.Nothing ∷ [])
 unfolding computed everyone user descriptor files asked of_user user_at why
 without_a_dacl = (refl, refl)
-
-no_ace_grants_right_24 : why (acl.List (ace kinds.Allow 0 0x1080000 everyone ∷ [])) (16 ∷ 19 ∷ 24 ∷ [])
-    ≡ reason.Nothing ∷ reason.Granted 0 ∷ reason.Nothing ∷ []
-unfolding computed everyone user ace descriptor files asked of_user user_at why
-no_ace_grants_right_24 = refl
 
 with_privileges : AclPart → List ℕ → List Reason
 with_privileges dacl rights =
@@ -582,6 +419,23 @@ by_privilege : (with_privileges (acl.List (ace kinds.Deny 0 0x10f0000 everyone �
     × (with_privileges acl.Null (19 ∷ 24 ∷ []) ≡ reason.NoDacl ∷ reason.Privilege ∷ [])
 unfolding computed everyone user ace descriptor files asked of_user user_at privileged with_privileges
 by_privilege = (refl, refl)
+
+why_the_user : record {
+  first_that_applies : why (acl.List five_aces) (0 ∷ 1 ∷ 2 ∷ [])
+      ≡ reason.Denied 3 ∷ reason.Granted 4 ∷ reason.Nothing ∷ [];
+  -- generic read has the rights 0, 3 and 7, and not 1
+  generic_right_decides : why (acl.List (ace kinds.Deny 0 0x80000000 everyone ∷ ace kinds.Allow 0 0x3 everyone ∷ []))
+      (0 ∷ 1 ∷ 3 ∷ 7 ∷ []) ≡ reason.Denied 0 ∷ reason.Granted 1 ∷ reason.Denied 0 ∷ reason.Denied 0 ∷ [];
+  -- an owner has two rights, also if an ACE denies them
+  owner_comes_first : why (acl.List (ace kinds.Deny 0 0xe0000 everyone ∷ [])) (17 ∷ 18 ∷ 19 ∷ [])
+      ≡ reason.Owner ∷ reason.Owner ∷ reason.Denied 0 ∷ [];
+  owner_is_bound : why (acl.List (ace kinds.Allow 0 0x20000 owner_rights ∷ [])) (17 ∷ 18 ∷ [])
+      ≡ reason.Granted 0 ∷ reason.Nothing ∷ [];
+  no_ace_grants_right_24 : why (acl.List (ace kinds.Allow 0 0x1080000 everyone ∷ [])) (16 ∷ 19 ∷ 24 ∷ [])
+      ≡ reason.Nothing ∷ reason.Granted 0 ∷ reason.Nothing ∷ [];
+}
+unfolding computed everyone administrators user ace descriptor files asked of_user user_at why five_aces owner_rights
+why_the_user = search rules
 
 -- below the label: what it takes, it takes also from an owner, a privilege and a null DACL, and if nothing would grant
 -- it
@@ -611,22 +465,21 @@ default_label : (below [] (acl.List (ace kinds.Allow 0 0x3 everyone ∷ [])) (0 
 unfolding computed everyone user ace descriptor files asked level_sid of_user user_at privileged below
 default_label = (refl, refl)
 
-all_25 : reasons (of_user [] (acl.List (ace kinds.Deny 0 0x2 everyone ∷ ace kinds.Allow 0 0x1f01ff everyone ∷ [])))
-    (user_at None) (asked 0 true)
-    ≡ reason.Granted 1 ∷ reason.Denied 0 ∷ reason.Granted 1 ∷ reason.Granted 1 ∷ reason.Granted 1 ∷ reason.Granted 1
-    ∷ reason.Granted 1 ∷ reason.Granted 1 ∷ reason.Granted 1 ∷ reason.Nothing ∷ reason.Nothing ∷ reason.Nothing
-    ∷ reason.Nothing ∷ reason.Nothing ∷ reason.Nothing ∷ reason.Nothing ∷ reason.Granted 1 ∷ reason.Owner ∷ reason.Owner
-    ∷ reason.Granted 1 ∷ reason.Granted 1 ∷ reason.Nothing ∷ reason.Nothing ∷ reason.Nothing ∷ reason.Nothing ∷ []
+below_the_label : record {
+  all_25 : reasons (of_user [] (acl.List (ace kinds.Deny 0 0x2 everyone ∷ ace kinds.Allow 0 0x1f01ff everyone ∷ [])))
+      (user_at None) (asked 0 true)
+      ≡ reason.Granted 1 ∷ reason.Denied 0 ∷ reason.Granted 1 ∷ reason.Granted 1 ∷ reason.Granted 1 ∷ reason.Granted 1
+      ∷ reason.Granted 1 ∷ reason.Granted 1 ∷ reason.Granted 1 ∷ reason.Nothing ∷ reason.Nothing ∷ reason.Nothing
+      ∷ reason.Nothing ∷ reason.Nothing ∷ reason.Nothing ∷ reason.Nothing ∷ reason.Granted 1 ∷ reason.Owner
+      ∷ reason.Owner
+      ∷ reason.Granted 1 ∷ reason.Granted 1 ∷ reason.Nothing ∷ reason.Nothing ∷ reason.Nothing ∷ reason.Nothing ∷ [];
+  granting : map grants (reason.NoDacl ∷ reason.Owner ∷ reason.Privilege ∷ reason.Granted 0 ∷ [])
+      ≡ true ∷ true ∷ true ∷ true ∷ [];
+  denying : map grants (reason.Nothing ∷ reason.Label None ∷ reason.Label (Some 0) ∷ reason.Denied 0 ∷ [])
+      ≡ false ∷ false ∷ false ∷ false ∷ [];
+}
 unfolding computed everyone user ace descriptor files asked of_user user_at
-all_25 = refl
-
-granting : map grants (reason.NoDacl ∷ reason.Owner ∷ reason.Privilege ∷ reason.Granted 0 ∷ [])
-    ≡ true ∷ true ∷ true ∷ true ∷ []
-granting = refl
-
-denying : map grants (reason.Nothing ∷ reason.Label None ∷ reason.Label (Some 0) ∷ reason.Denied 0 ∷ [])
-    ≡ false ∷ false ∷ false ∷ false ∷ []
-denying = refl
+below_the_label = search rules
 
 -- the ACEs that the reasons need: each right below 24 that is left by the label, the owner and the privilege
 

@@ -1,6 +1,6 @@
 -- Worked rows of command lines, computed.
 use Rattle.std.proofs.Common.{◌≡◌, ◌≤◌, ◌+◌, ℕ, List, [], ◌∷◌, ◌++◌, None, Some, Result, Ok, Err, true, false, codes}
-use Rattle.std.proofs.Common.{Global, String, arith, inl, inr, refl}
+use Rattle.std.proofs.Common.{Global, String, arith, inl, inr, refl, rules}
 use Rattle.std.specs.List.{flat_map}
 use Rattle.std.specs.Option.{option_map}
 use Rattle.std.specs.Prelude.{length, map, replicate}
@@ -43,12 +43,11 @@ use Rattle.sd_command.specs.Endings.{Says, SaysOf, Told, run_line, status_of}
 use Rattle.sd_command.specs.Preparing.{EndsNoticed, Notice, PreparesBy, StopsTaken, notice_of, settled as settles}
 use Rattle.sd_command.specs.Settings.{Settings, asked, check_own, domain_reads, given_level, given_object, given_sid}
 use Rattle.sd_command.specs.Settings.{command_reads, form_reads, given_token, given_want, level_reads, mapping_reads}
-use Rattle.sd_command.specs.Settings.{target_reads}
+use Rattle.sd_command.specs.Settings.{target_reads, command_chosen, convert_own, derive_own, given_creator, nobody}
+use Rattle.sd_command.specs.Settings.{settings_of, given_domain, given_kind, given_mapping, given_form}
+use Rattle.sd_command.specs.Settings.{given_output_form, is_set, needed_sid, task_with, with_creator}
 use Rattle.sd_command.specs.TokenText.{entries_read}
 use Rattle.sd_command.specs.Usage.{usage_line}
-use Rattle.sd_command.specs.Settings.{command_chosen, convert_own, derive_own, given_creator, nobody, settings_of}
-use Rattle.sd_command.specs.Settings.{given_domain, given_kind, given_mapping, given_form, given_output_form, is_set}
-use Rattle.sd_command.specs.Settings.{needed_sid, task_with, with_creator}
 use Rattle.sd_rights.specs.Mapping.{directory_mapping, file_mapping, key_mapping, mapped}
 
 -- `unfolding parsed_words` lets `refl` compute what the command line makes of words, and `unfolding settled_words` also
@@ -84,34 +83,12 @@ to_hex = codes "sdtool" ∷ codes "convert" ∷ codes "--to" ∷ codes "hex" ∷
 abbrev to_xml : List Text
 to_xml = codes "sdtool" ∷ codes "convert" ∷ codes "--to" ∷ codes "xml" ∷ []
 
-taken : takes line to_hex ≡ true
-unfolding parsed_words
-taken = refl
-
-no_fault : fault_of line to_hex ≡ []
-unfolding parsed_words
-no_fault = refl
-
 settled : settings_of to_hex ≡ Ok (without_creator (on_hex (Convert output.Hex)) nobody)
 unfolding settled_words
 settled = refl
 
-not_settled : settings_of to_xml ≡ Err (Value name.To)
-unfolding settled_words
-not_settled = refl
-
 abbrev pub explain_sddl : List Text
 explain_sddl = codes "sdtool" ∷ codes "explain" ∷ codes "--numeric" ∷ codes "--from" ∷ codes "sddl" ∷ []
-
-explained : settings_of explain_sddl
-    ≡ Ok (without_creator (record (on_hex Explain) { line_form = Sddl; numeric = true }) nobody)
-unfolding settled_words
-explained = refl
-
--- an explanation has one form
-no_form : takes line (codes "sdtool" ∷ codes "explain" ∷ codes "--to" ∷ codes "hex" ∷ []) ≡ false
-unfolding parsed_words
-no_form = refl
 
 abbrev pub derive_file : List Text
 derive_file =
@@ -122,15 +99,21 @@ derive_file =
 abbrev new_file : Plan
 new_file = record { target = File; owner = system; group = everyone; mapping = file_mapping }
 
-derived : settings_of derive_file ≡ Ok (without_creator (on_hex (Derive new_file output.Sddl)) nobody)
-unfolding settled_words
-derived = refl
-
--- a kind has to be given
-no_kind : takes line (codes "sdtool" ∷ codes "derive" ∷ codes "--owner" ∷ codes "S-1-5-18" ∷ codes "--group"
-    ∷ codes "S-1-1-0" ∷ []) ≡ false
-unfolding parsed_words
-no_kind = refl
+taken_and_more : record {
+  taken : takes line to_hex ≡ true;
+  no_fault : fault_of line to_hex ≡ [];
+  not_settled : settings_of to_xml ≡ Err (Value name.To);
+  explained : settings_of explain_sddl
+      ≡ Ok (without_creator (record (on_hex Explain) { line_form = Sddl; numeric = true }) nobody);
+  -- an explanation has one form
+  no_form : takes line (codes "sdtool" ∷ codes "explain" ∷ codes "--to" ∷ codes "hex" ∷ []) ≡ false;
+  derived : settings_of derive_file ≡ Ok (without_creator (on_hex (Derive new_file output.Sddl)) nobody);
+  -- a kind has to be given
+  no_kind : takes line (codes "sdtool" ∷ codes "derive" ∷ codes "--owner" ∷ codes "S-1-5-18" ∷ codes "--group"
+      ∷ codes "S-1-1-0" ∷ []) ≡ false;
+}
+unfolding parsed_words settled_words
+taken_and_more = search rules
 
 -- levels: one to ten decimal digits below 2 ^ 32
 
@@ -236,30 +219,6 @@ check_with options = codes "sdtool" ∷ codes "check" ∷ options
 of_everyone : List Text → List Text
 of_everyone options = check_with (codes "--token" ∷ codes "WD" ∷ options)
 
--- to read a key is 0x20019
-all_options : settings_of (check_with (codes "--domain" ∷ codes "S-1-5-21-1-2-3" ∷ codes "--from" ∷ codes "base64"
-    ∷ codes "--token" ∷ codes "WD,!DA" ∷ codes "--want" ∷ codes "GR" ∷ codes "--type" ∷ codes "key"
-    ∷ codes "--object" ∷ codes "bf967aba-0de6-11d0-a285-00aa003049e2" ∷ codes "--self" ∷ codes "DA"
-    ∷ codes "--security" ∷ codes "--take-ownership" ∷ codes "--level" ∷ codes "8192" ∷ []))
-    ≡ Ok (without_creator
-    (record {
-      line_form = Base64;
-      act = Check (record {
-        wanted = 0x20019;
-        maximum = false;
-        mapping = key_mapping;
-        object = Some user_class;
-        principal_self = Some domain_admins;
-        security = true;
-        take_ownership = true;
-      });
-      domain = Some a_domain;
-      numeric = false;
-    })
-    (record { entries = (everyone, Enabled) ∷ (domain_admins, DenyOnly) ∷ []; level = Some 8192 }))
-unfolding settled_words check_with a_domain domain_admins user_class
-all_options = refl
-
 -- what Everyone asks of a file, with these rights
 abbrev file_asked : ℕ → Asked
 file_asked wanted = record {
@@ -280,51 +239,53 @@ maximum : settings_of (of_everyone (codes "--maximum" ∷ [])) ≡ Ok (asks (rec
 unfolding settled_words check_with of_everyone
 maximum = refl
 
-maximum_by_its_bit : settings_of (of_everyone (codes "--want" ∷ codes "0x2000001" ∷ []))
-    ≡ Ok (asks (record (file_asked 1) { maximum = true }))
-unfolding settled_words check_with of_everyone
-maximum_by_its_bit = refl
-
-rights_alone : settings_of (of_everyone (codes "--want" ∷ codes "SD" ∷ [])) ≡ Ok (asks (file_asked 0x10000))
-unfolding settled_words check_with of_everyone
-rights_alone = refl
+all_options_and_more : record {
+  -- to read a key is 0x20019
+  all_options : settings_of (check_with (codes "--domain" ∷ codes "S-1-5-21-1-2-3" ∷ codes "--from" ∷ codes "base64"
+      ∷ codes "--token" ∷ codes "WD,!DA" ∷ codes "--want" ∷ codes "GR" ∷ codes "--type" ∷ codes "key"
+      ∷ codes "--object" ∷ codes "bf967aba-0de6-11d0-a285-00aa003049e2" ∷ codes "--self" ∷ codes "DA"
+      ∷ codes "--security" ∷ codes "--take-ownership" ∷ codes "--level" ∷ codes "8192" ∷ []))
+      ≡ Ok (without_creator
+      (record {
+        line_form = Base64;
+        act = Check (record {
+          wanted = 0x20019;
+          maximum = false;
+          mapping = key_mapping;
+          object = Some user_class;
+          principal_self = Some domain_admins;
+          security = true;
+          take_ownership = true;
+        });
+        domain = Some a_domain;
+        numeric = false;
+      })
+      (record { entries = (everyone, Enabled) ∷ (domain_admins, DenyOnly) ∷ []; level = Some 8192 }));
+  maximum_by_its_bit : settings_of (of_everyone (codes "--want" ∷ codes "0x2000001" ∷ []))
+      ≡ Ok (asks (record (file_asked 1) { maximum = true }));
+  rights_alone : settings_of (of_everyone (codes "--want" ∷ codes "SD" ∷ [])) ≡ Ok (asks (file_asked 0x10000));
+}
+unfolding settled_words check_with a_domain domain_admins user_class of_everyone
+all_options_and_more = search rules
 
 -- each privilege by its own option
 
-security_alone : settings_of (of_everyone (codes "--want" ∷ codes "1" ∷ codes "--security" ∷ []))
-    ≡ Ok (asks (record (file_asked 1) { security = true }))
+security_alone_and_more : record {
+  security_alone : settings_of (of_everyone (codes "--want" ∷ codes "1" ∷ codes "--security" ∷ []))
+      ≡ Ok (asks (record (file_asked 1) { security = true }));
+  take_ownership_alone : settings_of (of_everyone (codes "--want" ∷ codes "1" ∷ codes "--take-ownership" ∷ []))
+      ≡ Ok (asks (record (file_asked 1) { take_ownership = true }));
+  unasked : map settings_of
+      (of_everyone [] ∷ of_everyone (codes "--want" ∷ codes "0" ∷ [])
+      ∷ of_everyone (codes "--want" ∷ codes "0x4000001" ∷ []) ∷ of_everyone (codes "--want" ∷ codes "0x8000001" ∷ [])
+      ∷ [])
+      ≡ Err (Unasked EmptyRequest) ∷ Err (Unasked EmptyRequest) ∷ Err (Unasked ReservedBits)
+      ∷ Err (Unasked ReservedBits) ∷ [];
+}
 unfolding settled_words check_with of_everyone
-security_alone = refl
-
-take_ownership_alone : settings_of (of_everyone (codes "--want" ∷ codes "1" ∷ codes "--take-ownership" ∷ []))
-    ≡ Ok (asks (record (file_asked 1) { take_ownership = true }))
-unfolding settled_words check_with of_everyone
-take_ownership_alone = refl
-
-unasked : map settings_of
-    (of_everyone [] ∷ of_everyone (codes "--want" ∷ codes "0" ∷ [])
-    ∷ of_everyone (codes "--want" ∷ codes "0x4000001" ∷ []) ∷ of_everyone (codes "--want" ∷ codes "0x8000001" ∷ [])
-    ∷ [])
-    ≡ Err (Unasked EmptyRequest) ∷ Err (Unasked EmptyRequest) ∷ Err (Unasked ReservedBits)
-    ∷ Err (Unasked ReservedBits) ∷ []
-unfolding settled_words check_with of_everyone
-unasked = refl
+security_alone_and_more = search rules
 
 -- ---- of two options that do not read the first in order is told
-
-order_of_check : map settings_of
-    (check_with (codes "--domain" ∷ codes "?" ∷ codes "--from" ∷ codes "?" ∷ codes "--token" ∷ codes "WD" ∷ [])
-    ∷ check_with (codes "--from" ∷ codes "?" ∷ codes "--type" ∷ codes "?" ∷ codes "--token" ∷ codes "WD" ∷ [])
-    ∷ check_with (codes "--type" ∷ codes "?" ∷ codes "--token" ∷ codes "?" ∷ [])
-    ∷ check_with (codes "--token" ∷ codes "?" ∷ codes "--want" ∷ codes "?" ∷ [])
-    ∷ of_everyone (codes "--want" ∷ codes "?" ∷ codes "--object" ∷ codes "?" ∷ [])
-    ∷ of_everyone (codes "--object" ∷ codes "?" ∷ codes "--self" ∷ codes "?" ∷ [])
-    ∷ of_everyone (codes "--self" ∷ codes "?" ∷ codes "--level" ∷ codes "?" ∷ [])
-    ∷ of_everyone (codes "--level" ∷ codes "?" ∷ []) ∷ [])
-    ≡ Err (Value name.Domain) ∷ Err (Value name.From) ∷ Err (Value name.Type) ∷ Err (Value name.Token)
-    ∷ Err (Value name.Want) ∷ Err (Value name.Object) ∷ Err (Value name.PrincipalSelf) ∷ Err (Value name.Level) ∷ []
-unfolding settled_words check_with of_everyone
-order_of_check = refl
 
 convert_with : List Text → List Text
 convert_with options = codes "sdtool" ∷ codes "convert" ∷ options
@@ -334,74 +295,76 @@ derive_with kind owner group options =
     codes "sdtool" ∷ codes "derive" ∷ codes "--kind" ∷ kind ∷ codes "--owner" ∷ owner ∷ codes "--group" ∷ group
     ∷ options
 
-order_of_convert : map settings_of
-    (convert_with (codes "--domain" ∷ codes "DA" ∷ codes "--from" ∷ codes "?" ∷ [])
-    ∷ convert_with (codes "--from" ∷ codes "?" ∷ codes "--to" ∷ codes "?" ∷ []) ∷ [])
-    ≡ Err (Value name.Domain) ∷ Err (Value name.From) ∷ []
-unfolding settled_words convert_with
-order_of_convert = refl
-
-order_of_derive : map settings_of
-    (derive_with (codes "file") (codes "SY") (codes "SY") (codes "--from" ∷ codes "?" ∷ codes "--to" ∷ codes "?" ∷ [])
-    ∷ derive_with (codes "file") (codes "SY") (codes "SY") (codes "--to" ∷ codes "?" ∷ codes "--type" ∷ codes "?" ∷ [])
-    ∷ derive_with (codes "?") (codes "SY") (codes "SY") (codes "--type" ∷ codes "?" ∷ [])
-    ∷ derive_with (codes "?") (codes "?") (codes "SY") []
-    ∷ derive_with (codes "file") (codes "DA") (codes "?") []
-    ∷ derive_with (codes "file") (codes "SY") (codes "DA") (codes "--creator" ∷ codes "?" ∷ [])
-    ∷ derive_with (codes "file") (codes "SY") (codes "SY") (codes "--creator" ∷ codes "O:DA" ∷ []) ∷ [])
-    ≡ Err (Value name.From) ∷ Err (Value name.To) ∷ Err (Value name.Type) ∷ Err (Value name.Kind)
-    ∷ Err (Value name.Owner) ∷ Err (Value name.Group) ∷ Err (Value name.Creator) ∷ []
-unfolding settled_words derive_with
-order_of_derive = refl
-
--- aliases of a domain, in the owner and in the creator's descriptor
-derived_in_a_domain : settings_of (derive_with (codes "container") (codes "DA") (codes "SY")
-    (codes "--domain" ∷ codes "S-1-5-21-1-2-3" ∷ codes "--creator" ∷ codes "O:DA" ∷ codes "--to" ∷ codes "base64"
-    ∷ codes "--type" ∷ codes "ds" ∷ codes "--numeric" ∷ []))
-    ≡ Ok (record {
-      task = record {
-        job = record {
-          line_form = Hex;
-          act = Derive (record {
-            target = Container;
-            owner = domain_admins;
-            group = system;
-            mapping = directory_mapping;
-          }) output.Base64;
-          domain = Some a_domain;
-          numeric = true;
+order_of_check_and_more : record {
+  order_of_check : map settings_of
+      (check_with (codes "--domain" ∷ codes "?" ∷ codes "--from" ∷ codes "?" ∷ codes "--token" ∷ codes "WD" ∷ [])
+      ∷ check_with (codes "--from" ∷ codes "?" ∷ codes "--type" ∷ codes "?" ∷ codes "--token" ∷ codes "WD" ∷ [])
+      ∷ check_with (codes "--type" ∷ codes "?" ∷ codes "--token" ∷ codes "?" ∷ [])
+      ∷ check_with (codes "--token" ∷ codes "?" ∷ codes "--want" ∷ codes "?" ∷ [])
+      ∷ of_everyone (codes "--want" ∷ codes "?" ∷ codes "--object" ∷ codes "?" ∷ [])
+      ∷ of_everyone (codes "--object" ∷ codes "?" ∷ codes "--self" ∷ codes "?" ∷ [])
+      ∷ of_everyone (codes "--self" ∷ codes "?" ∷ codes "--level" ∷ codes "?" ∷ [])
+      ∷ of_everyone (codes "--level" ∷ codes "?" ∷ []) ∷ [])
+      ≡ Err (Value name.Domain) ∷ Err (Value name.From) ∷ Err (Value name.Type) ∷ Err (Value name.Token)
+      ∷ Err (Value name.Want) ∷ Err (Value name.Object) ∷ Err (Value name.PrincipalSelf) ∷ Err (Value name.Level) ∷ [];
+  order_of_convert : map settings_of
+      (convert_with (codes "--domain" ∷ codes "DA" ∷ codes "--from" ∷ codes "?" ∷ [])
+      ∷ convert_with (codes "--from" ∷ codes "?" ∷ codes "--to" ∷ codes "?" ∷ []) ∷ [])
+      ≡ Err (Value name.Domain) ∷ Err (Value name.From) ∷ [];
+  order_of_derive : map settings_of
+      (derive_with (codes "file") (codes "SY") (codes "SY") (codes "--from" ∷ codes "?" ∷ codes "--to" ∷ codes "?" ∷ [])
+      ∷ derive_with (codes "file") (codes "SY") (codes "SY") (codes "--to" ∷ codes "?" ∷ codes "--type" ∷ codes "?"
+      ∷ [])
+      ∷ derive_with (codes "?") (codes "SY") (codes "SY") (codes "--type" ∷ codes "?" ∷ [])
+      ∷ derive_with (codes "?") (codes "?") (codes "SY") []
+      ∷ derive_with (codes "file") (codes "DA") (codes "?") []
+      ∷ derive_with (codes "file") (codes "SY") (codes "DA") (codes "--creator" ∷ codes "?" ∷ [])
+      ∷ derive_with (codes "file") (codes "SY") (codes "SY") (codes "--creator" ∷ codes "O:DA" ∷ []) ∷ [])
+      ≡ Err (Value name.From) ∷ Err (Value name.To) ∷ Err (Value name.Type) ∷ Err (Value name.Kind)
+      ∷ Err (Value name.Owner) ∷ Err (Value name.Group) ∷ Err (Value name.Creator) ∷ [];
+  -- aliases of a domain, in the owner and in the creator's descriptor
+  derived_in_a_domain : settings_of (derive_with (codes "container") (codes "DA") (codes "SY")
+      (codes "--domain" ∷ codes "S-1-5-21-1-2-3" ∷ codes "--creator" ∷ codes "O:DA" ∷ codes "--to" ∷ codes "base64"
+      ∷ codes "--type" ∷ codes "ds" ∷ codes "--numeric" ∷ []))
+      ≡ Ok (record {
+        task = record {
+          job = record {
+            line_form = Hex;
+            act = Derive (record {
+              target = Container;
+              owner = domain_admins;
+              group = system;
+              mapping = directory_mapping;
+            }) output.Base64;
+            domain = Some a_domain;
+            numeric = true;
+          };
+          creator = Some (record {
+            control = 0x8000;
+            rm = 0;
+            owner = Some domain_admins;
+            group = None;
+            sacl = acl.Absent;
+            dacl = acl.Absent;
+          });
         };
-        creator = Some (record {
-          control = 0x8000;
-          rm = 0;
-          owner = Some domain_admins;
-          group = None;
-          sacl = acl.Absent;
-          dacl = acl.Absent;
-        });
-      };
-      holder = nobody;
-    })
-unfolding settled_words derive_with a_domain domain_admins
-derived_in_a_domain = refl
-
--- and in the group, which needs the domain as the owner does
-group_in_a_domain : settings_of (derive_with (codes "file") (codes "SY") (codes "DA")
-    (codes "--domain" ∷ codes "S-1-5-21-1-2-3" ∷ []))
-    ≡ Ok (without_creator (record
-    (on_hex (Derive (record new_file { group = domain_admins }) output.Sddl)) { domain = Some a_domain }) nobody)
-unfolding settled_words derive_with a_domain domain_admins
-group_in_a_domain = refl
-
--- a domain has room for one sub-authority more
-domains : map domain_reads
-    (codes "S-1-5-21-1-2-3" ∷ codes "DA" ∷ codes "S-1-5-1-2-3-4-5-6-7-8-9-10-11-12-13-14"
-    ∷ codes "S-1-5-1-2-3-4-5-6-7-8-9-10-11-12-13-14-15" ∷ [])
-    ≡ Some a_domain ∷ None
-    ∷ Some (record { authority = 5; subs = 1 ∷ 2 ∷ 3 ∷ 4 ∷ 5 ∷ 6 ∷ 7 ∷ 8 ∷ 9 ∷ 10 ∷ 11 ∷ 12 ∷ 13 ∷ 14 ∷ [] })
-    ∷ None ∷ []
-unfolding settled_words a_domain
-domains = refl
+        holder = nobody;
+      });
+  -- and in the group, which needs the domain as the owner does
+  group_in_a_domain : settings_of (derive_with (codes "file") (codes "SY") (codes "DA")
+      (codes "--domain" ∷ codes "S-1-5-21-1-2-3" ∷ []))
+      ≡ Ok (without_creator (record
+      (on_hex (Derive (record new_file { group = domain_admins }) output.Sddl)) { domain = Some a_domain }) nobody);
+  -- a domain has room for one sub-authority more
+  domains : map domain_reads
+      (codes "S-1-5-21-1-2-3" ∷ codes "DA" ∷ codes "S-1-5-1-2-3-4-5-6-7-8-9-10-11-12-13-14"
+      ∷ codes "S-1-5-1-2-3-4-5-6-7-8-9-10-11-12-13-14-15" ∷ [])
+      ≡ Some a_domain ∷ None
+      ∷ Some (record { authority = 5; subs = 1 ∷ 2 ∷ 3 ∷ 4 ∷ 5 ∷ 6 ∷ 7 ∷ 8 ∷ 9 ∷ 10 ∷ 11 ∷ 12 ∷ 13 ∷ 14 ∷ [] })
+      ∷ None ∷ [];
+}
+unfolding settled_words check_with of_everyone convert_with derive_with a_domain domain_admins
+order_of_check_and_more = search rules
 
 -- ---- endings
 

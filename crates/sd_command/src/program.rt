@@ -18,8 +18,8 @@ use sd_command_line::{
     ANSWERED_STATUS, EarlyEnd, FAILED_STATUS, FAULTY_STATUS, NO_MEMORY_LINE, NO_MEMORY_STATUS,
     USAGE_LINE, USAGE_STATUS, parse_words,
 };
-use sd_memory::NoMemory;
 use sd_run::{Drain, Engine, RunFault, Source, run, write_whole};
+use sd_sink::NoMemory;
 use sd_token::Token;
 use std::alloc::Global;
 

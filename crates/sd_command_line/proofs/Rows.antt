@@ -1,6 +1,6 @@
 -- Words that the program takes and refuses, by hand from docs/sdtool.1 and tests/rows/words.json.
 use Rattle.std.proofs.Common.{◌≡◌, inl, inr, ◌++◌, List, [], ◌∷◌, Some, None, Bool, true, false, map, codes, refl}
-use Rattle.std.proofs.Common.{String, Global}
+use Rattle.std.proofs.Common.{String, Global, rules}
 use Rattle.std.specs.Borrow.{Bor}
 use Rattle.clap.specs.Words.{Text, fault_of, takes}
 use Rattle.clap.specs.declared.error.ErrorKind.TheVariants as kind
@@ -31,81 +31,30 @@ each_option =
 
 -- its column of commands
 
-options_of_convert : map (λ option. taken (codes "convert" ∷ option)) each_option
-    ≡ true ∷ true ∷ true ∷ true ∷ false ∷ false ∷ false ∷ false ∷ false ∷ false ∷ false ∷ false ∷ false ∷ false ∷ false
-    ∷ false ∷ false ∷ []
-unfolding line bare_line convert_line explain_line check_line derive_line clap_on_literals
-options_of_convert = refl
-
-options_of_explain : map (λ option. taken (codes "explain" ∷ option)) each_option
-    ≡ true ∷ false ∷ true ∷ true ∷ false ∷ false ∷ false ∷ false ∷ false ∷ false ∷ false ∷ false ∷ false ∷ false
-    ∷ false ∷ false ∷ false ∷ []
-unfolding line bare_line convert_line explain_line check_line derive_line clap_on_literals
-options_of_explain = refl
-
--- The token is given, and no option may be given twice.
-options_of_check : map (λ option. taken (codes "check" ∷ codes "--token" ∷ codes "WD" ∷ option)) each_option
-    ≡ true ∷ false ∷ true ∷ false ∷ false ∷ true ∷ true ∷ true ∷ true ∷ true ∷ true ∷ true ∷ true ∷ false ∷ false
-    ∷ false ∷ false ∷ []
-unfolding line bare_line convert_line explain_line check_line derive_line clap_on_literals
-options_of_check = refl
-
 abbrev derive_file : List Text
 derive_file =
     codes "derive" ∷ codes "--kind" ∷ codes "file" ∷ codes "--owner" ∷ codes "BA" ∷ codes "--group" ∷ codes "SY" ∷ []
 
-options_of_derive : map (λ option. taken (derive_file ++ option)) each_option
-    ≡ true ∷ true ∷ true ∷ true ∷ false ∷ false ∷ false ∷ true ∷ false ∷ false ∷ false ∷ false ∷ false ∷ false ∷ false
-    ∷ false ∷ true ∷ []
+columns_of_commands : record {
+  options_of_convert : map (λ option. taken (codes "convert" ∷ option)) each_option
+      ≡ true ∷ true ∷ true ∷ true ∷ false ∷ false ∷ false ∷ false ∷ false ∷ false ∷ false ∷ false ∷ false ∷ false
+      ∷ false
+      ∷ false ∷ false ∷ [];
+  options_of_explain : map (λ option. taken (codes "explain" ∷ option)) each_option
+      ≡ true ∷ false ∷ true ∷ true ∷ false ∷ false ∷ false ∷ false ∷ false ∷ false ∷ false ∷ false ∷ false ∷ false
+      ∷ false ∷ false ∷ false ∷ [];
+  -- The token is given, and no option may be given twice.
+  options_of_check : map (λ option. taken (codes "check" ∷ codes "--token" ∷ codes "WD" ∷ option)) each_option
+      ≡ true ∷ false ∷ true ∷ false ∷ false ∷ true ∷ true ∷ true ∷ true ∷ true ∷ true ∷ true ∷ true ∷ false ∷ false
+      ∷ false ∷ false ∷ [];
+  options_of_derive : map (λ option. taken (derive_file ++ option)) each_option
+      ≡ true ∷ true ∷ true ∷ true ∷ false ∷ false ∷ false ∷ true ∷ false ∷ false ∷ false ∷ false ∷ false ∷ false ∷ false
+      ∷ false ∷ true ∷ [];
+}
 unfolding line bare_line convert_line explain_line check_line derive_line clap_on_literals
-options_of_derive = refl
+columns_of_commands = search rules
 
 -- its column of defaults: which options may be left out
-
-nothing_required : map taken ((codes "convert" ∷ []) ∷ (codes "explain" ∷ []) ∷ []) ≡ true ∷ true ∷ []
-unfolding line bare_line convert_line explain_line check_line derive_line clap_on_literals
-nothing_required = refl
-
-token_required : map taken
-    ((codes "check" ∷ []) ∷ (codes "check" ∷ codes "--maximum" ∷ [])
-    ∷ (codes "check" ∷ codes "--token" ∷ codes "WD" ∷ []) ∷ [])
-    ≡ false ∷ false ∷ true ∷ []
-unfolding line bare_line convert_line explain_line check_line derive_line clap_on_literals
-token_required = refl
-
-three_required : map taken
-    (derive_file
-    ∷ (codes "derive" ∷ codes "--owner" ∷ codes "BA" ∷ codes "--group" ∷ codes "SY" ∷ [])
-    ∷ (codes "derive" ∷ codes "--kind" ∷ codes "file" ∷ codes "--group" ∷ codes "SY" ∷ [])
-    ∷ (codes "derive" ∷ codes "--kind" ∷ codes "file" ∷ codes "--owner" ∷ codes "BA" ∷ []) ∷ [])
-    ≡ true ∷ false ∷ false ∷ false ∷ []
-unfolding line bare_line convert_line explain_line check_line derive_line clap_on_literals
-three_required = refl
-
--- a value that is missing, empty, behind an equals sign, and one too many; an option that is given twice
-values : map (λ rest. taken (codes "convert" ∷ rest))
-    ((codes "--to" ∷ []) ∷ (codes "--to" ∷ [] ∷ []) ∷ (codes "--to=hex" ∷ [])
-    ∷ (codes "--to" ∷ codes "hex" ∷ codes "hex" ∷ []) ∷ (codes "--to" ∷ codes "hex" ∷ codes "--to" ∷ codes "hex" ∷ [])
-    ∷ [])
-    ≡ false ∷ true ∷ true ∷ false ∷ false ∷ []
-unfolding line bare_line convert_line explain_line check_line derive_line clap_on_literals
-values = refl
-
--- A flag has no value.
-flags : map (λ rest. taken (codes "convert" ∷ rest))
-    ((codes "--numeric=v" ∷ []) ∷ (codes "--numeric" ∷ codes "v" ∷ [])
-    ∷ (codes "--numeric" ∷ codes "--numeric" ∷ []) ∷ [])
-    ≡ false ∷ false ∷ false ∷ []
-unfolding line bare_line convert_line explain_line check_line derive_line clap_on_literals
-flags = refl
-
--- what is no command, and no command at all
-no_commands : map taken
-    ([] ∷ ([] ∷ []) ∷ (codes "frobnicate" ∷ []) ∷ (codes "CONVERT" ∷ []) ∷ (codes "sdtool" ∷ [])
-    ∷ (codes "--to" ∷ codes "hex" ∷ []) ∷ (codes "--version" ∷ []) ∷ [])
-    ≡ false ∷ false ∷ false ∷ false ∷ false ∷ false ∷ false ∷ []
-unfolding line bare_line convert_line explain_line check_line derive_line clap_on_literals
-no_commands = refl
 
 -- the names that help shows
 names : (line.top.name ≡ codes "sdtool")
@@ -113,6 +62,38 @@ names : (line.top.name ≡ codes "sdtool")
     ≡ codes "convert" ∷ codes "explain" ∷ codes "check" ∷ codes "derive" ∷ [])
 unfolding line bare_line convert_line explain_line check_line derive_line
 names = (refl, refl)
+
+columns_of_defaults : record {
+  nothing_required : map taken ((codes "convert" ∷ []) ∷ (codes "explain" ∷ []) ∷ []) ≡ true ∷ true ∷ [];
+  token_required : map taken
+      ((codes "check" ∷ []) ∷ (codes "check" ∷ codes "--maximum" ∷ [])
+      ∷ (codes "check" ∷ codes "--token" ∷ codes "WD" ∷ []) ∷ [])
+      ≡ false ∷ false ∷ true ∷ [];
+  three_required : map taken
+      (derive_file
+      ∷ (codes "derive" ∷ codes "--owner" ∷ codes "BA" ∷ codes "--group" ∷ codes "SY" ∷ [])
+      ∷ (codes "derive" ∷ codes "--kind" ∷ codes "file" ∷ codes "--group" ∷ codes "SY" ∷ [])
+      ∷ (codes "derive" ∷ codes "--kind" ∷ codes "file" ∷ codes "--owner" ∷ codes "BA" ∷ []) ∷ [])
+      ≡ true ∷ false ∷ false ∷ false ∷ [];
+  -- a value that is missing, empty, behind an equals sign, and one too many; an option that is given twice
+  values : map (λ rest. taken (codes "convert" ∷ rest))
+      ((codes "--to" ∷ []) ∷ (codes "--to" ∷ [] ∷ []) ∷ (codes "--to=hex" ∷ [])
+      ∷ (codes "--to" ∷ codes "hex" ∷ codes "hex" ∷ []) ∷ (codes "--to" ∷ codes "hex" ∷ codes "--to" ∷ codes "hex" ∷ [])
+      ∷ [])
+      ≡ false ∷ true ∷ true ∷ false ∷ false ∷ [];
+  -- A flag has no value.
+  flags : map (λ rest. taken (codes "convert" ∷ rest))
+      ((codes "--numeric=v" ∷ []) ∷ (codes "--numeric" ∷ codes "v" ∷ [])
+      ∷ (codes "--numeric" ∷ codes "--numeric" ∷ []) ∷ [])
+      ≡ false ∷ false ∷ false ∷ [];
+  -- what is no command, and no command at all
+  no_commands : map taken
+      ([] ∷ ([] ∷ []) ∷ (codes "frobnicate" ∷ []) ∷ (codes "CONVERT" ∷ []) ∷ (codes "sdtool" ∷ [])
+      ∷ (codes "--to" ∷ codes "hex" ∷ []) ∷ (codes "--version" ∷ []) ∷ [])
+      ≡ false ∷ false ∷ false ∷ false ∷ false ∷ false ∷ false ∷ [];
+}
+unfolding line bare_line convert_line explain_line check_line derive_line clap_on_literals
+columns_of_defaults = search rules
 
 -- mistakes, and words that ask for help
 
@@ -148,36 +129,25 @@ fault_lines : (fault_line (codes "usage") ≡ codes "sdtool: usage\n")
     × (fault_line (codes "no memory") ≡ codes "sdtool: no memory\n")
 fault_lines = (refl, refl)
 
-value_lines : map value_line
-    (name.From ∷ name.To ∷ name.Domain ∷ name.Token ∷ name.Want ∷ name.Type ∷ name.Object ∷ name.PrincipalSelf
-    ∷ name.Level ∷ name.Kind ∷ name.Owner ∷ name.Group ∷ name.Creator ∷ [])
-    ≡ codes "sdtool: usage: --from\n" ∷ codes "sdtool: usage: --to\n" ∷ codes "sdtool: usage: --domain\n"
-    ∷ codes "sdtool: usage: --token\n" ∷ codes "sdtool: usage: --want\n" ∷ codes "sdtool: usage: --type\n"
-    ∷ codes "sdtool: usage: --object\n" ∷ codes "sdtool: usage: --self\n" ∷ codes "sdtool: usage: --level\n"
-    ∷ codes "sdtool: usage: --kind\n" ∷ codes "sdtool: usage: --owner\n" ∷ codes "sdtool: usage: --group\n"
-    ∷ codes "sdtool: usage: --creator\n" ∷ []
-value_lines = refl
-
-flag_words : map option_text (name.Numeric ∷ name.Maximum ∷ name.Security ∷ name.TakeOwnership ∷ [])
-    ≡ codes "numeric" ∷ codes "maximum" ∷ codes "security" ∷ codes "take-ownership" ∷ []
-flag_words = refl
+value_lines_and_more : record {
+  value_lines : map value_line
+      (name.From ∷ name.To ∷ name.Domain ∷ name.Token ∷ name.Want ∷ name.Type ∷ name.Object ∷ name.PrincipalSelf
+      ∷ name.Level ∷ name.Kind ∷ name.Owner ∷ name.Group ∷ name.Creator ∷ [])
+      ≡ codes "sdtool: usage: --from\n" ∷ codes "sdtool: usage: --to\n" ∷ codes "sdtool: usage: --domain\n"
+      ∷ codes "sdtool: usage: --token\n" ∷ codes "sdtool: usage: --want\n" ∷ codes "sdtool: usage: --type\n"
+      ∷ codes "sdtool: usage: --object\n" ∷ codes "sdtool: usage: --self\n" ∷ codes "sdtool: usage: --level\n"
+      ∷ codes "sdtool: usage: --kind\n" ∷ codes "sdtool: usage: --owner\n" ∷ codes "sdtool: usage: --group\n"
+      ∷ codes "sdtool: usage: --creator\n" ∷ [];
+  flag_words : map option_text (name.Numeric ∷ name.Maximum ∷ name.Security ∷ name.TakeOwnership ∷ [])
+      ≡ codes "numeric" ∷ codes "maximum" ∷ codes "security" ∷ codes "take-ownership" ∷ [];
+}
+value_lines_and_more = search rules
 
 -- early ends: help and out of memory are no mistakes, and all else is
-
-mistakes : map is_mistake
-    (kind.InvalidValue ∷ kind.UnknownArgument ∷ kind.InvalidSubcommand ∷ kind.NoEquals ∷ kind.ValueValidation
-    ∷ kind.TooManyValues ∷ kind.TooFewValues ∷ kind.WrongNumberOfValues ∷ kind.ArgumentConflict
-    ∷ kind.MissingRequiredArgument ∷ kind.MissingSubcommand ∷ kind.DisplayHelp
-    ∷ kind.DisplayHelpOnMissingArgumentOrSubcommand ∷ kind.DisplayVersion ∷ kind.OutOfMemory ∷ [])
-    ≡ true ∷ true ∷ true ∷ true ∷ true ∷ true ∷ true ∷ true ∷ true ∷ true ∷ true ∷ false ∷ true ∷ true ∷ false ∷ []
-mistakes = refl
 
 -- Memory may run out whatever the words are.
 no_memory : AllowsEnd [] NoMemory
 no_memory = tt
-
-usage : AllowsEnd (kind.UnknownArgument ∷ []) Usage
-usage = refl
 
 help_is_no_mistake : AllowsEnd (kind.DisplayHelp ∷ []) Usage → ⊥
 help_is_no_mistake h = let bad : false ≡ true = h in cc
@@ -193,3 +163,14 @@ mistake_asks_for_no_help text (inr h) = h
 exit_statuses :
     ANSWERED_STATUS ∷ FAULTY_STATUS ∷ USAGE_STATUS ∷ FAILED_STATUS ∷ NO_MEMORY_STATUS ∷ [] ≡ 0 ∷ 1 ∷ 2 ∷ 3 ∷ 4 ∷ []
 exit_statuses = refl
+
+early_ends : record {
+  mistakes : map is_mistake
+      (kind.InvalidValue ∷ kind.UnknownArgument ∷ kind.InvalidSubcommand ∷ kind.NoEquals ∷ kind.ValueValidation
+      ∷ kind.TooManyValues ∷ kind.TooFewValues ∷ kind.WrongNumberOfValues ∷ kind.ArgumentConflict
+      ∷ kind.MissingRequiredArgument ∷ kind.MissingSubcommand ∷ kind.DisplayHelp
+      ∷ kind.DisplayHelpOnMissingArgumentOrSubcommand ∷ kind.DisplayVersion ∷ kind.OutOfMemory ∷ [])
+      ≡ true ∷ true ∷ true ∷ true ∷ true ∷ true ∷ true ∷ true ∷ true ∷ true ∷ true ∷ false ∷ true ∷ true ∷ false ∷ [];
+  usage : AllowsEnd (kind.UnknownArgument ∷ []) Usage;
+}
+early_ends = search rules

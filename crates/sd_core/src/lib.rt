@@ -25,8 +25,8 @@
 //! 5 [32, 544]: 0x1f01ff true
 //! ```
 //!
-//! This crate re-exports the crates below it: `sd_memory`, `sd_sink`, `sd_text`, `sd_kinds`, `sd_rights`, `sd_sid`,
-//! `sd_ace` and `sd_token`.
+//! This crate re-exports the crates below it: `sd_sink`, `sd_text`, `sd_kinds`, `sd_rights`, `sd_sid`, `sd_ace`
+//! and `sd_token`.
 #![tactic(auto)]
 
 pub use sd_ace::{
@@ -36,13 +36,12 @@ pub use sd_kinds::{
     AceKind, CONTAINER_INHERIT, FAILED_ACCESS, INHERIT_ONLY, INHERITED, NO_PROPAGATE,
     OBJECT_INHERIT, SUCCESSFUL_ACCESS, flags_from_text, has_flag, print_flags, put_flags,
 };
-pub use sd_memory::NoMemory;
 pub use sd_rights::{
     ACCESS_SYSTEM_SECURITY, DELETE, GENERIC_ALL, GENERIC_EXECUTE, GENERIC_READ, GENERIC_WRITE,
     MAXIMUM_ALLOWED, Mapping, READ_CONTROL, SYNCHRONIZE, WRITE_DAC, WRITE_OWNER, has_right,
     print_rights, put_rights, rights_from_text,
 };
 pub use sd_sid::{Naming, Sid, SidFault};
-pub use sd_sink::{Gather, Print, Printer, Sink, SinkFault};
+pub use sd_sink::{Gather, NoMemory, Print, Printer, Sink, SinkFault};
 pub use sd_text::{print_decimal, print_hex, print_hex_number};
 pub use sd_token::{EntryKind, Token, TokenFull};

@@ -1,13 +1,12 @@
 -- Ranks and ACEs, one more at the end.
-use Rattle.std.proofs.Common.{◌≡◌, ◌≤◌, ◌<◌, ℕ, suc, ◌+◌, Bool, true, false, cond, ◌||◌, nat_lt}
-use Rattle.std.proofs.Common.{List, [], ◌∷◌, ◌++◌, length, map}
-use Rattle.std.proofs.Common.{Option, Some, None, option_map, refl, sym, ap, subst, ◌∙◌, arith, take, get_or}
-use Rattle.std.proofs.Math.Seq.{take-suc}
+use Rattle.std.proofs.Common.{◌≡◌, ◌≤◌, ◌<◌, ℕ, suc, ◌+◌, Bool, true, false, cond, ◌||◌, nat_lt, List, [], ◌∷◌, ◌++◌}
+use Rattle.std.proofs.Common.{length, Option, Some, None, option_map, refl, sym, ap, ◌∙◌, arith, take, get_or}
 use Rattle.std.proofs.lemmas.Bool.Decides.{nat_tests}
-use Rattle.std.proofs.lemmas.List.{length-take-le, map-append}
+use Rattle.std.proofs.lemmas.List.{length-take-le}
 use Rattle.std.specs.List.{list_any}
 use Rattle.std.specs.Option.{option_or}
 use Rattle.sd_ace.specs.Ace.{AccessControlEntry}
+use Rattle.sd_edit.proofs.SizeLemmas.{next_front}
 use Rattle.sd_edit.specs.Order.{Seen, behind_last, first_fall, last_of}
 use Rattle.sd_edit.specs.declared.rank.Order.{Order}
 
@@ -86,12 +85,6 @@ seen_more ns n o p s fall last count = record {
   count = count ∙ ap (λ (k : ℕ). k + 1) s.count ∙ sym (count_more ns n);
 }
 
-next_front : (aces : List AccessControlEntry) (i : ℕ) (d : AccessControlEntry) → i < length aces
-    → take (i + 1) aces ≡ take i aces ++ get_or aces i d ∷ []
-next_front aces i d within =
-    let next : i + 1 ≡ suc i = omega arith in
-    ap (λ (k : ℕ). take k aces) next ∙ take-suc aces i d within
-
 pub behind_next : (p : AccessControlEntry → Bool) (aces : List AccessControlEntry) (i : ℕ) (d : AccessControlEntry)
     (place new : ℕ) → i < length aces → place ≡ behind_last p (take i aces)
     → new ≡ cond (p (get_or aces i d)) (i + 1) place → new ≡ behind_last p (take (i + 1) aces)
@@ -106,14 +99,3 @@ behind_next p aces i d place new within is more =
 pub within_next : (b : Bool) (i place new : ℕ) → place ≤ i → new ≡ cond b (i + 1) place → new ≤ i + 1
 within_next true i place new h e = omega (arith, e)
 within_next false i place new h e = omega (arith, e, h)
-
-pub seen_next : (f : AccessControlEntry → ℕ) (aces : List AccessControlEntry) (i : ℕ) (d : AccessControlEntry) (n : ℕ)
-    (o : Order) → i < length aces → n ≡ f (get_or aces i d) → Seen (map f (take i aces) ++ n ∷ []) o
-    → Seen (map f (take (i + 1) aces)) o
-seen_next f aces i d n o within is seen =
-    let P : List ℕ → Type 0 = λ ns. Seen ns o in
-    subst P
-    (ap (λ (m : ℕ). map f (take i aces) ++ m ∷ []) is
-    ∙ sym (map-append f (take i aces) (get_or aces i d ∷ []))
-    ∙ ap (map f) (sym (next_front aces i d within)))
-    seen

@@ -12,7 +12,7 @@ use Rattle.sd_text.specs.Bits.{has_bit}
 use Rattle.sd_edit.specs.Order.{is_deny, of_rank, ordered, own_rank, rank}
 use Rattle.sd_acl_view.proofs.laws.AceLists.{size-more}
 
-next_front : (aces : List AccessControlEntry) (i : ℕ) (d : AccessControlEntry) → i < length aces
+pub next_front : (aces : List AccessControlEntry) (i : ℕ) (d : AccessControlEntry) → i < length aces
     → take (i + 1) aces ≡ take i aces ++ get_or aces i d ∷ []
 next_front aces i d within =
     let next : i + 1 ≡ suc i = omega arith in

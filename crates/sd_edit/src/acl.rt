@@ -14,8 +14,8 @@ use crate::matching::Match;
 use crate::rank::{Order, rank_of};
 use crate::setting::Setting;
 use sd_ace::Ace;
-use sd_memory::NoMemory;
 use sd_parts::{ACL_HEADER_SIZE, MOST_ACL_SIZE, Which};
+use sd_sink::NoMemory;
 use std::alloc::{AllocError, Global};
 
 /// The size of an ACL of these ACEs (MS-DTYP 2.4.5). None where it would pass 65,535 bytes.

@@ -7,7 +7,7 @@ ghost use Rattle.sd_view.specs.declared.acl_part.AclPart.TheVariants as acl;
 ghost use Rattle.sd_acl_view.specs.Acl.{acl_size};
 ghost use Rattle.sd_parts.specs.Control.{control_of};
 ghost use Rattle.sd_edit.specs.declared.change.Change.TheVariants as changes;
-ghost use Rattle.sd_edit.specs.Edits.{acl_edited, acl_ordered, acl_state, aces_edited, edited, sized_if};
+ghost use Rattle.sd_edit.specs.Edits.{acl_edited, acl_ordered, acl_state, edited, sized_if};
 ghost use Rattle.sd_edit.specs.Lists.{list_edited};
 ghost use Rattle.sd_edit.specs.Shown.{AclsFit, Gives, acl_shown, shown};
 
@@ -16,9 +16,9 @@ use crate::change::{AclChange, AclState, Change, ListChange};
 use crate::setting::with_control_bits;
 use sd_ace::Ace;
 use sd_acl_view::Aces;
-use sd_memory::NoMemory;
 use sd_parts::{Which, control_of};
 use sd_sid::Sid;
+use sd_sink::NoMemory;
 use sd_view::{AclPart, SdView};
 use std::alloc::Global;
 
@@ -157,7 +157,7 @@ fn aces_of(alloc: Global, aces: Aces<'_>) -> Result<Vec<Ace>, NoMemory>
 }
 
 // Changes an ACL.
-#[tactic(auto, unfolding(crate::specs::Edits::acl_edited))]
+#[tactic(auto, unfolding(crate::specs::Edits::acl_edited, crate::specs::Edits::aces_edited))]
 fn change_acl(
     alloc: Global,
     which: Which,
@@ -170,7 +170,10 @@ fn change_acl(
     ensures fits { IfOk result (λ made. OnOk made (acl_part_size (acl_shown acl.new) < 2 ^ 16)) }
 {
     match change {
-        AclChange::List(change) => change_aces(alloc, which, change, acl),
+        AclChange::List(change) => match acl {
+            EditedAcl::Absent | EditedAcl::Null => Ok(Err(ChangeFault::Impossible(which))),
+            EditedAcl::List(aces) => change_sized(alloc, which, change, aces),
+        },
         AclChange::Order => {
             order_acl(alloc, which, acl)?;
             Ok(Ok(0))
@@ -204,24 +207,6 @@ fn order_acl(alloc: Global, which: Which, acl: &mut EditedAcl) -> Result<(), NoM
 }
 
 // Changes the ACEs of an ACL that is a list.
-#[tactic(auto, unfolding(crate::specs::Edits::aces_edited))]
-fn change_aces(
-    alloc: Global,
-    which: Which,
-    change: &ListChange,
-    acl: &mut EditedAcl,
-) -> Result<Result<u32, ChangeFault>, NoMemory>
-    requires { acl_part_size (acl_shown acl.old) < 2 ^ 16 }
-    ensures value { IfOk result
-        (λ made. Gives (aces_edited which change.now (acl_shown acl.old)) (acl_shown acl.new) made) }
-    ensures fits { IfOk result (λ made. OnOk made (acl_part_size (acl_shown acl.new) < 2 ^ 16)) }
-{
-    match acl {
-        EditedAcl::Absent | EditedAcl::Null => Ok(Err(ChangeFault::Impossible(which))),
-        EditedAcl::List(aces) => change_sized(alloc, which, change, aces),
-    }
-}
-
 fn change_sized(
     alloc: Global,
     which: Which,

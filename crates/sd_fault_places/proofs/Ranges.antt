@@ -31,10 +31,9 @@ use Rattle.sd_view.specs.Reading.{acl_part_fault, acl_shown, fault, fault_in, pa
 use Rattle.sd_view.specs.declared.fault.SdFault.{SdFault}
 use Rattle.sd_view.specs.declared.fault.SdFault.TheVariants as faults
 use Rattle.sd_fault_places.specs.Places.{IsWithin, aces_in, acl_in, at_extent, behind_aces, counted_sid, faulty_ace}
-use Rattle.sd_fault_places.specs.Places.{from_part, left_at_fault, part_at, place_of}
+use Rattle.sd_fault_places.specs.Places.{from_part, left_at_fault, part_at, place_of, at_ace_header, at_ace_sid}
 use Rattle.sd_fault_places.specs.declared.place.Field.{Field}
 use Rattle.sd_fault_places.specs.declared.place.Field.TheVariants as field
-use Rattle.sd_fault_places.specs.Places.{at_ace_header, at_ace_sid}
 use Rattle.sd_fault_places.proofs.FirstFaults.{Known, chosen, in_aces, known, or_right, stops}
 
 -- 1. ACEs.

@@ -4,7 +4,7 @@ use Rattle.std.proofs.Common.{List, ◌++◌, length, take, drop, slice_index, r
 use Rattle.std.specs.Prelude.{replicate, unwrap_or}
 use Rattle.std.proofs.lemmas.Bool.{cases_lt}
 use Rattle.std.proofs.lemmas.List.{get_or-append_right, get_or-drop, get_or-replicate, get_or-take, get_or_append_left}
-use Rattle.std.proofs.lemmas.List.{get_or_past, length-take-le, take_all}
+use Rattle.std.proofs.lemmas.List.{get_or_past, length-take-le}
 use Rattle.sd_ace.specs.Ace.{sid_offset}
 use Rattle.sd_kinds.specs.Kinds.{is_object, kind_of}
 use Rattle.sd_kinds.specs.declared.kinds.AceKind.{AceKind}

@@ -1,5 +1,5 @@
 -- The numbers, names and texts of faults (docs/FORMAT.md, "Errors"), computed.
-use Rattle.std.proofs.Common.{◌≡◌, List, [], ◌∷◌, codes, map, refl, replicate, Some, None}
+use Rattle.std.proofs.Common.{◌≡◌, [], ◌∷◌, codes, map, refl, replicate, Some, None, rules}
 use Rattle.std.specs.Fmt.{digits}
 use Rattle.sd_sid.specs.declared.sid_text.SidFault.TheVariants as sid
 use Rattle.sd_parts.specs.declared.part.Part.TheVariants as part
@@ -44,18 +44,18 @@ texts_with_parts = refl
 
 -- the names of faults that no line has, and no name between
 
-further_names : map fault_name (50 ∷ 51 ∷ 60 ∷ 61 ∷ 62 ∷ 70 ∷ 71 ∷ 72 ∷ 73 ∷ [])
-    ≡ codes "empty-request" ∷ codes "reserved-bits" ∷ codes "read" ∷ codes "write" ∷ codes "too-many-reads"
-    ∷ codes "argument" ∷ codes "too-small" ∷ codes "no-memory" ∷ codes "change" ∷ []
-further_names = refl
-
-no_names : map fault_name
-    (0 ∷ 15 ∷ 16 ∷ 17 ∷ 18 ∷ 19 ∷ 31 ∷ 32 ∷ 33 ∷ 34 ∷ 35 ∷ 36 ∷ 37 ∷ 38 ∷ 39 ∷ 41 ∷ 42 ∷ 43 ∷ 44 ∷ 45 ∷ 46 ∷ 47
-    ∷ 48 ∷ 49 ∷ 52 ∷ 53 ∷ 54 ∷ 55 ∷ 56 ∷ 57 ∷ 58 ∷ 59 ∷ 63 ∷ 64 ∷ 65 ∷ 66 ∷ 67 ∷ 68 ∷ 69 ∷ 74 ∷ 256 ∷ 257 ∷ [])
-    ≡ replicate 42 []
-no_names = refl
-
 -- enum sdtool_part of include/sdtool.h
 part_numbers : (part_number None ≡ 0) × (part_number (Some part.Owner) ≡ 1) × (part_number (Some part.Group) ≡ 2)
     × (part_number (Some part.Sacl) ≡ 3) × (part_number (Some part.Dacl) ≡ 4)
 part_numbers = (refl, refl, refl, refl, refl)
+
+further_names_and_more : record {
+  further_names : map fault_name (50 ∷ 51 ∷ 60 ∷ 61 ∷ 62 ∷ 70 ∷ 71 ∷ 72 ∷ 73 ∷ [])
+      ≡ codes "empty-request" ∷ codes "reserved-bits" ∷ codes "read" ∷ codes "write" ∷ codes "too-many-reads"
+      ∷ codes "argument" ∷ codes "too-small" ∷ codes "no-memory" ∷ codes "change" ∷ [];
+  no_names : map fault_name
+      (0 ∷ 15 ∷ 16 ∷ 17 ∷ 18 ∷ 19 ∷ 31 ∷ 32 ∷ 33 ∷ 34 ∷ 35 ∷ 36 ∷ 37 ∷ 38 ∷ 39 ∷ 41 ∷ 42 ∷ 43 ∷ 44 ∷ 45 ∷ 46 ∷ 47
+      ∷ 48 ∷ 49 ∷ 52 ∷ 53 ∷ 54 ∷ 55 ∷ 56 ∷ 57 ∷ 58 ∷ 59 ∷ 63 ∷ 64 ∷ 65 ∷ 66 ∷ 67 ∷ 68 ∷ 69 ∷ 74 ∷ 256 ∷ 257 ∷ [])
+      ≡ replicate 42 [];
+}
+further_names_and_more = search rules

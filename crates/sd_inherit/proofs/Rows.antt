@@ -1,6 +1,6 @@
 -- Worked rows, computed: the copies of single ACEs on files and containers, what is taken of a creator's ACEs, and what
 -- is derived around them.
-use Rattle.std.proofs.Common.{◌≡◌, ℕ, Bool, true, false, List, [], ◌∷◌, ◌++◌, Some, None, Ok, Err, refl, arith}
+use Rattle.std.proofs.Common.{◌≡◌, ℕ, Bool, true, false, List, [], ◌∷◌, ◌++◌, Some, None, Ok, Err, refl, arith, rules}
 use Rattle.sd_ace.specs.Ace.{AccessControlEntry}
 use Rattle.sd_rights.specs.Mapping.{mapped}
 use Rattle.sd_sid.specs.Sid.{SecurityId}
@@ -59,36 +59,28 @@ computed = tt
 
 -- CI with a generic right or for the creator: an effective copy, and one to hand on
 
-for_the_owner : copies (plan Container) (ace kinds.Allow 0xb 0x1000_0000 creator_owner)
-    ≡ ace kinds.Allow 0x10 0x1f01ff user ∷ ace kinds.Allow 0x1b 0x1000_0000 creator_owner ∷ []
+for_the_owner_and_more : record {
+  for_the_owner : copies (plan Container) (ace kinds.Allow 0xb 0x1000_0000 creator_owner)
+      ≡ ace kinds.Allow 0x10 0x1f01ff user ∷ ace kinds.Allow 0x1b 0x1000_0000 creator_owner ∷ [];
+  for_the_group : copies (plan Container) (ace kinds.Deny 0x2 0x1 creator_group)
+      ≡ ace kinds.Deny 0x10 0x1 everyone ∷ ace kinds.Deny 0x1a 0x1 creator_group ∷ [];
+  for_the_owner_without_a_generic_right : copies (plan Container) (ace kinds.Audit 0x42 0x1 creator_owner)
+      ≡ ace kinds.Audit 0x50 0x1 user ∷ ace kinds.Audit 0x5a 0x1 creator_owner ∷ [];
+  generic_right : copies (plan Container) (ace kinds.Allow 0x2 0x8000_0000 users)
+      ≡ ace kinds.Allow 0x10 0x120089 users ∷ ace kinds.Allow 0x1a 0x8000_0000 users ∷ [];
+}
 unfolding computed
-for_the_owner = refl
-
-for_the_group : copies (plan Container) (ace kinds.Deny 0x2 0x1 creator_group)
-    ≡ ace kinds.Deny 0x10 0x1 everyone ∷ ace kinds.Deny 0x1a 0x1 creator_group ∷ []
-unfolding computed
-for_the_group = refl
-
-for_the_owner_without_a_generic_right : copies (plan Container) (ace kinds.Audit 0x42 0x1 creator_owner)
-    ≡ ace kinds.Audit 0x50 0x1 user ∷ ace kinds.Audit 0x5a 0x1 creator_owner ∷ []
-unfolding computed
-for_the_owner_without_a_generic_right = refl
-
-generic_right : copies (plan Container) (ace kinds.Allow 0x2 0x8000_0000 users)
-    ≡ ace kinds.Allow 0x10 0x120089 users ∷ ace kinds.Allow 0x1a 0x8000_0000 users ∷ []
-unfolding computed
-generic_right = refl
+for_the_owner_and_more = search rules
 
 -- CI otherwise: one copy, which goes on; flags of audit stay
 
-goes_on : copies (plan Container) (ace kinds.Audit 0xc3 0x1 users) ≡ ace kinds.Audit 0xd3 0x1 users ∷ []
+ci_otherwise : record {
+  goes_on : copies (plan Container) (ace kinds.Audit 0xc3 0x1 users) ≡ ace kinds.Audit 0xd3 0x1 users ∷ [];
+  label_goes_on : copies (plan Container) (ace kinds.Label 0x3 0x8000_0000 high) ≡ ace kinds.Label 0x13 0x8000_0000
+      high ∷ [];
+}
 unfolding computed
-goes_on = refl
-
-label_goes_on : copies (plan Container) (ace kinds.Label 0x3 0x8000_0000 high) ≡ ace kinds.Label 0x13 0x8000_0000
-    high ∷ []
-unfolding computed
-label_goes_on = refl
+ci_otherwise = search rules
 
 -- CI and NP: one copy, which does not
 
@@ -99,24 +91,22 @@ one_level = refl
 
 -- OI alone: to hand on, unless NP
 
-files_below : copies (plan Container) (ace kinds.Allow 0x1 0xa000_0000 users) ≡ ace kinds.Allow 0x19 0xa000_0000
-    users ∷ []
+oi_alone : record {
+  files_below : copies (plan Container) (ace kinds.Allow 0x1 0xa000_0000 users) ≡ ace kinds.Allow 0x19 0xa000_0000
+      users ∷ [];
+  files_here : copies (plan Container) (ace kinds.Allow 0x5 0x1f01ff everyone) ≡ [];
+}
 unfolding computed
-files_below = refl
-
-files_here : copies (plan Container) (ace kinds.Allow 0x5 0x1f01ff everyone) ≡ []
-unfolding computed
-files_here = refl
+oi_alone = search rules
 
 -- a file: OI, whatever else
 
-to_a_file : copies (plan File) (ace kinds.Allow 0xf 0xa000_0000 users) ≡ ace kinds.Allow 0x10 0x1200a9 users ∷ []
+to_a_file_and_more : record {
+  to_a_file : copies (plan File) (ace kinds.Allow 0xf 0xa000_0000 users) ≡ ace kinds.Allow 0x10 0x1200a9 users ∷ [];
+  not_to_a_file : copies (plan File) (ace kinds.Allow 0x2 0x1f01ff everyone) ≡ [];
+}
 unfolding computed
-to_a_file = refl
-
-not_to_a_file : copies (plan File) (ace kinds.Allow 0x2 0x1f01ff everyone) ≡ []
-unfolding computed
-not_to_a_file = refl
+to_a_file_and_more = search rules
 
 -- of a creator's ACEs: one with ID gives nothing
 
@@ -126,64 +116,51 @@ inherited_before = refl
 
 -- a file takes what is effective there, with no flag that goes on; flags of audit stay
 
-file_takes : taken (plan File) (ace kinds.Audit 0xc7 0x8000_0000 creator_owner)
-    ≡ ace kinds.Audit 0xc0 0x120089 user ∷ []
+file_rows : record {
+  file_takes : taken (plan File) (ace kinds.Audit 0xc7 0x8000_0000 creator_owner)
+      ≡ ace kinds.Audit 0xc0 0x120089 user ∷ [];
+  file_takes_a_label : taken (plan File) (ace kinds.Label 0x7 0x8000_0000 high)
+      ≡ ace kinds.Label 0x0 0x8000_0000 high ∷ [];
+  file_does_not_hand_on : taken (plan File) (ace kinds.Allow 0xb 0x1f01ff everyone) ≡ [];
+}
 unfolding computed
-file_takes = refl
-
-file_takes_a_label : taken (plan File) (ace kinds.Label 0x7 0x8000_0000 high)
-    ≡ ace kinds.Label 0x0 0x8000_0000 high ∷ []
-unfolding computed
-file_takes_a_label = refl
-
-file_does_not_hand_on : taken (plan File) (ace kinds.Allow 0xb 0x1f01ff everyone) ≡ []
-unfolding computed
-file_does_not_hand_on = refl
+file_rows = search rules
 
 -- a container keeps what it only hands on as it was, and takes for itself what does not go on
 
-container_hands_on : taken (plan Container) (ace kinds.Allow 0xd 0x1000_0000 creator_owner)
-    ≡ ace kinds.Allow 0xd 0x1000_0000 creator_owner ∷ []
+container_rows : record {
+  container_hands_on : taken (plan Container) (ace kinds.Allow 0xd 0x1000_0000 creator_owner)
+      ≡ ace kinds.Allow 0xd 0x1000_0000 creator_owner ∷ [];
+  container_takes : taken (plan Container) (ace kinds.Deny 0x4 0x1000_0000 creator_group)
+      ≡ ace kinds.Deny 0x0 0x1f01ff everyone ∷ [];
+}
 unfolding computed
-container_hands_on = refl
-
-container_takes : taken (plan Container) (ace kinds.Deny 0x4 0x1000_0000 creator_group)
-    ≡ ace kinds.Deny 0x0 0x1f01ff everyone ∷ []
-unfolding computed
-container_takes = refl
+container_rows = search rules
 
 -- what goes on, and means something else there, is split
 
-creator_splits : taken (plan Container) (ace kinds.Allow 0x3 0x1000_0000 creator_owner)
-    ≡ ace kinds.Allow 0x0 0x1f01ff user ∷ ace kinds.Allow 0xb 0x1000_0000 creator_owner ∷ []
+what_goes_on : record {
+  creator_splits : taken (plan Container) (ace kinds.Allow 0x3 0x1000_0000 creator_owner)
+      ≡ ace kinds.Allow 0x0 0x1f01ff user ∷ ace kinds.Allow 0xb 0x1000_0000 creator_owner ∷ [];
+  generic_splits : taken (plan Container) (ace kinds.Audit 0x46 0x8000_0000 users)
+      ≡ ace kinds.Audit 0x40 0x120089 users ∷ ace kinds.Audit 0x4e 0x8000_0000 users ∷ [];
+  owner_splits_without_a_generic_right : taken (plan Container) (ace kinds.Deny 0x1 0x2 creator_owner)
+      ≡ ace kinds.Deny 0x0 0x2 user ∷ ace kinds.Deny 0x9 0x2 creator_owner ∷ [];
+  group_splits_without_a_generic_right : taken (plan Container) (ace kinds.Deny 0x2 0x2 creator_group)
+      ≡ ace kinds.Deny 0x0 0x2 everyone ∷ ace kinds.Deny 0xa 0x2 creator_group ∷ [];
+}
 unfolding computed
-creator_splits = refl
-
-generic_splits : taken (plan Container) (ace kinds.Audit 0x46 0x8000_0000 users)
-    ≡ ace kinds.Audit 0x40 0x120089 users ∷ ace kinds.Audit 0x4e 0x8000_0000 users ∷ []
-unfolding computed
-generic_splits = refl
-
-owner_splits_without_a_generic_right : taken (plan Container) (ace kinds.Deny 0x1 0x2 creator_owner)
-    ≡ ace kinds.Deny 0x0 0x2 user ∷ ace kinds.Deny 0x9 0x2 creator_owner ∷ []
-unfolding computed
-owner_splits_without_a_generic_right = refl
-
-group_splits_without_a_generic_right : taken (plan Container) (ace kinds.Deny 0x2 0x2 creator_group)
-    ≡ ace kinds.Deny 0x0 0x2 everyone ∷ ace kinds.Deny 0xa 0x2 creator_group ∷ []
-unfolding computed
-group_splits_without_a_generic_right = refl
+what_goes_on = search rules
 
 -- all else is as it was
 
-label_does_not_split : taken (plan Container) (ace kinds.Label 0x2 0x8000_0000 high)
-    ≡ ace kinds.Label 0x2 0x8000_0000 high ∷ []
+label_does_not_split_and_more : record {
+  label_does_not_split : taken (plan Container) (ace kinds.Label 0x2 0x8000_0000 high)
+      ≡ ace kinds.Label 0x2 0x8000_0000 high ∷ [];
+  as_it_was : taken (plan Container) (ace kinds.Allow 0x45 0x1 users) ≡ ace kinds.Allow 0x45 0x1 users ∷ [];
+}
 unfolding computed
-label_does_not_split = refl
-
-as_it_was : taken (plan Container) (ace kinds.Allow 0x45 0x1 users) ≡ ace kinds.Allow 0x45 0x1 users ∷ []
-unfolding computed
-as_it_was = refl
+label_does_not_split_and_more = search rules
 
 -- whole descriptors
 
@@ -200,25 +177,18 @@ child control sacl dacl = record {
   dacl = acl.List dacl;
 }
 
-null_dacl : derived (parent acl.Absent acl.Null) None (plan File) ≡ child 0x8404 acl.Absent []
+whole_descriptors : record {
+  null_dacl : derived (parent acl.Absent acl.Null) None (plan File) ≡ child 0x8404 acl.Absent [];
+  no_copy_in_the_sacl : derived (parent (acl.List (ace kinds.Label 0x2 0x1 high ∷ [])) acl.Absent) None (plan File)
+      ≡ child 0x8404 acl.Absent [];
+  copy_in_the_sacl : derived
+      (parent (acl.List (ace kinds.Label 0x1 0x1 high ∷ [])) (acl.List (ace kinds.Allow 0x1 0x1 users ∷ [])))
+      None (plan File)
+      ≡ child 0x8c14 (acl.List (ace kinds.Label 0x10 0x1 high ∷ [])) (ace kinds.Allow 0x10 0x1 users ∷ []);
+  nothing_too_large : derive_fault (parent acl.Null acl.Null) None (plan Container) ≡ None;
+}
 unfolding computed parent child
-null_dacl = refl
-
-no_copy_in_the_sacl : derived (parent (acl.List (ace kinds.Label 0x2 0x1 high ∷ [])) acl.Absent) None (plan File)
-    ≡ child 0x8404 acl.Absent []
-unfolding computed parent child
-no_copy_in_the_sacl = refl
-
-copy_in_the_sacl : derived
-    (parent (acl.List (ace kinds.Label 0x1 0x1 high ∷ [])) (acl.List (ace kinds.Allow 0x1 0x1 users ∷ [])))
-    None (plan File)
-    ≡ child 0x8c14 (acl.List (ace kinds.Label 0x10 0x1 high ∷ [])) (ace kinds.Allow 0x10 0x1 users ∷ [])
-unfolding computed parent child
-copy_in_the_sacl = refl
-
-nothing_too_large : derive_fault (parent acl.Null acl.Null) None (plan Container) ≡ None
-unfolding computed parent
-nothing_too_large = refl
+whole_descriptors = search rules
 
 -- beside a creator's descriptor
 
@@ -249,126 +219,86 @@ made control sacl dacl = record {
   dacl = dacl;
 }
 
--- what is taken comes before the copies, and what the creator's object had inherited is not taken
-taken_then_inherited : derived handing_on
-    (Some (creator 0x8004 acl.Absent
-    (acl.List (ace kinds.Allow 0x0 0x120089 users ∷ ace kinds.Allow 0x10 0x1f01ff everyone ∷ []))))
-    (plan File)
-    ≡ made 0x8404 acl.Absent (acl.List (ace kinds.Allow 0x0 0x120089 users ∷ ace kinds.Allow 0x10 0x1f01ff system ∷ []))
+taken_then_inherited_and_more : record {
+  -- what is taken comes before the copies, and what the creator's object had inherited is not taken
+  taken_then_inherited : derived handing_on
+      (Some (creator 0x8004 acl.Absent
+      (acl.List (ace kinds.Allow 0x0 0x120089 users ∷ ace kinds.Allow 0x10 0x1f01ff everyone ∷ []))))
+      (plan File)
+      ≡ made 0x8404 acl.Absent (acl.List (ace kinds.Allow 0x0 0x120089 users ∷ ace kinds.Allow 0x10 0x1f01ff system
+      ∷ []));
+  -- AR and AI of the creator's ACL are not looked at
+  flags_of_inheritance : derived handing_on
+      (Some (creator 0x8504 acl.Absent (acl.List (ace kinds.Allow 0x0 0x120089 users ∷ [])))) (plan File)
+      ≡ made 0x8404 acl.Absent (acl.List (ace kinds.Allow 0x0 0x120089 users ∷ ace kinds.Allow 0x10 0x1f01ff system
+      ∷ []));
+  -- nothing is inherited beside a protected list, which is not auto-inherited
+  protected_list : derived handing_on
+      (Some (creator 0x9004 acl.Absent (acl.List (ace kinds.Allow 0x0 0x120089 users ∷ [])))) (plan File)
+      ≡ made 0x9004 acl.Absent (acl.List (ace kinds.Allow 0x0 0x120089 users ∷ []));
+  -- a null DACL stays null, and keeps P
+  null_creators_dacl : derived handing_on (Some (creator 0x8004 acl.Absent acl.Null)) (plan File)
+      ≡ made 0x8004 acl.Absent acl.Null;
+  protected_null_dacl : derived handing_on (Some (creator 0x9004 acl.Absent acl.Null)) (plan File)
+      ≡ made 0x9004 acl.Absent acl.Null;
+  -- an empty SACL stands, protected or not; beside it the DACL is inherited
+  protected_empty_sacl : derived handing_on (Some (creator 0xa010 (acl.List []) acl.Absent)) (plan File)
+      ≡ made 0xa414 (acl.List []) (acl.List (ace kinds.Allow 0x10 0x1f01ff system ∷ []));
+  empty_sacl : derived handing_on (Some (creator 0x8010 (acl.List []) acl.Absent)) (plan File)
+      ≡ made 0x8c14 (acl.List []) (acl.List (ace kinds.Allow 0x10 0x1f01ff system ∷ []));
+  -- P of an ACL that is absent is not kept
+  protected_but_absent : derived handing_on (Some (creator 0xb000 acl.Absent acl.Absent)) (plan File)
+      ≡ made 0x8404 acl.Absent (acl.List (ace kinds.Allow 0x10 0x1f01ff system ∷ []));
+  -- a container takes an ACE for the creator's owner, and inherits
+  container_takes_and_inherits : derived handing_on
+      (Some (creator 0x8004 acl.Absent (acl.List (ace kinds.Allow 0x3 0x1000_0000 creator_owner ∷ []))))
+      (plan Container)
+      ≡ made 0x8404 acl.Absent
+      (acl.List (ace kinds.Allow 0x0 0x1f01ff user ∷ ace kinds.Allow 0xb 0x1000_0000 creator_owner
+      ∷ ace kinds.Allow 0x13 0x1f01ff system ∷ []));
+}
 unfolding computed parent system handing_on creator made
-taken_then_inherited = refl
-
--- AR and AI of the creator's ACL are not looked at
-flags_of_inheritance : derived handing_on
-    (Some (creator 0x8504 acl.Absent (acl.List (ace kinds.Allow 0x0 0x120089 users ∷ [])))) (plan File)
-    ≡ made 0x8404 acl.Absent (acl.List (ace kinds.Allow 0x0 0x120089 users ∷ ace kinds.Allow 0x10 0x1f01ff system ∷ []))
-unfolding computed parent system handing_on creator made
-flags_of_inheritance = refl
-
--- nothing is inherited beside a protected list, which is not auto-inherited
-protected_list : derived handing_on
-    (Some (creator 0x9004 acl.Absent (acl.List (ace kinds.Allow 0x0 0x120089 users ∷ [])))) (plan File)
-    ≡ made 0x9004 acl.Absent (acl.List (ace kinds.Allow 0x0 0x120089 users ∷ []))
-unfolding computed parent system handing_on creator made
-protected_list = refl
-
--- a null DACL stays null, and keeps P
-null_creators_dacl : derived handing_on (Some (creator 0x8004 acl.Absent acl.Null)) (plan File)
-    ≡ made 0x8004 acl.Absent acl.Null
-unfolding computed parent system handing_on creator made
-null_creators_dacl = refl
-
-protected_null_dacl : derived handing_on (Some (creator 0x9004 acl.Absent acl.Null)) (plan File)
-    ≡ made 0x9004 acl.Absent acl.Null
-unfolding computed parent system handing_on creator made
-protected_null_dacl = refl
-
--- an empty SACL stands, protected or not; beside it the DACL is inherited
-protected_empty_sacl : derived handing_on (Some (creator 0xa010 (acl.List []) acl.Absent)) (plan File)
-    ≡ made 0xa414 (acl.List []) (acl.List (ace kinds.Allow 0x10 0x1f01ff system ∷ []))
-unfolding computed parent system handing_on creator made
-protected_empty_sacl = refl
-
-empty_sacl : derived handing_on (Some (creator 0x8010 (acl.List []) acl.Absent)) (plan File)
-    ≡ made 0x8c14 (acl.List []) (acl.List (ace kinds.Allow 0x10 0x1f01ff system ∷ []))
-unfolding computed parent system handing_on creator made
-empty_sacl = refl
-
--- P of an ACL that is absent is not kept
-protected_but_absent : derived handing_on (Some (creator 0xb000 acl.Absent acl.Absent)) (plan File)
-    ≡ made 0x8404 acl.Absent (acl.List (ace kinds.Allow 0x10 0x1f01ff system ∷ []))
-unfolding computed parent system handing_on creator made
-protected_but_absent = refl
-
--- a container takes an ACE for the creator's owner, and inherits
-container_takes_and_inherits : derived handing_on
-    (Some (creator 0x8004 acl.Absent (acl.List (ace kinds.Allow 0x3 0x1000_0000 creator_owner ∷ []))))
-    (plan Container)
-    ≡ made 0x8404 acl.Absent
-    (acl.List (ace kinds.Allow 0x0 0x1f01ff user ∷ ace kinds.Allow 0xb 0x1000_0000 creator_owner
-    ∷ ace kinds.Allow 0x13 0x1f01ff system ∷ []))
-unfolding computed parent system handing_on creator made
-container_takes_and_inherits = refl
+taken_then_inherited_and_more = search rules
 
 -- a creator's null SACL stays null, and keeps P; beside it the DACL is inherited
 
-null_creators_sacl : derived handing_on (Some (creator 0x8010 acl.Null acl.Absent)) (plan File)
-    ≡ made 0x8414 acl.Null (acl.List (ace kinds.Allow 0x10 0x1f01ff system ∷ []))
+null_creators_sacl_and_more : record {
+  null_creators_sacl : derived handing_on (Some (creator 0x8010 acl.Null acl.Absent)) (plan File)
+      ≡ made 0x8414 acl.Null (acl.List (ace kinds.Allow 0x10 0x1f01ff system ∷ []));
+  protected_null_sacl : derived handing_on (Some (creator 0xa010 acl.Null acl.Absent)) (plan File)
+      ≡ made 0xa414 acl.Null (acl.List (ace kinds.Allow 0x10 0x1f01ff system ∷ []));
+  -- an empty DACL of the creator's is a list: what is inherited comes
+  empty_creators_dacl : derived handing_on (Some (creator 0x8004 acl.Absent (acl.List []))) (plan File)
+      ≡ made 0x8404 acl.Absent (acl.List (ace kinds.Allow 0x10 0x1f01ff system ∷ []));
+  -- P of the one ACL does not protect the other
+  other_acl_is_protected : derived handing_on
+      (Some (creator 0xa014 (acl.List []) (acl.List (ace kinds.Allow 0x0 0x120089 users ∷ [])))) (plan File)
+      ≡ made 0xa414 (acl.List [])
+      (acl.List (ace kinds.Allow 0x0 0x120089 users ∷ ace kinds.Allow 0x10 0x1f01ff system ∷ []));
+}
 unfolding computed parent system handing_on creator made
-null_creators_sacl = refl
-
-protected_null_sacl : derived handing_on (Some (creator 0xa010 acl.Null acl.Absent)) (plan File)
-    ≡ made 0xa414 acl.Null (acl.List (ace kinds.Allow 0x10 0x1f01ff system ∷ []))
-unfolding computed parent system handing_on creator made
-protected_null_sacl = refl
-
--- an empty DACL of the creator's is a list: what is inherited comes
-empty_creators_dacl : derived handing_on (Some (creator 0x8004 acl.Absent (acl.List []))) (plan File)
-    ≡ made 0x8404 acl.Absent (acl.List (ace kinds.Allow 0x10 0x1f01ff system ∷ []))
-unfolding computed parent system handing_on creator made
-empty_creators_dacl = refl
-
--- P of the one ACL does not protect the other
-other_acl_is_protected : derived handing_on
-    (Some (creator 0xa014 (acl.List []) (acl.List (ace kinds.Allow 0x0 0x120089 users ∷ [])))) (plan File)
-    ≡ made 0xa414 (acl.List [])
-    (acl.List (ace kinds.Allow 0x0 0x120089 users ∷ ace kinds.Allow 0x10 0x1f01ff system ∷ []))
-unfolding computed parent system handing_on creator made
-other_acl_is_protected = refl
+null_creators_sacl_and_more = search rules
 
 -- each generic right by itself splits
 
-generic_write_splits : copies (plan Container) (ace kinds.Allow 0x2 0x4000_0000 users)
-    ≡ ace kinds.Allow 0x10 0x120116 users ∷ ace kinds.Allow 0x1a 0x4000_0000 users ∷ []
+generic_write_splits_and_more : record {
+  generic_write_splits : copies (plan Container) (ace kinds.Allow 0x2 0x4000_0000 users)
+      ≡ ace kinds.Allow 0x10 0x120116 users ∷ ace kinds.Allow 0x1a 0x4000_0000 users ∷ [];
+  generic_execute_splits : copies (plan Container) (ace kinds.Allow 0x2 0x2000_0000 users)
+      ≡ ace kinds.Allow 0x10 0x1200a0 users ∷ ace kinds.Allow 0x1a 0x2000_0000 users ∷ [];
+  generic_all_splits : copies (plan Container) (ace kinds.Allow 0x3 0x1000_0000 users)
+      ≡ ace kinds.Allow 0x10 0x1f01ff users ∷ ace kinds.Allow 0x1b 0x1000_0000 users ∷ [];
+  -- the bits below the generic ones do not: 25 is MAXIMUM_ALLOWED
+  no_generic_right : copies (plan Container) (ace kinds.Allow 0x2 0x0f00_0000 users)
+      ≡ ace kinds.Allow 0x12 0x0f00_0000 users ∷ [];
+  -- OWNER RIGHTS, S-1-3-4, and CREATOR OWNER SERVER, S-1-3-2, are nobody's place
+  no_creator : copies (plan Container) (ace kinds.Allow 0x2 0x1 (record { authority = 3; subs = 4 ∷ [] }))
+      ≡ ace kinds.Allow 0x12 0x1 (record { authority = 3; subs = 4 ∷ [] }) ∷ [];
+  server : copies (plan Container) (ace kinds.Allow 0x2 0x1 (record { authority = 3; subs = 2 ∷ [] }))
+      ≡ ace kinds.Allow 0x12 0x1 (record { authority = 3; subs = 2 ∷ [] }) ∷ [];
+}
 unfolding computed
-generic_write_splits = refl
-
-generic_execute_splits : copies (plan Container) (ace kinds.Allow 0x2 0x2000_0000 users)
-    ≡ ace kinds.Allow 0x10 0x1200a0 users ∷ ace kinds.Allow 0x1a 0x2000_0000 users ∷ []
-unfolding computed
-generic_execute_splits = refl
-
-generic_all_splits : copies (plan Container) (ace kinds.Allow 0x3 0x1000_0000 users)
-    ≡ ace kinds.Allow 0x10 0x1f01ff users ∷ ace kinds.Allow 0x1b 0x1000_0000 users ∷ []
-unfolding computed
-generic_all_splits = refl
-
--- the bits below the generic ones do not: 25 is MAXIMUM_ALLOWED
-no_generic_right : copies (plan Container) (ace kinds.Allow 0x2 0x0f00_0000 users)
-    ≡ ace kinds.Allow 0x12 0x0f00_0000 users ∷ []
-unfolding computed
-no_generic_right = refl
-
--- OWNER RIGHTS, S-1-3-4, and CREATOR OWNER SERVER, S-1-3-2, are nobody's place
-no_creator : copies (plan Container) (ace kinds.Allow 0x2 0x1 (record { authority = 3; subs = 4 ∷ [] }))
-    ≡ ace kinds.Allow 0x12 0x1 (record { authority = 3; subs = 4 ∷ [] }) ∷ []
-unfolding computed
-no_creator = refl
-
-server : copies (plan Container) (ace kinds.Allow 0x2 0x1 (record { authority = 3; subs = 2 ∷ [] }))
-    ≡ ace kinds.Allow 0x12 0x1 (record { authority = 3; subs = 2 ∷ [] }) ∷ []
-unfolding computed
-server = refl
+generic_write_splits_and_more = search rules
 
 -- an ACL of 65,532 bytes and one of 65,536
 
@@ -384,23 +314,20 @@ shortest = record { authority = 5; subs = [] }
 for_files : SecurityId → AccessControlEntry
 for_files sid = ace kinds.Allow 0x1 0x1 sid
 
--- 861 * 76 + 3 * 16 + 2 * 20 + 8
-fits : derive_fault (parent acl.Absent (acl.List (replicate 861 (for_files longest) ++ replicate 3 (for_files shortest)
-    ++ replicate 2 (for_files everyone)))) None (plan File) ≡ None
+largest_acls : record {
+  -- 861 * 76 + 3 * 16 + 2 * 20 + 8
+  fits : derive_fault (parent acl.Absent (acl.List (replicate 861 (for_files longest)
+      ++ replicate 3 (for_files shortest)
+      ++ replicate 2 (for_files everyone)))) None (plan File) ≡ None;
+  -- 862 * 76 + 16 + 8
+  too_large : derive_fault (parent acl.Absent (acl.List (replicate 862 (for_files longest) ++ for_files shortest ∷ [])))
+      None (plan File) ≡ Some (DerivedTooLarge Dacl);
+  -- the SACL is looked at first
+  both_too_large : derive_fault (parent (acl.List (replicate 863 (for_files longest)))
+      (acl.List (replicate 863 (for_files longest)))) None (plan File) ≡ Some (DerivedTooLarge Sacl);
+}
 unfolding computed parent longest shortest for_files
-fits = refl
-
--- 862 * 76 + 16 + 8
-too_large : derive_fault (parent acl.Absent (acl.List (replicate 862 (for_files longest) ++ for_files shortest ∷ [])))
-    None (plan File) ≡ Some (DerivedTooLarge Dacl)
-unfolding computed parent longest shortest for_files
-too_large = refl
-
--- the SACL is looked at first
-both_too_large : derive_fault (parent (acl.List (replicate 863 (for_files longest)))
-    (acl.List (replicate 863 (for_files longest)))) None (plan File) ≡ Some (DerivedTooLarge Sacl)
-unfolding computed parent longest shortest for_files
-both_too_large = refl
+largest_acls = search rules
 
 -- a plan's owner and its group are SIDs: each with one number too many
 
@@ -423,65 +350,50 @@ from_creator place inherit_only = record { place = place; from_creator = true; i
 from_parent : ℕ → Bool → AceOrigin
 from_parent place inherit_only = record { place = place; from_creator = false; inherit_only = inherit_only }
 
--- Two equal ACEs have origins of their own, and an ACE that gives nothing has a place. The last one is to hand on
--- alone.
-origins_in_a_container : new_origins Dacl
-    (parent acl.Absent (acl.List (ace kinds.Allow 0x0 0x1 users ∷ ace kinds.Allow 0x2 0x8000_0000 users
-    ∷ ace kinds.Allow 0x2 0x8000_0000 users ∷ ace kinds.Allow 0x4 0x1 users ∷ ace kinds.Allow 0x1 0x1 users ∷ [])))
-    None (plan Container)
-    ≡ from_parent 1 false ∷ from_parent 1 true ∷ from_parent 2 false ∷ from_parent 2 true ∷ from_parent 4 true ∷ []
-unfolding computed parent from_parent
-origins_in_a_container = refl
-
-origins_in_a_file : new_origins Dacl
-    (parent acl.Absent (acl.List (ace kinds.Allow 0x2 0x1 users ∷ ace kinds.Allow 0x3 0x8000_0000 users ∷ [])))
-    None (plan File) ≡ from_parent 1 false ∷ []
-unfolding computed parent from_parent
-origins_in_a_file = refl
-
--- the creator's come first, and what its object had inherited has a place there
-origins_of_both : new_origins Dacl handing_on
-    (Some (creator 0x8004 acl.Absent
-    (acl.List (ace kinds.Allow 0x10 0x1 users ∷ ace kinds.Allow 0x3 0x1000_0000 creator_owner
-    ∷ ace kinds.Allow 0xb 0x1 users ∷ []))))
-    (plan Container)
-    ≡ from_creator 1 false ∷ from_creator 1 true ∷ from_creator 2 true ∷ from_parent 0 false ∷ []
-unfolding computed parent system handing_on creator from_creator from_parent
-origins_of_both = refl
+origins_rows : record {
+  -- Two equal ACEs have origins of their own, and an ACE that gives nothing has a place. The last one is to hand on
+  -- alone.
+  origins_in_a_container : new_origins Dacl
+      (parent acl.Absent (acl.List (ace kinds.Allow 0x0 0x1 users ∷ ace kinds.Allow 0x2 0x8000_0000 users
+      ∷ ace kinds.Allow 0x2 0x8000_0000 users ∷ ace kinds.Allow 0x4 0x1 users ∷ ace kinds.Allow 0x1 0x1 users ∷ [])))
+      None (plan Container)
+      ≡ from_parent 1 false ∷ from_parent 1 true ∷ from_parent 2 false ∷ from_parent 2 true ∷ from_parent 4 true ∷ [];
+  origins_in_a_file : new_origins Dacl
+      (parent acl.Absent (acl.List (ace kinds.Allow 0x2 0x1 users ∷ ace kinds.Allow 0x3 0x8000_0000 users ∷ [])))
+      None (plan File) ≡ from_parent 1 false ∷ [];
+  -- the creator's come first, and what its object had inherited has a place there
+  origins_of_both : new_origins Dacl handing_on
+      (Some (creator 0x8004 acl.Absent
+      (acl.List (ace kinds.Allow 0x10 0x1 users ∷ ace kinds.Allow 0x3 0x1000_0000 creator_owner
+      ∷ ace kinds.Allow 0xb 0x1 users ∷ []))))
+      (plan Container)
+      ≡ from_creator 1 false ∷ from_creator 1 true ∷ from_creator 2 true ∷ from_parent 0 false ∷ [];
+}
+unfolding computed parent from_parent system handing_on creator from_creator
+origins_rows = search rules
 
 -- nothing is inherited beside a protected ACL or a null one, and an ACL that is not there has no origins
 
-origins_beside_protected : new_origins Dacl handing_on
-    (Some (creator 0x9004 acl.Absent (acl.List (ace kinds.Allow 0x0 0x1 users ∷ [])))) (plan File)
-    ≡ from_creator 0 false ∷ []
-unfolding computed parent system handing_on creator from_creator
-origins_beside_protected = refl
-
-origins_beside_null : new_origins Dacl handing_on (Some (creator 0x8004 acl.Absent acl.Null)) (plan File) ≡ []
-unfolding computed parent system handing_on creator
-origins_beside_null = refl
-
-origins_of_an_absent_sacl : new_origins Sacl handing_on None (plan File) ≡ []
-unfolding computed parent system handing_on
-origins_of_an_absent_sacl = refl
-
-origins_of_a_sacl : new_origins Sacl (parent (acl.List (ace kinds.Label 0x1 0x1 high ∷ [])) acl.Null) None (plan File)
-    ≡ from_parent 0 false ∷ []
-unfolding computed parent from_parent
-origins_of_a_sacl = refl
+origins_beside_protected_and_more : record {
+  origins_beside_protected : new_origins Dacl handing_on
+      (Some (creator 0x9004 acl.Absent (acl.List (ace kinds.Allow 0x0 0x1 users ∷ [])))) (plan File)
+      ≡ from_creator 0 false ∷ [];
+  origins_beside_null : new_origins Dacl handing_on (Some (creator 0x8004 acl.Absent acl.Null)) (plan File) ≡ [];
+  origins_of_an_absent_sacl : new_origins Sacl handing_on None (plan File) ≡ [];
+  origins_of_a_sacl : new_origins Sacl (parent (acl.List (ace kinds.Label 0x1 0x1 high ∷ [])) acl.Null) None (plan File)
+      ≡ from_parent 0 false ∷ [];
+}
+unfolding computed parent system handing_on creator from_creator from_parent
+origins_beside_protected_and_more = search rules
 
 -- the counts are told where there is room for both ACLs, and also where there is not
 
-enough_room : origins_answer handing_on None (plan File) 0 1 ≡ Ok (record { sacl = 0; dacl = 1 })
-unfolding computed parent system handing_on
-enough_room = refl
-
-no_room : origins_answer handing_on None (plan File) 4095 0 ≡ Err (TooSmall (record { sacl = 0; dacl = 1 }))
-unfolding computed parent system handing_on
-no_room = refl
-
-too_large_before_room : origins_answer
-    (parent acl.Absent (acl.List (replicate 862 (for_files longest) ++ for_files shortest ∷ []))) None (plan File) 0 0
-    ≡ Err (Derive (DerivedTooLarge Dacl))
-unfolding computed parent longest shortest for_files
-too_large_before_room = refl
+enough_room_and_more : record {
+  enough_room : origins_answer handing_on None (plan File) 0 1 ≡ Ok (record { sacl = 0; dacl = 1 });
+  no_room : origins_answer handing_on None (plan File) 4095 0 ≡ Err (TooSmall (record { sacl = 0; dacl = 1 }));
+  too_large_before_room : origins_answer
+      (parent acl.Absent (acl.List (replicate 862 (for_files longest) ++ for_files shortest ∷ []))) None (plan File) 0 0
+      ≡ Err (Derive (DerivedTooLarge Dacl));
+}
+unfolding computed parent system handing_on longest shortest for_files
+enough_room_and_more = search rules

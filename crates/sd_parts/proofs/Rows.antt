@@ -1,5 +1,5 @@
 -- The control word and the sizes of parts, with the numbers of MS-DTYP 2.4.6, 2.4.5 and 2.4.2.
-use Rattle.std.proofs.Common.{◌≡◌, ℕ, List, [], ◌∷◌, true, false, codes, refl}
+use Rattle.std.proofs.Common.{◌≡◌, ℕ, List, [], ◌∷◌, true, false, codes, refl, rules}
 use Rattle.std.specs.Prelude.{map}
 use Rattle.sd_parts.specs.Control.{acl_flags, all_flags, control_of, dacl_present, flag_bits, no_flags, other_acl}
 use Rattle.sd_parts.specs.Control.{present_bit, sacl_present, self_relative}
@@ -19,16 +19,16 @@ use Rattle.sd_parts.specs.declared.part.Parts.{Parts}
 use Rattle.sd_parts.specs.declared.part.SidPart.TheVariants as sid
 use Rattle.sd_parts.specs.declared.part.Which.TheVariants as which
 
--- each named bit, in rising order: 0x40 and 0x80 have no name
-named_bits : map (λ b. b.bit) CONTROL_BITS
-    ≡ 1 ∷ 2 ∷ 4 ∷ 8 ∷ 16 ∷ 32 ∷ 256 ∷ 512 ∷ 1024 ∷ 2048 ∷ 4096 ∷ 8192 ∷ 16384 ∷ 32768 ∷ []
-named_bits = refl
-
-each_bit : OWNER_DEFAULTED ∷ GROUP_DEFAULTED ∷ DACL_PRESENT ∷ DACL_DEFAULTED ∷ SACL_PRESENT ∷ SACL_DEFAULTED
-    ∷ DACL_AUTO_INHERIT_REQUIRED ∷ SACL_AUTO_INHERIT_REQUIRED ∷ DACL_AUTO_INHERITED ∷ SACL_AUTO_INHERITED
-    ∷ DACL_PROTECTED ∷ SACL_PROTECTED ∷ RM_CONTROL_VALID ∷ SELF_RELATIVE ∷ []
-    ≡ 0x1 ∷ 0x2 ∷ 0x4 ∷ 0x8 ∷ 0x10 ∷ 0x20 ∷ 0x100 ∷ 0x200 ∷ 0x400 ∷ 0x800 ∷ 0x1000 ∷ 0x2000 ∷ 0x4000 ∷ 0x8000 ∷ []
-each_bit = refl
+named_bits_and_more : record {
+  -- each named bit, in rising order: 0x40 and 0x80 have no name
+  named_bits : map (λ b. b.bit) CONTROL_BITS
+      ≡ 1 ∷ 2 ∷ 4 ∷ 8 ∷ 16 ∷ 32 ∷ 256 ∷ 512 ∷ 1024 ∷ 2048 ∷ 4096 ∷ 8192 ∷ 16384 ∷ 32768 ∷ [];
+  each_bit : OWNER_DEFAULTED ∷ GROUP_DEFAULTED ∷ DACL_PRESENT ∷ DACL_DEFAULTED ∷ SACL_PRESENT ∷ SACL_DEFAULTED
+      ∷ DACL_AUTO_INHERIT_REQUIRED ∷ SACL_AUTO_INHERIT_REQUIRED ∷ DACL_AUTO_INHERITED ∷ SACL_AUTO_INHERITED
+      ∷ DACL_PROTECTED ∷ SACL_PROTECTED ∷ RM_CONTROL_VALID ∷ SELF_RELATIVE ∷ []
+      ≡ 0x1 ∷ 0x2 ∷ 0x4 ∷ 0x8 ∷ 0x10 ∷ 0x20 ∷ 0x100 ∷ 0x200 ∷ 0x400 ∷ 0x800 ∷ 0x1000 ∷ 0x2000 ∷ 0x4000 ∷ 0x8000 ∷ [];
+}
+named_bits_and_more = search rules
 
 -- P, AR and AI, each alone, and its bit
 
@@ -82,17 +82,17 @@ dacl_bit = (refl, refl)
 other_acls : (other_acl which.Sacl ≡ which.Dacl) × (other_acl which.Dacl ≡ which.Sacl)
 other_acls = (refl, refl)
 
--- the codes that explanations print, in the order of the bits
-letters : map (λ b. b.first ∷ b.second ∷ []) CONTROL_BITS
-    ≡ codes "OD" ∷ codes "GD" ∷ codes "DP" ∷ codes "DD" ∷ codes "SP" ∷ codes "SD" ∷ codes "DC" ∷ codes "SC"
-    ∷ codes "DI" ∷ codes "SI" ∷ codes "PD" ∷ codes "PS" ∷ codes "RM" ∷ codes "SR" ∷ []
-letters = refl
-
--- revision 1, the resource manager byte, the control word, and the offsets of owner, group, SACL and DACL
-header : header_bytes 0xab 0x8014 (record { owner = 0x01020304; group = 0x20; sacl = 0x30; dacl = 0x40 })
-    ≡ 1 ∷ 0xab ∷ 0x14 ∷ 0x80 ∷ 4 ∷ 3 ∷ 2 ∷ 1 ∷ 0x20 ∷ 0 ∷ 0 ∷ 0 ∷ 0x30 ∷ 0 ∷ 0 ∷ 0 ∷ 0x40 ∷ 0 ∷ 0 ∷ 0 ∷ []
+letters_and_more : record {
+  -- the codes that explanations print, in the order of the bits
+  letters : map (λ b. b.first ∷ b.second ∷ []) CONTROL_BITS
+      ≡ codes "OD" ∷ codes "GD" ∷ codes "DP" ∷ codes "DD" ∷ codes "SP" ∷ codes "SD" ∷ codes "DC" ∷ codes "SC"
+      ∷ codes "DI" ∷ codes "SI" ∷ codes "PD" ∷ codes "PS" ∷ codes "RM" ∷ codes "SR" ∷ [];
+  -- revision 1, the resource manager byte, the control word, and the offsets of owner, group, SACL and DACL
+  header : header_bytes 0xab 0x8014 (record { owner = 0x01020304; group = 0x20; sacl = 0x30; dacl = 0x40 })
+      ≡ 1 ∷ 0xab ∷ 0x14 ∷ 0x80 ∷ 4 ∷ 3 ∷ 2 ∷ 1 ∷ 0x20 ∷ 0 ∷ 0 ∷ 0 ∷ 0x30 ∷ 0 ∷ 0 ∷ 0 ∷ 0x40 ∷ 0 ∷ 0 ∷ 0 ∷ [];
+}
 unfolding header_bytes
-header = refl
+letters_and_more = search rules
 
 -- the parts, and a value for each of them
 
@@ -102,26 +102,17 @@ every_part = Owner ∷ Group ∷ Sacl ∷ Dacl ∷ []
 numbered : Parts ℕ
 numbered = record { owner = 1; group = 2; sacl = 3; dacl = 4 }
 
-parts_of_halves : sid_part_of sid.Owner ∷ sid_part_of sid.Group ∷ part_of which.Sacl ∷ part_of which.Dacl ∷ []
-    ≡ every_part
-unfolding every_part
-parts_of_halves = refl
-
-same_parts : map (λ p. map (same_part p) every_part) every_part
-    ≡ (true ∷ false ∷ false ∷ false ∷ []) ∷ (false ∷ true ∷ false ∷ false ∷ [])
-    ∷ (false ∷ false ∷ true ∷ false ∷ []) ∷ (false ∷ false ∷ false ∷ true ∷ []) ∷ []
-unfolding every_part
-same_parts = refl
-
-values : map (λ p. get_part p numbered) every_part ≡ 1 ∷ 2 ∷ 3 ∷ 4 ∷ []
+parts_of_halves_and_more : record {
+  parts_of_halves : sid_part_of sid.Owner ∷ sid_part_of sid.Group ∷ part_of which.Sacl ∷ part_of which.Dacl ∷ []
+      ≡ every_part;
+  same_parts : map (λ p. map (same_part p) every_part) every_part
+      ≡ (true ∷ false ∷ false ∷ false ∷ []) ∷ (false ∷ true ∷ false ∷ false ∷ [])
+      ∷ (false ∷ false ∷ true ∷ false ∷ []) ∷ (false ∷ false ∷ false ∷ true ∷ []) ∷ [];
+  values : map (λ p. get_part p numbered) every_part ≡ 1 ∷ 2 ∷ 3 ∷ 4 ∷ [];
+  other_values : map (λ p. set_part p 9 numbered) every_part
+      ≡ record { owner = 9; group = 2; sacl = 3; dacl = 4 } ∷ record { owner = 1; group = 9; sacl = 3; dacl = 4 }
+      ∷ record { owner = 1; group = 2; sacl = 9; dacl = 4 } ∷ record { owner = 1; group = 2; sacl = 3; dacl = 9 } ∷ [];
+  one_value : each_part true ≡ record { owner = true; group = true; sacl = true; dacl = true };
+}
 unfolding every_part numbered
-values = refl
-
-other_values : map (λ p. set_part p 9 numbered) every_part
-    ≡ record { owner = 9; group = 2; sacl = 3; dacl = 4 } ∷ record { owner = 1; group = 9; sacl = 3; dacl = 4 }
-    ∷ record { owner = 1; group = 2; sacl = 9; dacl = 4 } ∷ record { owner = 1; group = 2; sacl = 3; dacl = 9 } ∷ []
-unfolding every_part numbered
-other_values = refl
-
-one_value : each_part true ≡ record { owner = true; group = true; sacl = true; dacl = true }
-one_value = refl
+parts_of_halves_and_more = search rules

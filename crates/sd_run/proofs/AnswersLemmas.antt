@@ -32,11 +32,6 @@ pub errors-push : (task : Task) (holder : Holder) (all : List (List ℕ)) (line 
 unfolding errors
 errors-push task holder all line = fold-append _ 0 all (line ∷ [])
 
-pub bounds-append : (task : Task) (holder : Holder) (all more : List (List ℕ))
-    → bounds task holder (all ++ more) ≡ bounds task holder all + bounds task holder more
-unfolding bounds
-bounds-append task holder all more = sum_by-append (bound task holder) all more
-
 pub bounds-push : (task : Task) (holder : Holder) (all : List (List ℕ)) (line : List ℕ)
     → bounds task holder (all ++ line ∷ []) ≡ bounds task holder all + bound task holder line
 unfolding bounds

@@ -1,29 +1,11 @@
 -- The first line of some bytes, and what follows it.
-use Rattle.std.proofs.Common.{◌≡◌, ◌≢◌, ◌<◌, ◌+◌, ◌==◌, ℕ, List, [], ◌∷◌, ◌++◌, length, take, drop, get_or, false, refl}
+use Rattle.std.proofs.Common.{◌≡◌, ◌≢◌, ◌<◌, ◌+◌, ℕ, List, [], ◌∷◌, ◌++◌, length, take, drop, get_or, refl}
 use Rattle.std.proofs.Common.{sym, ap, ◌∙◌, arith, map}
 use Rattle.std.proofs.lemmas.List.{drop_more, get_or-take, length-take-le, take-append-drop}
 use Rattle.sd_answer.specs.LineEnd.{without_cr}
 use Rattle.sd_run.specs.Lines.{LineCut, cut_at_line_feeds, ended, last_line, lines}
 use Rattle.sd_run.proofs.LineCutLemmas.{NoLf, parts-more}
 use Rattle.sd_run.proofs.SplitsLemmas.{cut-after}
-
--- one CR at the end
-pub with-cr : (front : List ℕ) → without_cr (front ++ 13 ∷ []) ≡ front
-unfolding without_cr
-with-cr [] = refl
-with-cr (b ∷ []) = refl
-with-cr (b ∷ c ∷ front) = ap (λ (l : List ℕ). b ∷ l) (with-cr (c ∷ front))
-
-alone : (last : ℕ) → (last == 13) ≡ false → without_cr (last ∷ []) ≡ last ∷ []
-unfolding without_cr
-alone last e = rw e
-
--- another byte there
-pub without : (front : List ℕ) (last : ℕ) → (last == 13) ≡ false → without_cr (front ++ last ∷ []) ≡ front ++ last ∷ []
-unfolding without_cr
-without [] last e = alone last e
-without (b ∷ []) last e = ap (λ (l : List ℕ). b ∷ l) (alone last e)
-without (b ∷ c ∷ front) last e = ap (λ (l : List ℕ). b ∷ l) (without (c ∷ front) last e)
 
 pub without-none : (line : List ℕ) → length line ≡ 0 → without_cr line ≡ line
 unfolding without_cr

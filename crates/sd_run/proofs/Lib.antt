@@ -6,5 +6,4 @@ pub mod FirstLineLemmas
 pub mod LineCutLemmas
 mod Rows
 pub mod RunLemmas
-pub mod SinkLemmas
 pub mod SplitsLemmas

@@ -91,10 +91,6 @@ ended-other xs b e = ap (λ p. map without_cr p.ended) (cut-other xs b e)
 pub rest-lf : (xs : List ℕ) → (cut_at_line_feeds (xs ++ 10 ∷ [])).rest ≡ []
 rest-lf xs = ap (λ p. p.rest) (cut-lf xs)
 
-pub rest-other : (xs : List ℕ) (b : ℕ) → (b == 10) ≡ false
-    → (cut_at_line_feeds (xs ++ b ∷ [])).rest ≡ (cut_at_line_feeds xs).rest ++ b ∷ []
-rest-other xs b e = ap (λ p. p.rest) (cut-other xs b e)
-
 -- more bytes end more lines
 ended-append_from : (b : Bool) (xs : List ℕ) (x : ℕ) → (x == 10) ≡ b → (more : List (List ℕ))
     × (ended (xs ++ x ∷ []) ≡ ended xs ++ more)

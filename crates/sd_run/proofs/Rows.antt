@@ -1,6 +1,6 @@
 -- Worked rows of lines, devices and runs, by hand from docs/DEFINITIONS.md and docs/sdtool.1.
 use Rattle.std.proofs.Common.{◌≡◌, ◌<◌, ◌≤◌, ◌+◌, inl, inr, ℕ, All, List, [], ◌∷◌, ◌++◌, map, length, Bool, true, false}
-use Rattle.std.proofs.Common.{Option, Some, None, Ok, Err, codes, refl, sym, ◌∙◌, append-nil, arith}
+use Rattle.std.proofs.Common.{Option, Some, Ok, Err, codes, refl, sym, ◌∙◌, append-nil, arith, rules}
 use Rattle.std.proofs.lemmas.List.Elements.{All-cons, All-nil}
 use Rattle.sd_token.specs.Token.{Holder}
 use Rattle.sd_answer.specs.Answer.{answer, bound, is_error}
@@ -27,11 +27,6 @@ pub no_line : lines [] ≡ []
 unfolding lines ended cut_at_line_feeds without_cr
 no_line = refl
 
-ended_lines : map ended (codes "a\r\nb" ∷ codes "a\nb\n" ∷ codes "a" ∷ [])
-    ≡ (codes "a" ∷ []) ∷ (codes "a" ∷ codes "b" ∷ []) ∷ [] ∷ []
-unfolding ended cut_at_line_feeds without_cr
-ended_lines = refl
-
 byte_before : (b : ℕ) (more : List ℕ) → b < 256 → All (λ n. n < 256) more → All (λ n. n < 256) (b ∷ more)
 byte_before b more h all = All-cons (λ n. n < 256) b more h all
 
@@ -44,9 +39,6 @@ bytes = byte_before 0 (255 ∷ []) (omega arith) (byte_before 255 [] (omega arit
 no_byte : AreBytes (256 ∷ []) → ⊥
 no_byte h = let more = h 0 0 (omega arith) in omega arith
 
-line_feeds : map has_lf ([] ∷ codes "a\r" ∷ codes "a\nb" ∷ []) ≡ false ∷ false ∷ true ∷ []
-line_feeds = refl
-
 cut : IsCut (codes "a\n\nb") (record { ended = codes "a" ∷ [] ∷ []; rest = codes "b" })
 cut = record { joined = refl; ended_without = refl; rest_without = refl }
 
@@ -55,6 +47,14 @@ lf_in_the_rest h = let bad : true ≡ false = h.rest_without in cc
 
 lf_in_a_line : IsCut (codes "a\nb\n") (record { ended = codes "a\nb" ∷ []; rest = [] }) → ⊥
 lf_in_a_line h = let bad : true ≡ false = h.ended_without in cc
+
+ended_lines_and_more : record {
+  ended_lines : map ended (codes "a\r\nb" ∷ codes "a\nb\n" ∷ codes "a" ∷ [])
+      ≡ (codes "a" ∷ []) ∷ (codes "a" ∷ codes "b" ∷ []) ∷ [] ∷ [];
+  line_feeds : map has_lf ([] ∷ codes "a\r" ∷ codes "a\nb" ∷ []) ≡ false ∷ false ∷ true ∷ [];
+}
+unfolding ended cut_at_line_feeds without_cr
+ended_lines_and_more = search rules
 
 -- 2. Calls of devices.
 

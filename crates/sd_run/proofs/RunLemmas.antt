@@ -37,37 +37,6 @@ Consumes-none a b c xs p q = rw append-nil at (Consumes-trans a b c xs [] p q)
 AreBytes-append : (xs ys : List ℕ) → AreBytes xs → AreBytes ys → AreBytes (xs ++ ys)
 AreBytes-append xs ys h more = All-append (λ b. b < 256) xs ys h more
 
--- a flush after the last answer
-pub Answered-flush : (task : Task) (token0 : TokenShown) (sink0 : SinkTold) (all : List (List ℕ)) (state : RunState)
-    (token : TokenShown) (drain drain' : DrainTold)
-    → Answered task token0 sink0 all (record { state = state; token = token; sink = sink_of drain })
-    → Keeps drain.taken drain'.taken → drain'.failures ≡ drain.failures
-    → Answered task token0 sink0 all (record { state = state; token = token; sink = sink_of drain' })
-Answered-flush task token0 sink0 all state token drain drain' h keeps same = record {
-  put = record {
-    identity = h.put.identity;
-    appended = Appends-kept _ _ _ _ h.put.appended keeps;
-    no_failure = same
-        ∙ h.put.no_failure;
-    room = h.put.room;
-  };
-  lines_counted = h.lines_counted;
-  faults_counted = h.faults_counted;
-  same_holder = h.same_holder;
-  compared = h.compared;
-}
-
--- the same in the middle of a run
-pub AfterBytes-flush : (task : Task) (token0 : TokenShown) (sink0 : SinkTold) (got : List ℕ) (state : RunState)
-    (token : TokenShown) (drain drain' : DrainTold)
-    → AfterBytes task token0 sink0 got (record { state = state; token = token; sink = sink_of drain })
-    → Keeps drain.taken drain'.taken → drain'.failures ≡ drain.failures
-    → AfterBytes task token0 sink0 got (record { state = state; token = token; sink = sink_of drain' })
-AfterBytes-flush task token0 sink0 got state token drain drain' h keeps same = record {
-  holds = h.holds;
-  answered = Answered-flush task token0 sink0 _ state token drain drain' h.answered keeps same;
-}
-
 none_ended : (xs : List (List ℕ)) → length xs ≡ 0 → xs ≡ []
 none_ended [] none = refl
 none_ended (x ∷ xs) none = absurd (omega arith)

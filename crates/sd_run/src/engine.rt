@@ -10,10 +10,9 @@ ghost use Rattle.sd_run.specs.declared.engine.RunFault.TheVariants.{Write};
 
 use sd_answer::{Job, Line, Stores, Task, put_answer};
 use sd_buffer::{SdBuf, TextBuf};
-use sd_memory::NoMemory;
 use sd_sddl_builder::SddlFault;
 use sd_sddl_reader::read_sddl;
-use sd_sink::{Sink, SinkFault};
+use sd_sink::{NoMemory, Sink, SinkFault};
 use sd_token::Token;
 use std::alloc::Global;
 use std::marker::Model;

@@ -119,6 +119,10 @@ guid_stands kind (b ∷ bs) g e = by_kind (is_object kind) refl
     by_kind true f = f
     by_kind false f = absurd (let e' : None ≡ Some (Some g) = (rw f at e) in cc)
 
+any_fits : (o : Bool) (x y : Option (List ℕ)) → o ≡ true → GuidsFit o x y
+any_fits true x y e = tt
+any_fits false x y e = absurd cc
+
 pub sound-object : (f : AceFields) (text : List ℕ) (object : Option (List ℕ)) → AreAceFields f
     → object_reads f.kind text ≡ Some object → AreAceFields (record f { object = object })
 sound-object f text object s e = record { clear = s.clear; fit = by_object object e }
@@ -129,13 +133,9 @@ sound-object f text object s e = record { clear = s.clear; fit = by_object objec
     without false None (Some g) fit = absurd fit
     without false (Some g) y fit = absurd fit
 
-    any : (o : Bool) (x y : Option (List ℕ)) → o ≡ true → GuidsFit o x y
-    any true x y e = tt
-    any false x y e = absurd cc
-
     by_object : (x : Option (List ℕ)) → object_reads f.kind text ≡ Some x → GuidsFit (is_object f.kind) x f.inherited
     by_object None e = without (is_object f.kind) f.object f.inherited s.fit
-    by_object (Some g) e = any (is_object f.kind) (Some g) f.inherited (guid_stands f.kind text g e)
+    by_object (Some g) e = any_fits (is_object f.kind) (Some g) f.inherited (guid_stands f.kind text g e)
 
 pub sound-inherited : (f : AceFields) (text : List ℕ) (object : Option (List ℕ)) → AreAceFields f
     → object_reads f.kind text ≡ Some object → AreAceFields (record f { inherited = object })
@@ -147,13 +147,9 @@ sound-inherited f text object s e = record { clear = s.clear; fit = by_object ob
     without false None (Some g) fit = tt
     without false (Some g) y fit = absurd fit
 
-    any : (o : Bool) (x y : Option (List ℕ)) → o ≡ true → GuidsFit o x y
-    any true x y e = tt
-    any false x y e = absurd cc
-
     by_object : (x : Option (List ℕ)) → object_reads f.kind text ≡ Some x → GuidsFit (is_object f.kind) f.object x
     by_object None e = without (is_object f.kind) f.object f.inherited s.fit
-    by_object (Some g) e = any (is_object f.kind) f.object (Some g) (guid_stands f.kind text g e)
+    by_object (Some g) e = any_fits (is_object f.kind) f.object (Some g) (guid_stands f.kind text g e)
 
 -- an ACL begins
 pub front-taken : (w : Which) (has_aces : Bool) (t : FieldsRead) (f : AclFront) (found : Option AclFront)

@@ -1,6 +1,6 @@
 -- Worked lines, read.
 use Rattle.std.proofs.Common.{◌≡◌, ℕ, zero, suc, List, [], ◌∷◌, ◌++◌, map, replicate, Option, Some, None, codes, refl}
-use Rattle.std.proofs.Common.{Result, Ok, Err}
+use Rattle.std.proofs.Common.{Result, Ok, Err, rules}
 use Rattle.sd_kinds.specs.Kinds.{kind_entry, kind_letters, kind_named}
 use Rattle.sd_ace.specs.Ace.{AccessControlEntry}
 use Rattle.sd_kinds.specs.Flags.{flags_reads}
@@ -58,48 +58,11 @@ pub blank_line : means (codes " ") None ≡ Ok bare
 unfolding read bare
 blank_line = refl
 
-null_dacl : means (codes "D:NO_ACCESS_CONTROL") None ≡ Ok (with_dacl 0x8004 acl.Null)
-unfolding read with_dacl
-null_dacl = refl
-
--- blanks, and letters in either case
-whole_line : means (codes " o:ba  d:pai (a;;fa;;;wd) ") None
-    ≡ Ok (record (with_dacl 0x9404 (acl.List (full_access ∷ []))) { owner = Some administrators })
-unfolding read with_dacl everyone full_access administrators
-whole_line = refl
-
--- no ACE at all
-empty_dacl : means (codes "D:") None ≡ Ok (with_dacl 0x8004 (acl.List []))
-unfolding read with_dacl
-empty_dacl = refl
-
--- the flags of either ACL: PD, DC and DI, and PS, SC and SI
-dacl_flags : means (codes "D:PARAI") None ≡ Ok (with_dacl 0x9504 (acl.List []))
-unfolding read with_dacl
-dacl_flags = refl
-
-sacl_flags : means (codes "S:arpai") None ≡ Ok (record bare { control = 0xaa10; sacl = acl.List [] })
-unfolding read bare
-sacl_flags = refl
-
 system : SecurityId
 system = record { authority = 5; subs = 18 ∷ [] }
 
 audit : AccessControlEntry
 audit = record { kind = kinds.Audit; flags = 0xc0; mask = 0x10000000; object = None; inherited = None; sid = system }
-
--- all four parts, in an order that none prints
-four_parts : means (codes "S:AR(AU;SAFA;GA;;;SY)(A;;FA;;;WD)G:SYD:PNO_ACCESS_CONTROLO:BA") None
-    ≡ Ok (record {
-      control = 0x9214;
-      rm = 0;
-      owner = Some administrators;
-      group = Some system;
-      sacl = acl.List (audit ∷ full_access ∷ []);
-      dacl = acl.Null;
-    })
-unfolding read everyone full_access administrators system audit
-four_parts = refl
 
 -- an object ACE, of what its GUID reads as
 object_type : List ℕ
@@ -137,233 +100,115 @@ a_domain = record { authority = 5; subs = 21 ∷ 1 ∷ 2 ∷ 3 ∷ [] }
 its_administrators : SecurityId
 its_administrators = record { authority = 5; subs = 21 ∷ 1 ∷ 2 ∷ 3 ∷ 512 ∷ [] }
 
-hex_authority : means (codes "O:S-1-0x000000000005-32-544") None ≡ Ok (one_sid administrators)
-unfolding read one_sid administrators
-hex_authority = refl
-
-large_authority : means (codes "O:S-1-0x000100000000") None
-    ≡ Ok (one_sid (record { authority = 0x100000000; subs = [] }))
-unfolding read one_sid
-large_authority = refl
-
-in_domain : means (codes "O:DA") (Some a_domain) ≡ Ok (one_sid its_administrators)
-unfolding read one_sid a_domain its_administrators
-in_domain = refl
-
 -- access masks
 one_mask : ℕ → Result Descriptor SddlFault
 one_mask mask = Ok (with_dacl 0x8004 (acl.List (record full_access { mask = mask } ∷ [])))
-
-no_mask : means (codes "D:(A;;;;;WD)") None ≡ one_mask 0
-unfolding read one_mask with_dacl full_access everyone
-no_mask = refl
-
-octal : means (codes "D:(A;;017;;;WD)") None ≡ one_mask 15
-unfolding read one_mask with_dacl full_access everyone
-octal = refl
-
-decimal : means (codes "D:(A;;15;;;WD)") None ≡ one_mask 15
-unfolding read one_mask with_dacl full_access everyone
-decimal = refl
-
-hex : means (codes "D:(A;;0xf;;;WD)") None ≡ one_mask 15
-unfolding read one_mask with_dacl full_access everyone
-hex = refl
-
-no_octal : means (codes "D:(A;;08;;;WD)") None ≡ Err fault.Rights
-unfolding read
-no_octal = refl
 
 -- a field has at most 183 bytes
 zeros : ℕ → List ℕ
 zeros zero = []
 zeros (suc n) = 48 ∷ zeros n
 
-long_field : means (codes "D:(A;;0x" ++ zeros 181 ++ codes ";;;WD)") None ≡ one_mask 0
-unfolding read one_mask with_dacl full_access everyone zeros
-long_field = refl
-
-longer_field : means (codes "D:(A;;0x" ++ zeros 182 ++ codes ";;;WD)") None ≡ Err fault.Rights
-unfolding read zeros
-longer_field = refl
-
--- the first fault
-five_fields : means (codes "D:(A;;FA;;WD)") None ≡ Err fault.Shape
-unfolding read
-five_fields = refl
-
-shape_first : means (codes "O:ZZD:(A;;FA;;WD)") None ≡ Err fault.Shape
-unfolding read
-shape_first = refl
-
-twice_next : means (codes "O:BAO:ZZ") None ≡ Err fault.PartTwice
-unfolding read
-twice_next = refl
-
-no_form : means (codes "O:BAD") None ≡ Err (fault.Sid sid_fault.SidForm)
-unfolding read
-no_form = refl
-
-no_owner : means (codes "O:") None ≡ Err (fault.Sid sid_fault.SidForm)
-unfolding read
-no_owner = refl
-
-no_domain : means (codes "O:DA") None ≡ Err (fault.Sid sid_fault.NeedsDomain)
-unfolding read
-no_domain = refl
-
-no_alias : means (codes "O:ZZ") None ≡ Err (fault.Sid sid_fault.Alias)
-unfolding read
-no_alias = refl
-
-large_number : means (codes "O:S-1-4294967296") None ≡ Err (fault.Sid sid_fault.Number)
-unfolding read
-large_number = refl
-
-half_flag : means (codes "D:PA") None ≡ Err fault.Flags
-unfolding read
-half_flag = refl
-
-null_with_ace : means (codes "D:NO_ACCESS_CONTROL(A;;FA;;;WD)") None ≡ Err fault.Flags
-unfolding read
-null_with_ace = refl
-
-no_flag : means (codes "D:(A;XX;FA;;;WD)") None ≡ Err fault.Flags
-unfolding read
-no_flag = refl
-
-no_right : means (codes "D:(A;;GA1;;;WD)") None ≡ Err fault.Rights
-unfolding read
-no_right = refl
-
-no_guid : means (codes "D:(A;;FA;x;;WD)") None ≡ Err fault.Guid
-unfolding read
-no_guid = refl
-
-no_kind : means (codes "D:(XA;;FA;;;WD)") None ≡ Err fault.Kind
-unfolding read
-no_kind = refl
-
-blank_field : means (codes "D:(A; ;FA;;;WD)") None ≡ Err fault.Flags
-unfolding read
-blank_field = refl
+null_dacl_and_more : record {
+  null_dacl : means (codes "D:NO_ACCESS_CONTROL") None ≡ Ok (with_dacl 0x8004 acl.Null);
+  -- blanks, and letters in either case
+  whole_line : means (codes " o:ba  d:pai (a;;fa;;;wd) ") None
+      ≡ Ok (record (with_dacl 0x9404 (acl.List (full_access ∷ []))) { owner = Some administrators });
+  -- no ACE at all
+  empty_dacl : means (codes "D:") None ≡ Ok (with_dacl 0x8004 (acl.List []));
+  -- the flags of either ACL: PD, DC and DI, and PS, SC and SI
+  dacl_flags : means (codes "D:PARAI") None ≡ Ok (with_dacl 0x9504 (acl.List []));
+  sacl_flags : means (codes "S:arpai") None ≡ Ok (record bare { control = 0xaa10; sacl = acl.List [] });
+  -- all four parts, in an order that none prints
+  four_parts : means (codes "S:AR(AU;SAFA;GA;;;SY)(A;;FA;;;WD)G:SYD:PNO_ACCESS_CONTROLO:BA") None
+      ≡ Ok (record {
+        control = 0x9214;
+        rm = 0;
+        owner = Some administrators;
+        group = Some system;
+        sacl = acl.List (audit ∷ full_access ∷ []);
+        dacl = acl.Null;
+      });
+  hex_authority : means (codes "O:S-1-0x000000000005-32-544") None ≡ Ok (one_sid administrators);
+  large_authority : means (codes "O:S-1-0x000100000000") None
+      ≡ Ok (one_sid (record { authority = 0x100000000; subs = [] }));
+  in_domain : means (codes "O:DA") (Some a_domain) ≡ Ok (one_sid its_administrators);
+  no_mask : means (codes "D:(A;;;;;WD)") None ≡ one_mask 0;
+  octal : means (codes "D:(A;;017;;;WD)") None ≡ one_mask 15;
+  decimal : means (codes "D:(A;;15;;;WD)") None ≡ one_mask 15;
+  hex : means (codes "D:(A;;0xf;;;WD)") None ≡ one_mask 15;
+  no_octal : means (codes "D:(A;;08;;;WD)") None ≡ Err fault.Rights;
+  long_field : means (codes "D:(A;;0x" ++ zeros 181 ++ codes ";;;WD)") None ≡ one_mask 0;
+  longer_field : means (codes "D:(A;;0x" ++ zeros 182 ++ codes ";;;WD)") None ≡ Err fault.Rights;
+  -- the first fault
+  five_fields : means (codes "D:(A;;FA;;WD)") None ≡ Err fault.Shape;
+  shape_first : means (codes "O:ZZD:(A;;FA;;WD)") None ≡ Err fault.Shape;
+  twice_next : means (codes "O:BAO:ZZ") None ≡ Err fault.PartTwice;
+  no_form : means (codes "O:BAD") None ≡ Err (fault.Sid sid_fault.SidForm);
+  no_owner : means (codes "O:") None ≡ Err (fault.Sid sid_fault.SidForm);
+  no_domain : means (codes "O:DA") None ≡ Err (fault.Sid sid_fault.NeedsDomain);
+  no_alias : means (codes "O:ZZ") None ≡ Err (fault.Sid sid_fault.Alias);
+  large_number : means (codes "O:S-1-4294967296") None ≡ Err (fault.Sid sid_fault.Number);
+  half_flag : means (codes "D:PA") None ≡ Err fault.Flags;
+  null_with_ace : means (codes "D:NO_ACCESS_CONTROL(A;;FA;;;WD)") None ≡ Err fault.Flags;
+  no_flag : means (codes "D:(A;XX;FA;;;WD)") None ≡ Err fault.Flags;
+  no_right : means (codes "D:(A;;GA1;;;WD)") None ≡ Err fault.Rights;
+  no_guid : means (codes "D:(A;;FA;x;;WD)") None ≡ Err fault.Guid;
+  no_kind : means (codes "D:(XA;;FA;;;WD)") None ≡ Err fault.Kind;
+  blank_field : means (codes "D:(A; ;FA;;;WD)") None ≡ Err fault.Flags;
+}
+unfolding read with_dacl everyone full_access administrators bare system audit one_sid a_domain its_administrators
+    one_mask zeros
+null_dacl_and_more = search rules
 
 -- Shape: parentheses, heads and fields, at each place one thing wrong.
 
 without_a_domain : List ℕ → Result Descriptor SddlFault
 without_a_domain text = means text None
 
-parentheses : map without_a_domain
-    (codes "(" ∷ codes ")" ∷ codes "D:(A;;FA;;;WD" ∷ codes "D:A;;FA;;;WD)" ∷ codes "D:((A;;FA;;;WD))" ∷ codes "O:(BA)"
-    ∷ codes "O:BA(A;;FA;;;WD)" ∷ codes "(A;;FA;;;WD)" ∷ codes "D:()" ∷ [])
-    ≡ replicate 9 (Err fault.Shape)
-unfolding read without_a_domain
-parentheses = refl
-
-heads : map without_a_domain
-    (codes "x" ∷ codes "xO:BA" ∷ codes "X:BA" ∷ codes ":" ∷ codes "O:B:A" ∷ codes "O :BA" ∷ codes "D:P:(A;;FA;;;WD)"
-    ∷ codes "D:(A;;FA;;;WD):" ∷ codes "G:SY:" ∷ codes "O;BA" ∷ codes "D(A;;FA;;;WD)" ∷ [])
-    ≡ replicate 11 (Err fault.Shape)
-unfolding read without_a_domain
-heads = refl
-
-behind_aces : map without_a_domain
-    (codes "D:(A;;FA;;;WD)P" ∷ codes "D:(A;;FA;;;WD) x (A;;FA;;;WD)" ∷ codes "D:(A;;FA;;;WD)(A;;FA;;WD)"
-    ∷ codes "S:(A;;FA;;;WD;)" ∷ codes "D:(A;;FA;;;WD)xS:" ∷ [])
-    ≡ replicate 5 (Err fault.Shape)
-unfolding read without_a_domain
-behind_aces = refl
-
-no_six_fields : ace_reads None (codes "A" ∷ [] ∷ codes "FA" ∷ [] ∷ codes "WD" ∷ []) ≡ Err fault.Shape
-unfolding read
-no_six_fields = refl
-
--- a colon inside parentheses makes no head
-colon_inside : means (codes "D:(A;;FA;;;O:BA)") None ≡ Err (fault.Sid sid_fault.SidForm)
-unfolding read
-colon_inside = refl
-
--- four heads in lower case, and blanks wherever they may stand
-lower_case : means (codes "o:bag:syd:s:") None
-    ≡ Ok (record {
-      control = 0x8014;
-      rm = 0;
-      owner = Some administrators;
-      group = Some system;
-      sacl = acl.List [];
-      dacl = acl.List [];
-    })
-unfolding read administrators system
-lower_case = refl
-
-blanks : means (codes "\t D: P \t(A;;FA;;;WD) \t(A;;FA;;;WD)\t O:\tBA \t") None
-    ≡ Ok (record (with_dacl 0x9004 (acl.List (full_access ∷ full_access ∷ []))) { owner = Some administrators })
-unfolding read with_dacl full_access everyone administrators
-blanks = refl
-
--- no blank stands between the letters of a name, and no line feed counts as one
-no_blanks : map without_a_domain (codes "O:B A" ∷ codes "O:BA\n" ∷ codes "O:\rBA" ∷ [])
-    ≡ replicate 3 (Err (fault.Sid sid_fault.SidForm))
-unfolding read without_a_domain
-no_blanks = refl
-
--- each part twice, in either case, and two parts that differ
-twice : map without_a_domain
-    (codes "O:BAo:BA" ∷ codes "G:SYO:BAG:SY" ∷ codes "D:d:" ∷ codes "S:O:BAS:" ∷ codes "O:BAG:SYG:SY" ∷ [])
-    ≡ replicate 5 (Err fault.PartTwice)
-unfolding read without_a_domain
-twice = refl
+parentheses_and_more : record {
+  parentheses : map without_a_domain
+      (codes "(" ∷ codes ")" ∷ codes "D:(A;;FA;;;WD" ∷ codes "D:A;;FA;;;WD)" ∷ codes "D:((A;;FA;;;WD))" ∷ codes "O:(BA)"
+      ∷ codes "O:BA(A;;FA;;;WD)" ∷ codes "(A;;FA;;;WD)" ∷ codes "D:()" ∷ [])
+      ≡ replicate 9 (Err fault.Shape);
+  heads : map without_a_domain
+      (codes "x" ∷ codes "xO:BA" ∷ codes "X:BA" ∷ codes ":" ∷ codes "O:B:A" ∷ codes "O :BA" ∷ codes "D:P:(A;;FA;;;WD)"
+      ∷ codes "D:(A;;FA;;;WD):" ∷ codes "G:SY:" ∷ codes "O;BA" ∷ codes "D(A;;FA;;;WD)" ∷ [])
+      ≡ replicate 11 (Err fault.Shape);
+  behind_aces : map without_a_domain
+      (codes "D:(A;;FA;;;WD)P" ∷ codes "D:(A;;FA;;;WD) x (A;;FA;;;WD)" ∷ codes "D:(A;;FA;;;WD)(A;;FA;;WD)"
+      ∷ codes "S:(A;;FA;;;WD;)" ∷ codes "D:(A;;FA;;;WD)xS:" ∷ [])
+      ≡ replicate 5 (Err fault.Shape);
+  no_six_fields : ace_reads None (codes "A" ∷ [] ∷ codes "FA" ∷ [] ∷ codes "WD" ∷ []) ≡ Err fault.Shape;
+  -- a colon inside parentheses makes no head
+  colon_inside : means (codes "D:(A;;FA;;;O:BA)") None ≡ Err (fault.Sid sid_fault.SidForm);
+  -- four heads in lower case, and blanks wherever they may stand
+  lower_case : means (codes "o:bag:syd:s:") None
+      ≡ Ok (record {
+        control = 0x8014;
+        rm = 0;
+        owner = Some administrators;
+        group = Some system;
+        sacl = acl.List [];
+        dacl = acl.List [];
+      });
+  blanks : means (codes "\t D: P \t(A;;FA;;;WD) \t(A;;FA;;;WD)\t O:\tBA \t") None
+      ≡ Ok (record (with_dacl 0x9004 (acl.List (full_access ∷ full_access ∷ []))) { owner = Some administrators });
+  -- no blank stands between the letters of a name, and no line feed counts as one
+  no_blanks : map without_a_domain (codes "O:B A" ∷ codes "O:BA\n" ∷ codes "O:\rBA" ∷ [])
+      ≡ replicate 3 (Err (fault.Sid sid_fault.SidForm));
+  -- each part twice, in either case, and two parts that differ
+  twice : map without_a_domain
+      (codes "O:BAo:BA" ∷ codes "G:SYO:BAG:SY" ∷ codes "D:d:" ∷ codes "S:O:BAS:" ∷ codes "O:BAG:SYG:SY" ∷ [])
+      ≡ replicate 5 (Err fault.PartTwice);
+}
+unfolding read without_a_domain administrators system with_dacl full_access everyone
+parentheses_and_more = search rules
 
 -- the flags of an ACL have at most 183 bytes, too
 
 letters_p : ℕ → List ℕ
 letters_p n = codes "D:" ++ replicate n 80
-
-long_flags : means (letters_p 183) None ≡ Ok (with_dacl 0x9004 (acl.List []))
-unfolding read letters_p with_dacl
-long_flags = refl
-
-longer_flags : means (letters_p 184) None ≡ Err fault.Flags
-unfolding read letters_p
-longer_flags = refl
-
--- shape before a part that stands twice
-shape_before_twice : means (codes "O:BAO:BA(") None ≡ Err fault.Shape
-unfolding read
-shape_before_twice = refl
-
--- the fields from the left, of an ACE and of the line
-kind_first : means (codes "D:(XA;XX;GA1;x;;ZZ)") None ≡ Err fault.Kind
-unfolding read
-kind_first = refl
-
-flags_next : means (codes "D:(A;XX;GA1;x;;ZZ)") None ≡ Err fault.Flags
-unfolding read
-flags_next = refl
-
-rights_next : means (codes "D:(A;;GA1;x;;ZZ)") None ≡ Err fault.Rights
-unfolding read
-rights_next = refl
-
-object_next : means (codes "D:(A;;FA;x;;ZZ)") None ≡ Err fault.Guid
-unfolding read
-object_next = refl
-
-inherited_next : means (codes "D:(OA;;FA;;x;ZZ)") None ≡ Err fault.Guid
-unfolding read
-inherited_next = refl
-
-sid_last : means (codes "D:(A;;FA;;;ZZ)") None ≡ Err (fault.Sid sid_fault.Alias)
-unfolding read
-sid_last = refl
-
-owner_first : means (codes "O:ZZD:(XA;;FA;;;WD)") None ≡ Err (fault.Sid sid_fault.Alias)
-unfolding read
-owner_first = refl
-
-dacl_first : means (codes "D:(XA;;FA;;;WD)O:ZZ") None ≡ Err fault.Kind
-unfolding read
-dacl_first = refl
 
 -- An ACE for one trustee takes 20 bytes: 3,276 of them and the ACL's header take 65,528.
 many : ℕ → List AccessControlEntry
@@ -373,19 +218,28 @@ many (suc n) = full_access ∷ many n
 acl_with : Which → ℕ → Said
 acl_with w count = acl_said w no_flags (acl.List (many count))
 
-full : first_large (acl_with which.Dacl 3276 ∷ []) ≡ None
-unfolding acl_with many full_access everyone
-full = refl
-
-large_dacl : first_large (acl_with which.Dacl 3277 ∷ acl_with which.Sacl 3277 ∷ []) ≡ Some which.Dacl
-unfolding acl_with many full_access everyone
-large_dacl = refl
-
-large_sacl : first_large (acl_with which.Dacl 3276 ∷ acl_with which.Sacl 3277 ∷ []) ≡ Some which.Sacl
-unfolding acl_with many full_access everyone
-large_sacl = refl
-
 -- a field that does not read comes before an ACL that is too large
 field_before_large : (domain : Option SecurityId) (ss : List Section) (e : SddlFault)
     → each (section_reads domain) ss ≡ Err e → sections_mean domain ss ≡ Err e
 field_before_large domain ss e h = rw h refl
+
+long_flags_and_more : record {
+  long_flags : means (letters_p 183) None ≡ Ok (with_dacl 0x9004 (acl.List []));
+  longer_flags : means (letters_p 184) None ≡ Err fault.Flags;
+  -- shape before a part that stands twice
+  shape_before_twice : means (codes "O:BAO:BA(") None ≡ Err fault.Shape;
+  -- the fields from the left, of an ACE and of the line
+  kind_first : means (codes "D:(XA;XX;GA1;x;;ZZ)") None ≡ Err fault.Kind;
+  flags_next : means (codes "D:(A;XX;GA1;x;;ZZ)") None ≡ Err fault.Flags;
+  rights_next : means (codes "D:(A;;GA1;x;;ZZ)") None ≡ Err fault.Rights;
+  object_next : means (codes "D:(A;;FA;x;;ZZ)") None ≡ Err fault.Guid;
+  inherited_next : means (codes "D:(OA;;FA;;x;ZZ)") None ≡ Err fault.Guid;
+  sid_last : means (codes "D:(A;;FA;;;ZZ)") None ≡ Err (fault.Sid sid_fault.Alias);
+  owner_first : means (codes "O:ZZD:(XA;;FA;;;WD)") None ≡ Err (fault.Sid sid_fault.Alias);
+  dacl_first : means (codes "D:(XA;;FA;;;WD)O:ZZ") None ≡ Err fault.Kind;
+  full : first_large (acl_with which.Dacl 3276 ∷ []) ≡ None;
+  large_dacl : first_large (acl_with which.Dacl 3277 ∷ acl_with which.Sacl 3277 ∷ []) ≡ Some which.Dacl;
+  large_sacl : first_large (acl_with which.Dacl 3276 ∷ acl_with which.Sacl 3277 ∷ []) ≡ Some which.Sacl;
+}
+unfolding read letters_p with_dacl acl_with many full_access everyone
+long_flags_and_more = search rules

@@ -5,4 +5,5 @@ pub mod FoldedMeaning
 pub mod FoldedSections
 pub mod Heads
 pub mod MeaningLimits
+pub mod SeenLaws
 pub mod WholeTexts

@@ -6,8 +6,9 @@ use Rattle.std.specs.List.{list_all}
 use Rattle.std.specs.Str.{byte as char}
 use Rattle.sd_text.specs.Cuts.{Cuts, all_cuts, cut_at}
 use Rattle.sd_parts.specs.declared.part.Which.TheVariants as which
-use Rattle.sd_parts.specs.Parts.{part_of, same_part, sid_part_of}
+use Rattle.sd_parts.specs.Parts.{get_part, part_of, same_part, sid_part_of}
 use Rattle.sd_parts.specs.declared.part.Part.{Part}
+use Rattle.sd_parts.specs.declared.part.Parts.{Parts}
 use Rattle.sd_sddl_fields.specs.FieldTexts.{is_blank}
 use Rattle.sd_parts.specs.declared.part.SidPart.TheVariants as sid_part
 use Rattle.sd_sddl_builder.specs.declared.slot.Head.{Head}
@@ -188,3 +189,8 @@ has_head h (s ∷ ss) = same_head h s.head || has_head h ss
 abbrev pub has_twice : List Section → Bool
 has_twice [] = false
 has_twice (s ∷ ss) = has_head s.head ss || has_twice ss
+
+-- whether one of these sections has a letter that was there before them
+abbrev pub has_seen : Parts Bool → List Section → Bool
+has_seen seen [] = false
+has_seen seen (s ∷ ss) = get_part (part_of_head s.head) seen || has_seen seen ss

@@ -22,10 +22,9 @@ use Rattle.sd_parts.specs.declared.part.Which.{Which}
 use Rattle.sd_parts.specs.declared.part.Which.TheVariants as which
 use Rattle.sd_parts.specs.declared.control.AclFlags.{AclFlags}
 use Rattle.sd_parts.specs.declared.control.TheConstants.{DACL_PRESENT, SACL_PRESENT, SELF_RELATIVE}
-use Rattle.sd_sddl_fields.specs.FieldTexts.{front_reads, kind_reads, object_reads}
+use Rattle.sd_sddl_fields.specs.FieldTexts.{front_reads, kind_reads, object_reads, is_blank}
 use Rattle.sd_sddl_builder.specs.Line.{Piece, Section, ace_cuts, aces, front, has_aces, has_twice, is_shaped}
 use Rattle.sd_sddl_builder.specs.Line.{sections_of, same_head, trim}
-use Rattle.sd_sddl_fields.specs.FieldTexts.{is_blank}
 use Rattle.sd_sddl_builder.specs.declared.fault.SddlFault.{SddlFault}
 use Rattle.sd_sddl_builder.specs.declared.fault.SddlFault.TheVariants as fault
 use Rattle.sd_sddl_builder.specs.declared.slot.Head.{Head}

@@ -1,5 +1,6 @@
 -- Worked texts of fields (MS-DTYP 2.5.1.1), computed, and what a reader keeps of one.
 use Rattle.std.proofs.Common.{◌≡◌, ℕ, Bool, true, false, List, [], ◌∷◌, map, Some, None, codes, refl, replicate, arith}
+use Rattle.std.proofs.Common.{rules}
 use Rattle.sd_kinds.specs.Kinds.{kind_named}
 use Rattle.sd_kinds.specs.declared.kinds.AceKind.TheVariants as kinds
 use Rattle.sd_sddl_fields.specs.FieldFronts.{IsWhole, ObjectsAt}
@@ -13,53 +14,42 @@ computed : Unit {0}
 unfolding front_reads kind_named kind_reads object_reads
 computed = tt
 
--- a blank is a space or a tab
-blanks : map is_blank (9 ∷ 32 ∷ 10 ∷ 13 ∷ 31 ∷ 33 ∷ []) ≡ true ∷ true ∷ false ∷ false ∷ false ∷ false ∷ []
-blanks = refl
-
 -- P, AR and AI, and whether the ACL is null
 front : Bool → Bool → Bool → Bool → AclFront
 front p ar ai null =
     record { flags = record { protected = p; auto_inherit_required = ar; auto_inherited = ai }; null = null }
 
-fronts : map front_reads
-    ([] ∷ codes "P" ∷ codes "ar" ∷ codes "Ai" ∷ codes "PARAI" ∷ codes "aiPpAR" ∷ codes "NO_ACCESS_CONTROL"
-    ∷ codes "arno_access_control" ∷ codes "PNo_Access_Control" ∷ [])
-    ≡ Some (front false false false false) ∷ Some (front true false false false)
-    ∷ Some (front false true false false) ∷ Some (front false false true false)
-    ∷ Some (front true true true false) ∷ Some (front true true true false)
-    ∷ Some (front false false false true) ∷ Some (front false true false true)
-    ∷ Some (front true false false true) ∷ []
+blanks_and_more : record {
+  -- a blank is a space or a tab
+  blanks : map is_blank (9 ∷ 32 ∷ 10 ∷ 13 ∷ 31 ∷ 33 ∷ []) ≡ true ∷ true ∷ false ∷ false ∷ false ∷ false ∷ [];
+  fronts : map front_reads
+      ([] ∷ codes "P" ∷ codes "ar" ∷ codes "Ai" ∷ codes "PARAI" ∷ codes "aiPpAR" ∷ codes "NO_ACCESS_CONTROL"
+      ∷ codes "arno_access_control" ∷ codes "PNo_Access_Control" ∷ [])
+      ≡ Some (front false false false false) ∷ Some (front true false false false)
+      ∷ Some (front false true false false) ∷ Some (front false false true false)
+      ∷ Some (front true true true false) ∷ Some (front true true true false)
+      ∷ Some (front false false false true) ∷ Some (front false true false true)
+      ∷ Some (front true false false true) ∷ [];
+  -- a half of a name, other letters, a blank, and what follows or misses a letter of NO_ACCESS_CONTROL
+  no_fronts : map front_reads
+      (codes "A" ∷ codes "R" ∷ codes "Q" ∷ codes "AS" ∷ codes "AJ" ∷ codes "BR" ∷ codes "P AI"
+      ∷ codes "NO_ACCESS_CONTROLP" ∷ codes "NO_ACCESS_CONTRO" ∷ codes "O_ACCESS_CONTROL" ∷ codes "NO_ACCESS_CONTROM"
+      ∷ [])
+      ≡ None ∷ None ∷ None ∷ None ∷ None ∷ None ∷ None ∷ None ∷ None ∷ None ∷ None ∷ [];
+  kinds_read : map kind_reads (codes "oa" ∷ codes "ML" ∷ codes "OAA" ∷ [])
+      ≡ Some kinds.ObjectAllow ∷ Some kinds.Label ∷ None ∷ [];
+  -- no GUID in any kind, and none but in an object kind
+  no_objects : object_reads kinds.ObjectAllow [] ∷ object_reads kinds.Allow []
+      ∷ object_reads kinds.Allow (codes "bf967aba-0de6-11d0-a285-00aa003049e2") ∷ []
+      ≡ Some None ∷ Some None ∷ None ∷ [];
+  -- what is no plain byte inside parentheses, and outside
+  inside : map is_plain_inside (codes "();: \tA*<'")
+      ≡ false ∷ false ∷ false ∷ true ∷ false ∷ false ∷ true ∷ true ∷ true ∷ true ∷ [];
+  outside : map is_plain_text (codes "();: \tA*<'")
+      ≡ false ∷ false ∷ false ∷ false ∷ false ∷ false ∷ true ∷ true ∷ true ∷ true ∷ [];
+}
 unfolding computed front
-fronts = refl
-
--- a half of a name, other letters, a blank, and what follows or misses a letter of NO_ACCESS_CONTROL
-no_fronts : map front_reads
-    (codes "A" ∷ codes "R" ∷ codes "Q" ∷ codes "AS" ∷ codes "AJ" ∷ codes "BR" ∷ codes "P AI"
-    ∷ codes "NO_ACCESS_CONTROLP" ∷ codes "NO_ACCESS_CONTRO" ∷ codes "O_ACCESS_CONTROL" ∷ codes "NO_ACCESS_CONTROM" ∷ [])
-    ≡ None ∷ None ∷ None ∷ None ∷ None ∷ None ∷ None ∷ None ∷ None ∷ None ∷ None ∷ []
-unfolding computed
-no_fronts = refl
-
-kinds_read : map kind_reads (codes "oa" ∷ codes "ML" ∷ codes "OAA" ∷ [])
-    ≡ Some kinds.ObjectAllow ∷ Some kinds.Label ∷ None ∷ []
-unfolding computed
-kinds_read = refl
-
--- no GUID in any kind, and none but in an object kind
-no_objects : object_reads kinds.ObjectAllow [] ∷ object_reads kinds.Allow []
-    ∷ object_reads kinds.Allow (codes "bf967aba-0de6-11d0-a285-00aa003049e2") ∷ [] ≡ Some None ∷ Some None ∷ None ∷ []
-unfolding computed
-no_objects = refl
-
--- what is no plain byte inside parentheses, and outside
-inside : map is_plain_inside (codes "();: \tA*<'")
-    ≡ false ∷ false ∷ false ∷ true ∷ false ∷ false ∷ true ∷ true ∷ true ∷ true ∷ []
-inside = refl
-
-outside : map is_plain_text (codes "();: \tA*<'")
-    ≡ false ∷ false ∷ false ∷ false ∷ false ∷ false ∷ true ∷ true ∷ true ∷ true ∷ []
-outside = refl
+blanks_and_more = search rules
 
 -- blanks at the ends do not count outside parentheses, and no text with one between reads; inside none does
 
@@ -67,33 +57,19 @@ fed : (Held → ℕ → Held) → Held → List ℕ → Held
 fed with h [] = h
 fed with h (b ∷ bs) = fed with (with h b) bs
 
-outer : fed outer_with no_text (codes " \tBA \t") ≡ record { text = codes "BA"; gap = true; broken = false }
+outer_and_more : record {
+  outer : fed outer_with no_text (codes " \tBA \t") ≡ record { text = codes "BA"; gap = true; broken = false };
+  outer_gap : map (λ text. held_text (fed outer_with no_text text))
+      (codes " B" ∷ codes "B A" ∷ codes "B A C" ∷ codes "B " ∷ [] ∷ [])
+      ≡ codes "B" ∷ codes " " ∷ codes " " ∷ codes "B" ∷ [] ∷ [];
+  within : map (λ text. held_text (fed within_with no_text text))
+      (codes "BA" ∷ codes " BA" ∷ codes "BA " ∷ codes "B\tA" ∷ [] ∷ [])
+      ≡ codes "BA" ∷ codes " " ∷ codes " " ∷ codes " " ∷ [] ∷ [];
+}
 unfolding fed
-outer = refl
-
-outer_gap : map (λ text. held_text (fed outer_with no_text text))
-    (codes " B" ∷ codes "B A" ∷ codes "B A C" ∷ codes "B " ∷ [] ∷ [])
-    ≡ codes "B" ∷ codes " " ∷ codes " " ∷ codes "B" ∷ [] ∷ []
-unfolding fed
-outer_gap = refl
-
-within : map (λ text. held_text (fed within_with no_text text))
-    (codes "BA" ∷ codes " BA" ∷ codes "BA " ∷ codes "B\tA" ∷ [] ∷ [])
-    ≡ codes "BA" ∷ codes " " ∷ codes " " ∷ codes " " ∷ [] ∷ []
-unfolding fed
-within = refl
+outer_and_more = search rules
 
 -- a field has at most 183 bytes
-
-longest : held_run no_text (replicate 183 65) ≡ record { text = replicate 183 65; gap = false; broken = false }
-longest = refl
-
-longer : held_run no_text (replicate 184 65) ≡ record { text = []; gap = false; broken = true }
-longer = refl
-
-broken_stays : fed outer_with broken_text (codes "A B") ≡ record { text = []; gap = false; broken = true }
-unfolding fed
-broken_stays = refl
 
 whole : IsWhole (replicate 183 65)
 whole = record { plain = refl; fits = omega arith }
@@ -125,3 +101,11 @@ no_types = record {
   first = record { field = []; whole = record { plain = refl; fits = omega arith }; stands = refl; reads = refl };
   second = record { field = []; whole = record { plain = refl; fits = omega arith }; stands = refl; reads = refl };
 }
+
+longest_and_more : record {
+  longest : held_run no_text (replicate 183 65) ≡ record { text = replicate 183 65; gap = false; broken = false };
+  longer : held_run no_text (replicate 184 65) ≡ record { text = []; gap = false; broken = true };
+  broken_stays : fed outer_with broken_text (codes "A B") ≡ record { text = []; gap = false; broken = true };
+}
+unfolding fed
+longest_and_more = search rules

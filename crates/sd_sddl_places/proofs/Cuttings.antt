@@ -1,5 +1,5 @@
 -- Where a text is cut: at a head, a parenthesis, a semicolon.
-use Rattle.std.proofs.Common.{◌≡◌, ◌≤◌, ℕ, suc, ◌+◌, Bool, true, false, ◌&&◌, List, [], ◌∷◌, length, take}
+use Rattle.std.proofs.Common.{◌≡◌, ℕ, suc, ◌+◌, Bool, true, false, ◌&&◌, List, [], ◌∷◌, length, take}
 use Rattle.std.proofs.Common.{drop, inl, inr, refl, ap, sym, ◌∙◌, arith}
 use Rattle.std.specs.Prelude.{◌==◌, if◌then◌else◌, not, Option, Some, None, is_some}
 use Rattle.std.proofs.Math.Bool.{and_assoc, and-true}
@@ -12,8 +12,7 @@ use Rattle.sd_sddl_builder.specs.declared.slot.Head.{Head}
 use Rattle.sd_sddl_builder.proofs.laws.Heads.{head-paired, headed}
 use Rattle.sd_sddl_places.specs.Fields.{PlacedAce, aces_from, pieces_size}
 use Rattle.sd_sddl_places.specs.Inner.Cutting.{ace_at, before_byte, before_head, first_ace, front_head, head_in}
-use Rattle.sd_sddl_places.specs.Inner.Cutting.{parts_at}
-use Rattle.sd_sddl_places.specs.Inner.Cutting.{starts_with_colon}
+use Rattle.sd_sddl_places.specs.Inner.Cutting.{parts_at, starts_with_colon}
 
 -- 1. Heads.
 
@@ -169,14 +168,6 @@ held-cut (b ∷ bs) = elim (eqb_tells b 41)
 after-cut : (t : List ℕ) → (pieces_from true t).after ≡ (pieces_from false (drop (suc (before_byte 41 t)) t)).after
 after-cut [] = refl
 after-cut (b ∷ bs) = elim (eqb_tells b 41) [ inl h ↦ rw (h.1) refl | inr h ↦ rw (h.0) (after-cut bs) ]
-
-pub within : (m : ℕ) (t : List ℕ) → before_byte m t ≤ length t
-within m [] = omega arith
-within m (b ∷ bs) = by_test (within m bs) (b == m)
-  where
-    by_test : before_byte m bs ≤ length bs → (x : Bool) → (if x then 0 else suc (before_byte m bs)) ≤ suc (length bs)
-    by_test more true = omega arith
-    by_test more false = omega (arith, more)
 
 pub length-cut : (m : ℕ) (t : List ℕ) → length (take (before_byte m t) t) ≡ before_byte m t
 length-cut m [] = refl

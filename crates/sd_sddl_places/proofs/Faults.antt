@@ -1,12 +1,9 @@
 -- The place's fault is the fault of the text.
-use Rattle.std.proofs.Common.{◌≡◌, ◌≤◌, ℕ, suc, ◌+◌, Bool, true, false, ◌||◌, ◌&&◌, List, [], ◌∷◌, ◌++◌, length}
-use Rattle.std.proofs.Common.{refl, ap, sym}
-use Rattle.std.proofs.Common.{◌∙◌, arith}
+use Rattle.std.proofs.Common.{◌≡◌, ◌≤◌, ℕ, suc, ◌+◌, Bool, true, false, ◌||◌, ◌&&◌, List, [], ◌∷◌, ◌++◌, length, refl}
+use Rattle.std.proofs.Common.{ap, sym, ◌∙◌, arith}
 use Rattle.std.specs.Prelude.{◌==◌, if◌then◌else◌, nat_lt, not, Option, Some, None, Result, Ok, Err, is_some}
-use Rattle.std.specs.List.{AllByRecursion, list_all}
 use Rattle.std.specs.Option.{ok_or, option_map, option_or, unwrap_or}
 use Rattle.std.specs.Result.{result_err}
-use Rattle.std.proofs.Math.Bool.{or-false, or-true}
 use Rattle.std.proofs.lemmas.Bool.{and_parts}
 use Rattle.std.proofs.lemmas.Bool.Decides.{nat_tests}
 use Rattle.sd_text.specs.Chains.{and_then}
@@ -15,30 +12,29 @@ use Rattle.sd_acl_view.specs.Acl.{aces_size}
 use Rattle.sd_kinds.specs.Flags.{flags_reads}
 use Rattle.sd_kinds.specs.declared.kinds.AceKind.{AceKind}
 use Rattle.sd_kinds.specs.declared.kinds.AceKind.TheVariants as kinds
-use Rattle.sd_parts.specs.Parts.{each_part, get_part, part_of, same_part, set_part, sid_part_of}
+use Rattle.sd_parts.specs.Parts.{each_part, get_part, part_of, set_part, sid_part_of}
 use Rattle.sd_parts.specs.declared.part.Part.{Part}
-use Rattle.sd_parts.specs.declared.part.Part.TheVariants as part
 use Rattle.sd_parts.specs.declared.part.Which.{Which}
 use Rattle.sd_rights.specs.Rights.{rights_reads}
 use Rattle.sd_sid.specs.Sid.{SecurityId}
 use Rattle.sd_sid.specs.SidText.{sid_reads}
 use Rattle.sd_sid.specs.declared.sid_text.SidFault.{SidFault}
 use Rattle.sd_sid.specs.declared.sid_text.SidFault.TheVariants.{SidForm}
-use Rattle.sd_sddl_fields.specs.FieldTexts.{front_reads, is_blank, kind_reads, object_reads}
+use Rattle.sd_sddl_fields.specs.FieldTexts.{front_reads, kind_reads, object_reads}
 use Rattle.sd_sddl_fields.specs.declared.field_texts.AclFront.{AclFront}
 use Rattle.sd_view.specs.Layout.{acl_part_size}
 use Rattle.sd_view.specs.declared.acl_part.AclPart.{AclPart}
 use Rattle.sd_view.specs.declared.acl_part.AclPart.TheVariants as acl
 use Rattle.sd_sddl_builder.specs.FoldedReading.{next_field}
-use Rattle.sd_sddl_builder.specs.Line.{Piece, Section, ace, ace_cuts, aces, are_aces, are_shaped, byte}
-use Rattle.sd_sddl_builder.specs.Line.{cut_at_semicolons}
-use Rattle.sd_sddl_builder.specs.Line.{front, has_aces, has_head, has_six_fields, has_twice, is_acl_body}
-use Rattle.sd_sddl_builder.specs.Line.{is_blank_piece}
-use Rattle.sd_sddl_builder.specs.Line.{is_body, is_paired, is_shaped, part_of_head, same_head, sections_of, trim}
+use Rattle.sd_sddl_builder.specs.Line.{Piece, Section, ace, ace_cuts, aces, are_shaped, byte, cut_at_semicolons, front}
+use Rattle.sd_sddl_builder.specs.Line.{has_aces, has_head, has_twice, is_body, is_shaped, part_of_head, has_seen}
+use Rattle.sd_sddl_builder.specs.Line.{sections_of, trim}
+use Rattle.sd_sddl_builder.proofs.laws.FoldedMeaning.{line-shaped}
+use Rattle.sd_sddl_builder.proofs.laws.FoldedSections.{HaveSix, acl-six}
+use Rattle.sd_sddl_builder.proofs.laws.SeenLaws.{has-seen-with, none-seen}
 use Rattle.sd_sddl_builder.specs.Meaning.{Said, acl_part_reads, acl_said, ace_reads, body_reads, each, field_reads}
 use Rattle.sd_sddl_builder.specs.Meaning.{is_unreadable, means, section_reads, sections_mean, sid_field_reads}
-use Rattle.sd_sddl_builder.specs.Meaning.{sid_or_fault}
-use Rattle.sd_sddl_builder.specs.Meaning.{descriptor_of, sid_said, unless_large}
+use Rattle.sd_sddl_builder.specs.Meaning.{sid_or_fault, descriptor_of, sid_said, unless_large}
 use Rattle.sd_sddl_builder.specs.Meaning.{first_large as first_said}
 use Rattle.sd_sddl_builder.specs.declared.fault.SddlFault.{SddlFault}
 use Rattle.sd_sddl_builder.specs.declared.fault.SddlFault.TheVariants as fault
@@ -46,18 +42,14 @@ use Rattle.sd_sddl_builder.specs.declared.slot.AceField.{AceField}
 use Rattle.sd_sddl_builder.specs.declared.slot.AceField.TheVariants as field
 use Rattle.sd_sddl_builder.specs.declared.slot.Head.{Head}
 use Rattle.sd_sddl_builder.specs.declared.slot.Slot.TheVariants as slot
-use Rattle.sd_fault_places.specs.declared.place.Field.TheVariants as named
 use Rattle.sd_sddl_builder.specs.declared.slot.Head.TheVariants as head
 use Rattle.sd_fault_places.specs.declared.place.FaultPlace.{FaultPlace}
 use Rattle.sd_sddl_places.specs.Fields.{PlacedAce, PlacedField, ace_field, ace_field_fault, aces_from, cuts_from}
-use Rattle.sd_sddl_places.specs.Fields.{field_fault, fields_in}
-use Rattle.sd_sddl_places.specs.Fields.{fields_in_ace, fields_in_aces, fields_in_body, kind_in, parts_in}
-use Rattle.sd_sddl_places.specs.Fields.{pieces_size, placed}
-use Rattle.sd_sddl_places.specs.Fields.{front_field, place, unless_null_with_aces}
-use Rattle.sd_sddl_places.specs.Places.{IsFirstFault, Seen, first_faulty, first_large, if_faulty, large_in}
-use Rattle.sd_sddl_places.specs.Places.{object_in, passing}
-use Rattle.sd_sddl_places.specs.Places.{place_in_parts, place_of_sddl_fault, place_of_shape, read_size, second_head}
-use Rattle.sd_sddl_places.specs.Places.{size_in}
+use Rattle.sd_sddl_places.specs.Fields.{field_fault, fields_in, fields_in_ace, fields_in_aces, fields_in_body, kind_in}
+use Rattle.sd_sddl_places.specs.Fields.{parts_in, pieces_size, placed, front_field, place, unless_null_with_aces}
+use Rattle.sd_sddl_places.specs.Places.{IsFirstFault, Seen, first_faulty, first_large, if_faulty, large_in, object_in}
+use Rattle.sd_sddl_places.specs.Places.{passing, place_in_parts, place_of_sddl_fault, place_of_shape, read_size}
+use Rattle.sd_sddl_places.specs.Places.{second_head, size_in}
 
 abbrev Found : Type 0 → Type 0
 Found A = Result A SddlFault
@@ -69,34 +61,7 @@ or-fault : (x y : Option (SddlFault × FaultPlace)) → fault_at (option_or x y)
 or-fault None y = refl
 or-fault (Some r) y = refl
 
-or-none : {A : Type 0} (x : Option A) → option_or x None ≡ x
-or-none None = refl
-or-none (Some a) = refl
-
 -- 1. Two heads with one letter.
-
-set-seen : (se : Seen) (p q : Part) → get_part q (set_part p true se) ≡ (get_part q se || same_part p q)
-set-seen se part.Owner part.Owner = rw or-true refl
-set-seen se part.Group part.Group = rw or-true refl
-set-seen se part.Sacl part.Sacl = rw or-true refl
-set-seen se part.Dacl part.Dacl = rw or-true refl
-set-seen se p q = rw or-false refl
-
-abbrev has_seen : Seen → List Section → Bool
-has_seen se [] = false
-has_seen se (s ∷ ss) = get_part (part_of_head s.head) se || has_seen se ss
-
-four : (a b c d : Bool) → ((a || b) || (c || d)) ≡ ((a || c) || (b || d))
-four true b c d = refl
-four false b true d = or-true b
-four false true false d = refl
-four false false false d = refl
-
-has-seen-with : (se : Seen) (p : Head) (ss : List Section)
-    → has_seen (set_part (part_of_head p) true se) ss ≡ (has_seen se ss || has_head p ss)
-has-seen-with se p [] = refl
-has-seen-with se p (s ∷ ss) = rw (set-seen se (part_of_head p) (part_of_head s.head), has-seen-with se p ss)
-    (four (get_part (part_of_head s.head) se) (same_head p s.head) (has_seen se ss) (has_head p ss))
 
 mixed : (x y z : Bool) → ((x || y) || z) ≡ (x || (y || z))
 mixed true y z = refl
@@ -120,16 +85,6 @@ second-twice (s ∷ ss) se at =
     by_seen p more true = refl
     by_seen p more false =
         more ∙ rw (has-seen-with se s.head ss) (mixed (has_seen se ss) (has_head s.head ss) (has_twice ss))
-
-none-seen : (ss : List Section) → has_seen (each_part false) ss ≡ false
-none-seen [] = refl
-none-seen (s ∷ ss) = rw (none (part_of_head s.head), none-seen ss) refl
-  where
-    none : (p : Part) → get_part p (each_part false) ≡ false
-    none part.Owner = refl
-    none part.Group = refl
-    none part.Sacl = refl
-    none part.Dacl = refl
 
 -- 2. Fields.
 
@@ -310,9 +265,6 @@ cuts-fault domain p number at kind (a ∷ b ∷ c ∷ d ∷ []) six = absurd cc
 cuts-fault domain p number at kind (a ∷ b ∷ c ∷ d ∷ e ∷ []) six = six-faults domain p number at kind a b c d e
 cuts-fault domain p number at kind (a ∷ b ∷ c ∷ d ∷ e ∷ f ∷ others) six = absurd (grind (arith, nat_tests))
 
-abbrev HaveSix : List (List ℕ) → Type 0
-HaveSix texts = AllByRecursion (λ a. has_six_fields a ≡ true) texts
-
 abbrev aces_read : Option SecurityId → List (List ℕ) → Found (List AccessControlEntry)
 aces_read domain texts = each (λ a. ace_reads domain (ace_cuts a)) texts
 
@@ -381,16 +333,6 @@ module _ (domain : Option SecurityId) (w : Which) (body : List Piece) (at : ℕ)
       ≡ option_or (result_err (and_then x (unless_null_with_aces (has_aces body)))) ace_faults
   acl-fault (Err e) = refl
   acl-fault (Ok f) = part-fault f f.null refl
-
-aces-six : (body : List Piece) → are_aces body ≡ true → HaveSix (aces body)
-aces-six [] h = tt
-aces-six (byte b ∷ ps) h = aces-six ps (and_parts (is_blank b) _ h).1
-aces-six (ace a ∷ ps) h = let parts = and_parts (has_six_fields a) _ h in (parts.0, aces-six ps parts.1)
-
-acl-six : (body : List Piece) → is_acl_body body ≡ true → HaveSix (aces body)
-acl-six [] h = tt
-acl-six (byte b ∷ ps) h = acl-six ps (and_parts _ (is_acl_body ps) h).1
-acl-six (ace a ∷ ps) h = aces-six (ace a ∷ ps) h
 
 sid-said : (x : Found SecurityId) (with : SecurityId → Said)
     → result_err (and_then x (λ s. Ok (with s))) ≡ option_or (result_err x) None
@@ -651,10 +593,6 @@ sections-faults domain ss at shaped =
         ≡ result_err (and_then x (λ xs. unless_large (first_said xs) (descriptor_of xs)))
     by_said (Err f) e = refl
     by_said (Ok xs) e = sections-large domain ss at xs shaped e ∙ unless-large (first_said xs) xs
-
-line-shaped : (text : List ℕ) → is_shaped text ≡ true → are_shaped (sections_of text).parts ≡ true
-line-shaped text e =
-    (and_parts (list_all is_blank_piece (sections_of text).before) _ (and_parts (is_paired false text) _ e).1).1
 
 pub same-fault : (text : List ℕ) (domain : Option SecurityId)
     → fault_at (place_of_sddl_fault text domain) ≡ result_err (means text domain)

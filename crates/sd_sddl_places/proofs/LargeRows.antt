@@ -1,21 +1,20 @@
 -- A DACL that is too large (MS-DTYP 2.4.5, 2.5.1), counted by hand: its header has 8 bytes, and each of its ACEs 20,
 -- for 10 bytes of text. With 3,276 of them it has 65,528 bytes, and with one more 65,548.
 use Rattle.std.proofs.Common.{◌≡◌, ◌≤◌, ℕ, zero, suc, ◌+◌, ◌*◌, Bool, true, false, List, [], ◌∷◌, ◌++◌, codes, length}
-use Rattle.std.proofs.Common.{Option, Some, None, refl, sym, ap, ◌∙◌, arith}
+use Rattle.std.proofs.Common.{Option, Some, None, refl, ap, ◌∙◌, arith}
 use Rattle.std.specs.Prelude.{◌&&◌, nat_lt, if◌then◌else◌}
 use Rattle.std.specs.List.{list_all}
 use Rattle.std.specs.Option.{option_map, option_or}
 use Rattle.std.proofs.lemmas.Bool.Decides.{nat_tests}
 use Rattle.sd_kinds.specs.Flags.{flags_reads}
 use Rattle.sd_kinds.specs.Kinds.{kind_entry, kind_letters, kind_named}
-use Rattle.sd_parts.specs.Parts.{each_part}
 use Rattle.sd_parts.specs.declared.part.Part.TheVariants.{Dacl}
 use Rattle.sd_parts.specs.declared.part.Which.TheVariants as which
 use Rattle.sd_rights.specs.Rights.{rights_reads}
 use Rattle.sd_sid.specs.SidText.{letters_read, sid_reads}
 use Rattle.sd_text.specs.Names.{run_of}
 use Rattle.sd_sddl_fields.specs.FieldTexts.{front_reads, kind_reads, object_reads}
-use Rattle.sd_sddl_builder.specs.Line.{Piece, Section, Sections, ace, byte, are_aces, is_paired, is_shaped}
+use Rattle.sd_sddl_builder.specs.Line.{Piece, Sections, ace, byte, are_aces, is_paired, is_shaped}
 use Rattle.sd_sddl_builder.specs.Line.{pieces_from, sections, are_shaped, is_acl_body, is_blank_piece, sections_of}
 use Rattle.sd_sddl_builder.specs.declared.fault.SddlFault.{SddlFault}
 use Rattle.sd_sddl_builder.specs.declared.fault.SddlFault.TheVariants as fault

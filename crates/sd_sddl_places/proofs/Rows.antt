@@ -1,5 +1,5 @@
 -- Faults whose places were counted by hand (MS-DTYP 2.5.1).
-use Rattle.std.proofs.Common.{◌≡◌, Some, None, codes, refl}
+use Rattle.std.proofs.Common.{◌≡◌, Some, None, codes, refl, rules}
 use Rattle.std.proofs.Math.Utf8.{encode}
 use Rattle.std.specs.Prelude.{◌++◌, ◌∷◌, ℕ, Option}
 use Rattle.std.specs.Str.{chars, is_utf8}
@@ -35,43 +35,30 @@ at f part ace name offset size =
 
 -- 1. The shape: at the end of the text, a byte more is wanted.
 
-lone_letter : place_of_sddl_fault (codes " O") None ≡ at fault.Shape None None None 2 0
+lone_letter_and_more : record {
+  lone_letter : place_of_sddl_fault (codes " O") None ≡ at fault.Shape None None None 2 0;
+  open_ace : place_of_sddl_fault (codes "D:(A;;FA;;;WD") None
+      ≡ at fault.Shape (Some Dacl) (Some 0) (Some named.Sid) 13 0;
+  behind_ace : place_of_sddl_fault (codes "D:(A;;FA;;;WD)S") None ≡ at fault.Shape (Some Dacl) None None 15 0;
+  second_open : place_of_sddl_fault (codes "O:BAS:(;;;;;)(;;") None
+      ≡ at fault.Shape (Some Sacl) (Some 1) (Some named.Rights) 16 0;
+}
 unfolding computed
-lone_letter = refl
-
-open_ace : place_of_sddl_fault (codes "D:(A;;FA;;;WD") None ≡ at fault.Shape (Some Dacl) (Some 0) (Some named.Sid) 13 0
-unfolding computed
-open_ace = refl
-
-behind_ace : place_of_sddl_fault (codes "D:(A;;FA;;;WD)S") None ≡ at fault.Shape (Some Dacl) None None 15 0
-unfolding computed
-behind_ace = refl
-
-second_open : place_of_sddl_fault (codes "O:BAS:(;;;;;)(;;") None
-    ≡ at fault.Shape (Some Sacl) (Some 1) (Some named.Rights) 16 0
-unfolding computed
-second_open = refl
+lone_letter_and_more = search rules
 
 -- before the end: a byte that cannot stand there
 
-open_owner : place_of_sddl_fault (codes "O:(A") None ≡ at fault.Shape (Some Owner) None (Some named.Sid) 2 1
+before_the_end : record {
+  open_owner : place_of_sddl_fault (codes "O:(A") None ≡ at fault.Shape (Some Owner) None (Some named.Sid) 2 1;
+  open_twice : place_of_sddl_fault (codes "D:(A;;FA;;;WD)(A;;(") None
+      ≡ at fault.Shape (Some Dacl) (Some 1) (Some named.Rights) 18 1;
+  beside_ace : place_of_sddl_fault (codes "D:(A;;FA;;;WD) x") None ≡ at fault.Shape (Some Dacl) None None 15 1;
+  -- a character of three bytes, whole
+  euro_sign : place_of_sddl_fault (codes "D:(A;;FA;;;WD)" ++ (226 ∷ 130 ∷ 172 ∷ codes "S")) None
+      ≡ at fault.Shape (Some Dacl) None None 14 3;
+}
 unfolding computed
-open_owner = refl
-
-open_twice : place_of_sddl_fault (codes "D:(A;;FA;;;WD)(A;;(") None
-    ≡ at fault.Shape (Some Dacl) (Some 1) (Some named.Rights) 18 1
-unfolding computed
-open_twice = refl
-
-beside_ace : place_of_sddl_fault (codes "D:(A;;FA;;;WD) x") None ≡ at fault.Shape (Some Dacl) None None 15 1
-unfolding computed
-beside_ace = refl
-
--- a character of three bytes, whole
-euro_sign : place_of_sddl_fault (codes "D:(A;;FA;;;WD)" ++ (226 ∷ 130 ∷ 172 ∷ codes "S")) None
-    ≡ at fault.Shape (Some Dacl) None None 14 3
-unfolding computed
-euro_sign = refl
+before_the_end = search rules
 
 -- 2. Two parts with one letter.
 
@@ -81,61 +68,30 @@ second_owner = refl
 
 -- 3. Fields.
 
-owner : place_of_sddl_fault (codes "O:  ZZ G:BA") None
-    ≡ at (fault.Sid sids.Alias) (Some Owner) None (Some named.Sid) 4 2
+owner_and_more : record {
+  owner : place_of_sddl_fault (codes "O:  ZZ G:BA") None
+      ≡ at (fault.Sid sids.Alias) (Some Owner) None (Some named.Sid) 4 2;
+  blank_owner : place_of_sddl_fault (codes "O:  D:") None ≡ at (fault.Sid sids.SidForm) (Some Owner) None
+      (Some named.Sid) 2 0;
+  needs_domain : place_of_sddl_fault (codes "G:DA") None
+      ≡ at (fault.Sid sids.NeedsDomain) (Some Group) None (Some named.Sid) 2 2;
+  number : place_of_sddl_fault (codes "O:S-1-5-4294967296") None
+      ≡ at (fault.Sid sids.Number) (Some Owner) None (Some named.Sid) 2 16;
+  acl_flags : place_of_sddl_fault (codes "S: PX D:") None ≡ at fault.Flags (Some Sacl) None (Some named.Flags) 3 2;
+  null_with_aces : place_of_sddl_fault (codes "D:NO_ACCESS_CONTROL (A;;FA;;;WD)") None
+      ≡ at fault.Flags (Some Dacl) None (Some named.Flags) 2 17;
+  kind : place_of_sddl_fault (codes "D:(XA;;;;;)") None ≡ at fault.Kind (Some Dacl) (Some 0) (Some named.Kind) 3 2;
+  ace_flags : place_of_sddl_fault (codes "D:(A;;FA;;;WD)S:(AU;XX;FA;;;WD)") None
+      ≡ at fault.Flags (Some Sacl) (Some 0) (Some named.Flags) 20 2;
+  second_rights : place_of_sddl_fault (codes "D:(A;;FA;;;WD) (A;CI; FA;;;WD)") None
+      ≡ at fault.Rights (Some Dacl) (Some 1) (Some named.Rights) 21 3;
+  object : place_of_sddl_fault (codes "D:(OA;;FA;x;y;WD)") None
+      ≡ at fault.Guid (Some Dacl) (Some 0) (Some named.ObjectType) 10 1;
+  inherited : place_of_sddl_fault (codes "D:(OA;;FA;;y;ZZ)") None
+      ≡ at fault.Guid (Some Dacl) (Some 0) (Some named.InheritedObjectType) 11 1;
+  -- of two faults the first
+  first_of_two : place_of_sddl_fault (codes "D:(A;;FA;;;ZZ)(B;;;;;)") None
+      ≡ at (fault.Sid sids.Alias) (Some Dacl) (Some 0) (Some named.Sid) 11 2;
+}
 unfolding computed
-owner = refl
-
-blank_owner : place_of_sddl_fault (codes "O:  D:") None ≡ at (fault.Sid sids.SidForm) (Some Owner) None
-    (Some named.Sid) 2 0
-unfolding computed
-blank_owner = refl
-
-needs_domain : place_of_sddl_fault (codes "G:DA") None
-    ≡ at (fault.Sid sids.NeedsDomain) (Some Group) None (Some named.Sid) 2 2
-unfolding computed
-needs_domain = refl
-
-number : place_of_sddl_fault (codes "O:S-1-5-4294967296") None
-    ≡ at (fault.Sid sids.Number) (Some Owner) None (Some named.Sid) 2 16
-unfolding computed
-number = refl
-
-acl_flags : place_of_sddl_fault (codes "S: PX D:") None ≡ at fault.Flags (Some Sacl) None (Some named.Flags) 3 2
-unfolding computed
-acl_flags = refl
-
-null_with_aces : place_of_sddl_fault (codes "D:NO_ACCESS_CONTROL (A;;FA;;;WD)") None
-    ≡ at fault.Flags (Some Dacl) None (Some named.Flags) 2 17
-unfolding computed
-null_with_aces = refl
-
-kind : place_of_sddl_fault (codes "D:(XA;;;;;)") None ≡ at fault.Kind (Some Dacl) (Some 0) (Some named.Kind) 3 2
-unfolding computed
-kind = refl
-
-ace_flags : place_of_sddl_fault (codes "D:(A;;FA;;;WD)S:(AU;XX;FA;;;WD)") None
-    ≡ at fault.Flags (Some Sacl) (Some 0) (Some named.Flags) 20 2
-unfolding computed
-ace_flags = refl
-
-second_rights : place_of_sddl_fault (codes "D:(A;;FA;;;WD) (A;CI; FA;;;WD)") None
-    ≡ at fault.Rights (Some Dacl) (Some 1) (Some named.Rights) 21 3
-unfolding computed
-second_rights = refl
-
-object : place_of_sddl_fault (codes "D:(OA;;FA;x;y;WD)") None
-    ≡ at fault.Guid (Some Dacl) (Some 0) (Some named.ObjectType) 10 1
-unfolding computed
-object = refl
-
-inherited : place_of_sddl_fault (codes "D:(OA;;FA;;y;ZZ)") None
-    ≡ at fault.Guid (Some Dacl) (Some 0) (Some named.InheritedObjectType) 11 1
-unfolding computed
-inherited = refl
-
--- of two faults the first
-first_of_two : place_of_sddl_fault (codes "D:(A;;FA;;;ZZ)(B;;;;;)") None
-    ≡ at (fault.Sid sids.Alias) (Some Dacl) (Some 0) (Some named.Sid) 11 2
-unfolding computed
-first_of_two = refl
+owner_and_more = search rules

@@ -61,11 +61,6 @@ abbrev goes_behind : Option Stand → List ℕ → Bool
 goes_behind None t = false
 goes_behind (Some s) t = goes_on s t
 
-no_both : (x y z : Bool) → z ≡ false → (x && (y && z)) ≡ false
-no_both true true z e = e
-no_both true false z e = refl
-no_both false y z e = refl
-
 -- a parenthesis
 opens : (s : Stand) → is_inside s ≡ false → (bs : List ℕ) → goes_on s (40 ∷ bs) ≡ goes_behind (next_stand s 40) bs
 unfolding goes_on

@@ -1,13 +1,11 @@
 -- A step from a part, an ACE or a field to the next one.
-use Rattle.std.proofs.Common.{◌≡◌, ◌≤◌, ℕ, zero, suc, ◌+◌, Bool, true, false, List, [], ◌∷◌, length, take, drop}
-use Rattle.std.proofs.Common.{refl, ap, sym, subst}
-use Rattle.std.proofs.Common.{◌∙◌, arith}
-use Rattle.std.specs.Prelude.{Option, Some, None, slice_index_or}
+use Rattle.std.proofs.Common.{◌≡◌, ◌≤◌, ℕ, zero, suc, ◌+◌, Bool, true, false, List, [], ◌∷◌, length, take, drop, refl}
+use Rattle.std.proofs.Common.{ap, sym, subst, ◌∙◌, arith}
+use Rattle.std.specs.Prelude.{Option, Some, None, slice_index_or, IfSome, ◌&&◌, not, is_some, if◌then◌else◌, nat_lt}
 use Rattle.std.proofs.lemmas.Bool.{and_parts}
 use Rattle.std.proofs.lemmas.List.{length-drop, length-take-le}
 use Rattle.sd_kinds.specs.declared.kinds.AceKind.{AceKind}
 use Rattle.std.specs.Option.{option_map, option_or}
-use Rattle.std.specs.Prelude.{IfSome}
 use Rattle.sd_parts.specs.Parts.{each_part, get_part, part_of, set_part, sid_part_of}
 use Rattle.sd_parts.specs.declared.part.SidPart.{SidPart}
 use Rattle.sd_parts.specs.declared.part.Which.{Which}
@@ -15,32 +13,26 @@ use Rattle.sd_parts.specs.declared.part.Part.{Part}
 use Rattle.sd_sid.specs.Sid.{SecurityId}
 use Rattle.sd_text.specs.Cuts.{all_cuts}
 use Rattle.sd_sddl_builder.specs.FoldedReading.{next_field}
-use Rattle.sd_sddl_builder.specs.Line.{Piece, ace_cuts, cut_at_semicolons, has_aces, is_paired, is_shaped}
-use Rattle.sd_sddl_builder.specs.Line.{part_of_head, pieces_from, sections_of}
+use Rattle.sd_sddl_builder.specs.Line.{Piece, ace_cuts, cut_at_semicolons, has_aces, is_paired, is_shaped, part_of_head}
+use Rattle.sd_sddl_builder.specs.Line.{pieces_from, sections_of, open_after}
 use Rattle.sd_sddl_builder.specs.declared.fault.SddlFault.{SddlFault}
 use Rattle.sd_sddl_builder.specs.declared.slot.AceField.{AceField}
 use Rattle.sd_sddl_builder.specs.declared.slot.Head.{Head}
 use Rattle.sd_sddl_builder.specs.declared.slot.Head.TheVariants as head
 use Rattle.sd_sddl_builder.specs.declared.slot.Slot.TheVariants as slot
 use Rattle.sd_sddl_builder.specs.declared.fault.SddlFault.TheVariants as fault
-use Rattle.sd_fault_places.specs.declared.place.Field.TheVariants as named
 use Rattle.sd_sddl_places.specs.declared.shape.Stand.{Stand}
 use Rattle.sd_sddl_places.specs.declared.shape.Stand.TheVariants as stand
 use Rattle.sd_fault_places.specs.declared.place.FaultPlace.{FaultPlace}
 use Rattle.sd_sddl_places.specs.Fields.{PlacedAce, PlacedField, PlacedPart, ace_field, ace_field_fault, aces_from}
-use Rattle.sd_sddl_places.specs.Fields.{cuts_from}
-use Rattle.sd_sddl_places.specs.Fields.{field_fault, front_field, name_of}
-use Rattle.sd_sddl_places.specs.Fields.{fields_in, fields_in_ace, fields_in_aces, fields_in_body, parts_in, pieces_size}
-use Rattle.sd_sddl_places.specs.Fields.{place, placed}
+use Rattle.sd_sddl_places.specs.Fields.{cuts_from, field_fault, front_field, name_of, fields_in, fields_in_ace}
+use Rattle.sd_sddl_places.specs.Fields.{fields_in_aces, fields_in_body, parts_in, pieces_size, place, placed}
 use Rattle.sd_sddl_places.specs.Places.{Seen, first_faulty, first_large, large_in, passing, place_at, place_in_parts}
 use Rattle.sd_sddl_places.specs.Places.{second_head}
 use Rattle.sd_sddl_places.specs.Places.{IsFirstFault, is_of_field, place_of_sddl_fault, place_of_shape, size_in}
 use Rattle.sd_sddl_places.specs.Inner.Cutting.{before_byte, before_head, first_ace, front_head, head_in, parts_at}
-use Rattle.sd_sddl_builder.specs.Line.{open_after}
-use Rattle.std.specs.Prelude.{◌&&◌, not, is_some, if◌then◌else◌, nat_lt}
 use Rattle.sd_sddl_places.proofs.Cuttings.{aces-first, aces_behind, cut-at, cuts_behind, first-cut, first-part}
-use Rattle.sd_sddl_places.proofs.Cuttings.{front-cut, has-first}
-use Rattle.sd_sddl_places.proofs.Cuttings.{other-cuts, paired-behind, pieces-sized, split-paired}
+use Rattle.sd_sddl_places.proofs.Cuttings.{front-cut, has-first, other-cuts, paired-behind, pieces-sized, split-paired}
 use Rattle.sd_sddl_places.proofs.Faults.{first-append, first-fault}
 
 -- 1. Parts.
@@ -95,19 +87,11 @@ pub part-step : (at : ℕ) (rest : List ℕ) (p : Head) (k : ℕ) → front_head
     → k ≡ before_head false (drop 2 rest) → PartStep at rest p k
 part-step at rest p k e paired same = subst (λ n. PartStep at rest p n) (sym same) (step-of at rest p e paired)
 
-pub no-parts : (at : ℕ) (rest : List ℕ) → front_head rest ≡ None → placed at (parts_at rest) ≡ []
-no-parts at rest e = rw e refl
-
 pub second-on : (se : Seen) (at : ℕ) (rest : List ℕ) (p : Head) (k : ℕ) → PartStep at rest p k
     → get_part (part_of_head p) se ≡ false
     → second_head se (placed at (parts_at rest))
     ≡ second_head (set_part (part_of_head p) true se) (placed (at + (k + 2)) (parts_at (drop k (drop 2 rest))))
 second-on se at rest p k s e = ap (second_head se) s.shape ∙ rw e refl
-
-pub second-here : (se : Seen) (at : ℕ) (rest : List ℕ) (p : Head) (k : ℕ) → PartStep at rest p k
-    → get_part (part_of_head p) se ≡ true
-    → second_head se (placed at (parts_at rest)) ≡ Some (place (Some (part_of_head p)) None None at 2)
-second-here se at rest p k s e = ap (second_head se) s.shape ∙ rw e refl
 
 -- the parts of a text
 pub text-parts : (text : List ℕ) (k : ℕ) → is_paired false text ≡ true → k ≡ before_head false text
@@ -317,9 +301,6 @@ module _ (domain : Option SecurityId) (at : ℕ) (body : List ℕ) (w : Which) w
       ∙ first-append domain (acl_front (before_aces body) (is_some (first_ace body)) ∷ []) ace_fields
 
 -- 5. The text.
-
-pub shaped-paired : (text : List ℕ) → is_shaped text ≡ true → is_paired false text ≡ true
-shaped-paired text e = (and_parts (is_paired false text) _ e).0
 
 pub part-twice : (domain : Option SecurityId) (parts : List PlacedPart) (p : FaultPlace)
     → second_head (each_part false) parts ≡ Some p → place_in_parts domain parts ≡ Some (fault.PartTwice, p)

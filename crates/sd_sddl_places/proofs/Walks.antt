@@ -17,11 +17,6 @@ pub walked : (m n : Front) (b : ℕ) (bs : List ℕ) → step m b ≡ Some n
     → (reach m (b ∷ bs) ≡ suc (reach n bs)) × (stop m (b ∷ bs) ≡ stop n bs)
 walked m n b bs e = rw e (refl, refl)
 
--- one with which none does
-pub halted : (m : Front) (b : ℕ) (bs : List ℕ) → step m b ≡ None
-    → (reach m (b ∷ bs) ≡ 0) × (stop m (b ∷ bs) ≡ m)
-halted m b bs e = rw e (refl, refl)
-
 -- a byte ends one ACE at most
 abbrev Stands : ℕ → Option Stand → Type 0
 Stands k None = Unit {0}

@@ -2,8 +2,7 @@
 
 ghost use Rattle.std.specs.Prelude.{◌≡◌, ◌≤◌, ◌<◌, ◌+◌, ◌^◌, length, slice_index_or, IfSome, None, Some, MatchOption};
 ghost use Rattle.std.specs.Prelude.{false, true};
-ghost use Rattle.std.specs.Option.{is_some, option_map};
-ghost use Rattle.std.specs.Option.{option_copied};
+ghost use Rattle.std.specs.Option.{is_some, option_map, option_copied};
 ghost use Rattle.sd_ace.specs.Ace.{guid_size, sid_offset};
 ghost use Rattle.sd_sid.specs.SidText.{sid_reads};
 ghost use Rattle.sd_sddl_builder.specs.Line.{is_paired, pieces_from};

@@ -1,8 +1,7 @@
 //! The parts of a shaped text.
 
-ghost use Rattle.std.specs.Prelude.{◌≡◌, ◌<◌, ◌+◌, ◌^◌, length, take, false, true};
+ghost use Rattle.std.specs.Prelude.{◌≡◌, ◌<◌, ◌+◌, ◌^◌, length, take, false, true, [], ◌∷◌, None, Some};
 ghost use Rattle.std.specs.Option.{option_copied};
-ghost use Rattle.std.specs.Prelude.{[], ◌∷◌, None, Some};
 ghost use Rattle.std.specs.Str.{byte as char};
 ghost use Rattle.sd_parts.specs.Parts.{each_part};
 ghost use Rattle.sd_sddl_builder.specs.Line.{is_paired, pieces_from};

@@ -1,5 +1,5 @@
 -- Worked descriptors, printed.
-use Rattle.std.proofs.Common.{◌≡◌, ℕ, List, [], ◌∷◌, ◌++◌, Option, Some, None, true, false, codes, refl}
+use Rattle.std.proofs.Common.{◌≡◌, ℕ, List, [], ◌∷◌, ◌++◌, Option, Some, None, true, false, codes, refl, rules}
 use Rattle.uuid.specs.Text.{by_index}
 use Rattle.std.specs.Fmt.{digits}
 use Rattle.sd_kinds.specs.Kinds.{kind_entry, kind_letters}
@@ -41,23 +41,6 @@ shared = record {
   dacl = acl.List (full_access ∷ []);
 }
 
-shared_text : sddl named shared ≡ codes "O:BAG:SYD:(A;;FA;;;WD)"
-unfolding printed named shared full_access everyone
-shared_text = refl
-
--- no part at all
-bare_text : sddl named
-    (record { control = 0x8000; rm = 7; owner = None; group = None; sacl = acl.Absent; dacl = acl.Absent }) ≡ []
-unfolding printed named
-bare_text = refl
-
--- a null DACL with all three flags
-null_text : sddl named
-    (record { control = 0x9504; rm = 0; owner = None; group = None; sacl = acl.Absent; dacl = acl.Null })
-    ≡ codes "D:PARAINO_ACCESS_CONTROL"
-unfolding printed named
-null_text = refl
-
 -- a SID of a domain, with and without that domain
 admins : Descriptor
 admins = record {
@@ -72,42 +55,34 @@ admins = record {
 domain : Option SecurityId
 domain = Some (record { authority = 5; subs = 21 ∷ 1 ∷ 2 ∷ 3 ∷ [] })
 
-admins_text : sddl named admins ≡ codes "O:S-1-5-21-1-2-3-512"
-unfolding printed named admins
-admins_text = refl
-
-admins_in_domain : sddl (record { domain = domain; numeric = false }) admins ≡ codes "O:DA"
-unfolding printed domain admins
-admins_in_domain = refl
-
-admins_in_numbers : sddl (record { domain = domain; numeric = true }) admins ≡ codes "O:S-1-5-21-1-2-3-512"
-unfolding printed domain admins
-admins_in_numbers = refl
-
 -- a null SACL with all three flags, and every other bit
 null_sacl : Descriptor
 null_sacl = record { control = 0xffff; rm = 0xab; owner = None; group = None; sacl = acl.Null; dacl = acl.Absent }
 
-null_sacl_text : sddl named null_sacl ≡ codes "S:PARAINO_ACCESS_CONTROL"
-unfolding printed named null_sacl
-null_sacl_text = refl
-
--- what SDDL keeps of it: SR and SP, and PS, SC and SI
-null_sacl_is_kept : plain null_sacl
-    ≡ record { control = 0xaa10; rm = 0; owner = None; group = None; sacl = acl.Null; dacl = acl.Absent }
-unfolding null_sacl
-null_sacl_is_kept = refl
-
--- of a DACL without any: SR and DP, and PD, DC and DI
-empty_dacl_is_kept : plain (record null_sacl { sacl = acl.Absent; dacl = acl.List [] })
-    ≡ record { control = 0x9504; rm = 0; owner = None; group = None; sacl = acl.Absent; dacl = acl.List [] }
-unfolding null_sacl
-empty_dacl_is_kept = refl
-
-bare_is_kept : plain (record null_sacl { sacl = acl.Absent })
-    ≡ record { control = 0x8000; rm = 0; owner = None; group = None; sacl = acl.Absent; dacl = acl.Absent }
-unfolding null_sacl
-bare_is_kept = refl
+shared_text_and_more : record {
+  shared_text : sddl named shared ≡ codes "O:BAG:SYD:(A;;FA;;;WD)";
+  -- no part at all
+  bare_text : sddl named
+      (record { control = 0x8000; rm = 7; owner = None; group = None; sacl = acl.Absent; dacl = acl.Absent }) ≡ [];
+  -- a null DACL with all three flags
+  null_text : sddl named
+      (record { control = 0x9504; rm = 0; owner = None; group = None; sacl = acl.Absent; dacl = acl.Null })
+      ≡ codes "D:PARAINO_ACCESS_CONTROL";
+  admins_text : sddl named admins ≡ codes "O:S-1-5-21-1-2-3-512";
+  admins_in_domain : sddl (record { domain = domain; numeric = false }) admins ≡ codes "O:DA";
+  admins_in_numbers : sddl (record { domain = domain; numeric = true }) admins ≡ codes "O:S-1-5-21-1-2-3-512";
+  null_sacl_text : sddl named null_sacl ≡ codes "S:PARAINO_ACCESS_CONTROL";
+  -- what SDDL keeps of it: SR and SP, and PS, SC and SI
+  null_sacl_is_kept : plain null_sacl
+      ≡ record { control = 0xaa10; rm = 0; owner = None; group = None; sacl = acl.Null; dacl = acl.Absent };
+  -- of a DACL without any: SR and DP, and PD, DC and DI
+  empty_dacl_is_kept : plain (record null_sacl { sacl = acl.Absent; dacl = acl.List [] })
+      ≡ record { control = 0x9504; rm = 0; owner = None; group = None; sacl = acl.Absent; dacl = acl.List [] };
+  bare_is_kept : plain (record null_sacl { sacl = acl.Absent })
+      ≡ record { control = 0x8000; rm = 0; owner = None; group = None; sacl = acl.Absent; dacl = acl.Absent };
+}
+unfolding printed named shared full_access everyone admins domain null_sacl
+shared_text_and_more = search rules
 
 -- an object ACE with either type, in a SACL that is auto-inherited, behind an empty DACL that is protected
 

@@ -6,4 +6,5 @@ mod acl;
 mod printed;
 mod trustee;
 
+pub use ace::print_ace;
 pub use printed::{print_sddl, put_sddl};

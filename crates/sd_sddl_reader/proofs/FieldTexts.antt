@@ -207,24 +207,6 @@ with_held h b k e = by_test (h.broken || (h.gap || length h.text == 183)) refl
         let ne : (length h.text == 183) ≡ false = (or_parts h.gap _ (or_parts h.broken _ f).1).1 in
         record { clean = clean_both h.text b k.clean e; fits = fits_more h.text b k.fits ne }
 
--- what is held reads, unless it is broken
-pub held-readable : (h : Held) → IsHeld h → is_unreadable h.text ≡ false
-held-readable h k = rw (k.clean) (let l = k.fits in grind (arith, nat_tests))
-
-pub blank_held : (h : Held) → IsHeld h → IsHeld (held_blank h)
-blank_held h k = by_test (h.broken || length h.text == 0)
-  where
-    by_test : (x : Bool) → IsHeld (if x then h else record { text = h.text; gap = true; broken = false })
-    by_test true = k
-    by_test false = record { clean = k.clean; fits = k.fits }
-
-pub outer_held : (h : Held) (b : ℕ) → IsHeld h → IsHeld (outer_with h b)
-outer_held h b k = by_blank (is_blank b) refl
-  where
-    by_blank : (x : Bool) → is_blank b ≡ x → IsHeld (if x then held_blank h else held_with h b)
-    by_blank true e = blank_held h k
-    by_blank false e = with_held h b k e
-
 pub within_held : (h : Held) (b : ℕ) → IsHeld h → IsHeld (within_with h b)
 within_held h b k = by_blank (is_blank b) refl
   where

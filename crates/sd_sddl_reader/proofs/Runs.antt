@@ -18,13 +18,12 @@ use Rattle.sd_parts.specs.declared.part.SidPart.{SidPart}
 use Rattle.sd_parts.specs.declared.part.Which.{Which}
 use Rattle.sd_sddl_fields.specs.Held.{Held, IsHeld, broken_text, held_blank, held_run, held_with, is_plain_inside}
 use Rattle.sd_sddl_fields.specs.Held.{is_plain_text, no_text}
-use Rattle.sd_sddl_reader.specs.Inner.Progress.{is_plain_outside}
+use Rattle.sd_sddl_reader.specs.Inner.Progress.{is_plain_outside, Seen, inner_with, is_in_field, is_inside, judged}
+use Rattle.sd_sddl_reader.specs.Inner.Progress.{rest_answer, text_with}
 use Rattle.sd_sddl_builder.specs.Line.{begins_with_colon, byte, head_at, head_of, pieces_from}
 use Rattle.sd_sddl_fields.specs.FieldTexts.{is_blank}
 use Rattle.sd_sddl_builder.specs.FoldedReading.{FieldsRead}
 use Rattle.sd_text.specs.Chains.{unless}
-use Rattle.sd_sddl_reader.specs.Inner.Progress.{Seen, inner_with, is_in_field, is_inside, judged, rest_answer}
-use Rattle.sd_sddl_reader.specs.Inner.Progress.{text_with}
 use Rattle.sd_sddl_reader.specs.Inner.Reads.{IsReader, Reads, answer_at}
 use Rattle.sd_sddl_reader.specs.declared.reader.SddlReader.{SddlReader}
 use Rattle.sd_sddl_reader.proofs.FieldTexts.{Same, append_nothing, same_blank, same_inner, same_refl, same_text}

@@ -17,25 +17,24 @@ use Rattle.sd_sddl_builder.specs.declared.slot.Head.{Head}
 use Rattle.sd_sddl_builder.specs.declared.slot.Head.TheVariants as head
 use Rattle.sd_sddl_reader.specs.declared.line.State.{State}
 use Rattle.sd_sddl_reader.specs.declared.line.State.TheVariants as state
-use Rattle.sd_parts.specs.Parts.{each_part, get_part, same_part, set_part}
-use Rattle.sd_parts.specs.declared.part.Part.{Part}
-use Rattle.sd_parts.specs.declared.part.Part.TheVariants as part
+use Rattle.sd_parts.specs.Parts.{each_part}
 use Rattle.sd_parts.specs.declared.part.SidPart.{SidPart}
 use Rattle.sd_sddl_builder.specs.declared.slot.Slot.{Slot}
 use Rattle.sd_sddl_builder.specs.declared.slot.Slot.TheVariants as slot
 use Rattle.sd_sddl_fields.specs.Held.{Held, IsHeld, no_text, held_text}
-use Rattle.sd_sddl_builder.specs.Line.{is_paired, Piece, byte, ace, pieces_from, sections, Section, Sections}
+use Rattle.sd_sddl_builder.specs.Line.{is_paired, Piece, byte, ace, pieces_from, sections, Sections}
 use Rattle.sd_sddl_builder.specs.Line.{is_sid_body, are_aces, is_acl_body, are_shaped, cut_at_semicolons, front, aces}
 use Rattle.sd_sddl_builder.specs.Line.{has_aces, has_twice, has_head, head_at, head_of, sections_of, begins_with_colon}
-use Rattle.sd_sddl_builder.specs.Line.{part_of_head, same_head, is_body}
+use Rattle.sd_sddl_builder.specs.Line.{has_seen, is_body, part_of_head, same_head}
 use Rattle.sd_sddl_fields.specs.FieldTexts.{is_blank}
 use Rattle.sd_sddl_builder.specs.FoldedReading.{Field, FieldsRead, ace_fields, ace_fields_from, fields_in, fields_of}
 use Rattle.sd_sddl_builder.specs.FoldedReading.{next_field, nothing_read, read_fields, reads_as, take_field, if_shaped}
 use Rattle.sd_text.specs.Chains.{and_then, unless}
 use Rattle.sd_sddl_reader.specs.Inner.Progress.{Seen, is_inside, fields_left, is_shaped_here, text_with, inner_with}
-use Rattle.sd_sddl_reader.specs.Inner.Progress.{fields_here, is_seen, with_head, has_seen, judged, rest_answer}
+use Rattle.sd_sddl_reader.specs.Inner.Progress.{fields_here, is_seen, with_head, judged, rest_answer}
 use Rattle.sd_sddl_reader.specs.Inner.Progress.{state_of, ended_with}
 use Rattle.sd_sddl_builder.proofs.laws.Heads.{head-paired, headed, no_head, not_letter}
+use Rattle.sd_sddl_builder.proofs.laws.SeenLaws.{has-seen-with, none-seen, set-seen}
 use Rattle.sd_sddl_reader.proofs.FieldTexts.{Same, same_reads, text_ended, inner_ended}
 
 -- 1. Small facts.
@@ -311,27 +310,8 @@ mixed false true v y z = refl
 mixed false false true y z = refl
 mixed false false false y z = refl
 
-set-seen : (se : Seen) (p q : Part) → get_part q (set_part p true se) ≡ (get_part q se || same_part p q)
-set-seen se part.Owner part.Owner = rw or-true refl
-set-seen se part.Group part.Group = rw or-true refl
-set-seen se part.Sacl part.Sacl = rw or-true refl
-set-seen se part.Dacl part.Dacl = rw or-true refl
-set-seen se p q = rw or-false refl
-
 pub seen_with : (se : Seen) (p q : Head) → is_seen (with_head se p) q ≡ (is_seen se q || same_head p q)
 seen_with se p q = set-seen se (part_of_head p) (part_of_head q)
-
-four : (a b c d : Bool) → ((a || b) || (c || d)) ≡ ((a || c) || (b || d))
-four true b c d = refl
-four false b true d = or-true b
-four false true false d = refl
-four false false false d = refl
-
-has_seen_with : (se : Seen) (p : Head) (ss : List Section)
-    → has_seen (with_head se p) ss ≡ (has_seen se ss || has_head p ss)
-has_seen_with se p [] = refl
-has_seen_with se p (s ∷ ss) = rw (seen_with se p s.head, has_seen_with se p ss)
-    (four (is_seen se s.head) (same_head p s.head) (has_seen se ss) (has_head p ss))
 
 same_body : (p : Head) (ps : List Piece) → is_body p ps ≡ is_shaped_here (state_of p) [] ps
 same_body (head.Sid p) ps = refl
@@ -373,7 +353,7 @@ begin dm so tw se r pl h b p bs out k e =
       same_body p (sections_of bs).before,
       mixed tw (is_seen se p) (has_seen se (sections_of bs).parts) (has_head p (sections_of bs).parts)
           (has_twice (sections_of bs).parts),
-      ← has_seen_with se p (sections_of bs).parts,
+      ← has-seen-with se p (sections_of bs).parts,
       ends_here dm pl h r (fields_in p (sections_of bs).before ++ fields_of (sections_of bs).parts) k out,
       same_fields p (sections_of bs).before,
     ) refl)
@@ -429,18 +409,7 @@ pub started : (dm : Option SecurityId) (h : Held) (text : List ℕ)
     → rest_answer dm true false (each_part false) (Ok nothing_read)
     state.Before h text ≡ reads_as dm text
 unfolding rest_answer judged reads_as
-started dm h text = rw (nothing_seen (sections_of text).parts) refl
-  where
-    nothing_seen : (ss : List Section)
-        → has_seen (each_part false) ss ≡ false
-    nothing_seen [] = refl
-    nothing_seen (s ∷ ss) = rw (none (part_of_head s.head), nothing_seen ss) refl
-      where
-        none : (p : Part) → get_part p (each_part false) ≡ false
-        none part.Owner = refl
-        none part.Group = refl
-        none part.Sacl = refl
-        none part.Dacl = refl
+started dm h text = rw (none-seen (sections_of text).parts) refl
 
 -- a column that is not the last has a semicolon after it
 pub column_more : (c : AceField) → (c ≡ field.Sid → ⊥) → (fields_left c == 0) ≡ false

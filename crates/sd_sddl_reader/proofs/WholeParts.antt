@@ -18,8 +18,7 @@ use Rattle.sd_sddl_fields.proofs.laws.HeldRuns.{run-fits}
 use Rattle.sd_text.specs.Chains.{unless}
 use Rattle.sd_sddl_builder.specs.Line.{begins_with_colon, byte, head_at, head_of, pieces_from}
 use Rattle.sd_sddl_builder.specs.FoldedReading.{FieldsRead, take_field}
-use Rattle.sd_sddl_reader.specs.Inner.Progress.{Seen, ended_with, is_inside, is_seen, rest_answer}
-use Rattle.sd_sddl_reader.specs.Inner.Progress.{state_of, with_head}
+use Rattle.sd_sddl_reader.specs.Inner.Progress.{Seen, ended_with, is_inside, is_seen, rest_answer, state_of, with_head}
 use Rattle.sd_sddl_builder.specs.FieldReading.{HasReadFields}
 use Rattle.sd_sddl_reader.specs.Inner.Reads.{Feeds, IsFresh, IsReader, LineHasRead, Steps, answer_at}
 use Rattle.sd_sddl_reader.specs.Inner.WholePart.{HeadAfter, HeadBehind, IsPlainText}
@@ -35,8 +34,7 @@ use Rattle.sd_sddl_reader.specs.declared.reader.SddlReader.{SddlReader}
 use Rattle.sd_sddl_reader.proofs.FieldTexts.{same_blank, same_text, with_held}
 use Rattle.sd_sddl_reader.proofs.FitLaws.{fits-first, fits-head, lacks-ended, none-ended, unseen-head}
 use Rattle.sd_sddl_reader.proofs.Runs.{blank-is, not_true, nothing-held, plain-is}
-use Rattle.sd_sddl_builder.proofs.laws.Heads.{no-colon, not_letter}
-use Rattle.sd_sddl_builder.proofs.laws.Heads.{no_head as unheaded}
+use Rattle.sd_sddl_builder.proofs.laws.Heads.{no-colon, not_letter, no_head as unheaded}
 use Rattle.sd_sddl_reader.proofs.Steps.{begin-noted, open_first, outside_text}
 use Rattle.sd_sddl_reader.proofs.WholeFields.{fed-on, reader-at, whole-held}
 

@@ -5,13 +5,12 @@ ghost use Rattle.std.specs.Prelude.{true, false};
 ghost use Rattle.std.specs.Str.{byte as char};
 ghost use Rattle.std.specs.List.{list_all};
 ghost use Rattle.sd_sddl_fields.specs.Held.{is_plain_text};
-ghost use Rattle.sd_sddl_reader.specs.Inner.Progress.{is_in_field, is_plain_outside};
+ghost use Rattle.sd_sddl_reader.specs.Inner.Progress.{is_in_field, is_plain_outside, state_of};
 ghost use Rattle.sd_sddl_fields.specs.FieldTexts.{is_blank};
 ghost use Rattle.sd_sddl_reader.specs.Inner.WholePart.{AccountBefore, FrontBefore, HeadAfter, IsBehindBlanks};
 ghost use Rattle.sd_sddl_reader.specs.Inner.WholePart.{IsPlainText, NamedBefore};
 ghost use Rattle.sd_sddl_builder.specs.Line.{head_of};
 ghost use Rattle.sd_sddl_reader.specs.Inner.Heads.{have_heads};
-ghost use Rattle.sd_sddl_reader.specs.Inner.Progress.{state_of};
 ghost use Rattle.sd_text.specs.Limits.{most_field};
 
 use sd_alias::WellKnown;

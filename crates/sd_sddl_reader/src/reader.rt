@@ -52,9 +52,8 @@ pub struct SddlReader {
 impl SddlReader {
     ghost use Rattle.sd_sddl_reader.specs.SddlReading.{IsReading, ReadsSddl};
     ghost use Rattle.sd_sddl_builder.specs.FieldReading.{Ends, HasReadFields};
-    ghost use Rattle.sd_sddl_reader.specs.Inner.Reads.{CanStep, Feeds, LineHasRead, IsCalm};
-    ghost use Rattle.sd_sddl_reader.specs.Inner.Reads.{IsFresh, IsReader, IsText, Reads, StepsOn, StepsOver};
-    ghost use Rattle.sd_sddl_reader.specs.Inner.Reads.{StepsText, answer_at};
+    ghost use Rattle.sd_sddl_reader.specs.Inner.Reads.{CanStep, Feeds, LineHasRead, IsCalm, IsFresh, IsReader, IsText};
+    ghost use Rattle.sd_sddl_reader.specs.Inner.Reads.{Reads, StepsOn, StepsOver, StepsText, answer_at};
 
     /// A reader that was fed nothing.
     pub fn new(domain: Option<Sid>, buf: &mut SdBuf) -> Self

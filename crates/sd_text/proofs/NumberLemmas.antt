@@ -1,15 +1,11 @@
 -- A number that grew too large stays too large.
-use Rattle.std.proofs.Common.{◌≡◌, ℕ, ◌+◌, ◌*◌, ◌≤◌, Bool, true, false, List, [], ◌∷◌, Option, Some}
-use Rattle.std.proofs.Common.{None, refl, arith}
+use Rattle.std.proofs.Common.{◌≡◌, ℕ, ◌+◌, ◌*◌, ◌≤◌, Bool, true, false, List, [], ◌∷◌, Some, None, refl, arith}
 use Rattle.std.specs.Prelude.{nat_lt, if◌then◌else◌}
 use Rattle.std.specs.Option.{option_and_then}
 use Rattle.std.specs.Char.{digit_value, is_digit}
 use Rattle.std.proofs.Math.Nat.{mul-le-mul_left}
 use Rattle.std.proofs.lemmas.Bool.Decides.{nat_tests}
 use Rattle.sd_text.specs.Numbers.{number_after}
-
-abbrev below : ℕ → ℕ → Option ℕ
-below limit n = if nat_lt n limit then Some n else None
 
 not_below : (limit n : ℕ) → limit ≤ n → nat_lt n limit ≡ false
 not_below limit n h = grind (arith, nat_tests)

@@ -1,5 +1,5 @@
 -- Whom a token meets, and how many entries it has at most.
-use Rattle.std.proofs.Common.{◌≡◌, ℕ, List, [], ◌∷◌, ◌++◌, None, true, false, refl, arith, replicate}
+use Rattle.std.proofs.Common.{◌≡◌, ℕ, List, [], ◌∷◌, ◌++◌, None, true, false, refl, arith, replicate, rules}
 use Rattle.sd_token.specs.Limits.{most_entries}
 use Rattle.sd_token.specs.declared.limits.TheConstants.{MOST_ENTRIES}
 use Rattle.sd_sid.specs.Sid.{SecurityId}
@@ -17,30 +17,17 @@ many n = replicate n (administrators, Enabled)
 most : (most_entries ≡ 1024) × (MOST_ENTRIES ≡ 1024)
 most = (refl, refl)
 
-enabled_allows : meets everyone false ((everyone, Enabled) ∷ []) ≡ true
-unfolding everyone
-enabled_allows = refl
-
-deny_only_denies : meets everyone true ((everyone, DenyOnly) ∷ []) ≡ true
-unfolding everyone
-deny_only_denies = refl
-
-deny_only_does_not_allow : meets everyone false ((everyone, DenyOnly) ∷ []) ≡ false
-unfolding everyone
-deny_only_does_not_allow = refl
-
--- a SID that stands both ways counts as enabled
-both_ways : meets everyone false ((everyone, DenyOnly) ∷ (everyone, Enabled) ∷ []) ≡ true
-unfolding everyone
-both_ways = refl
-
-another : meets everyone true ((administrators, Enabled) ∷ []) ≡ false
+enabled_allows_and_more : record {
+  enabled_allows : meets everyone false ((everyone, Enabled) ∷ []) ≡ true;
+  deny_only_denies : meets everyone true ((everyone, DenyOnly) ∷ []) ≡ true;
+  deny_only_does_not_allow : meets everyone false ((everyone, DenyOnly) ∷ []) ≡ false;
+  -- a SID that stands both ways counts as enabled
+  both_ways : meets everyone false ((everyone, DenyOnly) ∷ (everyone, Enabled) ∷ []) ≡ true;
+  another : meets everyone true ((administrators, Enabled) ∷ []) ≡ false;
+  other_authority : meets (record { authority = 2; subs = 0 ∷ [] }) true ((everyone, Enabled) ∷ []) ≡ false;
+}
 unfolding everyone administrators
-another = refl
-
-other_authority : meets (record { authority = 2; subs = 0 ∷ [] }) true ((everyone, Enabled) ∷ []) ≡ false
-unfolding everyone
-other_authority = refl
+enabled_allows_and_more = search rules
 
 -- what is counted: three comparisons at most, and none
 
@@ -85,36 +72,6 @@ as_numbers : (entry_of administrators_words ≡ (administrators, DenyOnly)) × (
 unfolding administrators administrators_words
 as_numbers = (refl, refl)
 
--- the upper part of an authority: S-1-0x100000005, without sub-authorities
-upper_authority : entry_of (1 ∷ 5 ∷ 0 ∷ 0 ∷ []) ≡ (record { authority = 0x1_0000_0005; subs = [] }, Enabled)
-upper_authority = refl
-
-with_its_key : entries_of (0x2000_0220 ∷ []) administrators_words ≡ (administrators, DenyOnly) ∷ []
-unfolding administrators administrators_words
-with_its_key = refl
-
--- With another key the entry meets nobody.
-with_another_key : entries_of (0x2000_0221 ∷ []) administrators_words ≡ nobody ∷ []
-unfolding administrators_words
-with_another_key = refl
-
-no_key : entries_of [] administrators_words ≡ []
-no_key = refl
-
--- an entry that does not meet the SID is looked at and passed over, and none behind the first that does is looked at
-looked : looks everyone false
-    ((everyone, DenyOnly) ∷ (administrators, Enabled) ∷ (everyone, Enabled) ∷ (everyone, Enabled) ∷ []) ≡ 3
-unfolding everyone administrators
-looked = refl
-
-looked_at_all : looks everyone false ((administrators, Enabled) ∷ (everyone, DenyOnly) ∷ []) ≡ 2
-unfolding everyone administrators
-looked_at_all = refl
-
-looked_at_none : looks everyone true [] ≡ 0
-unfolding everyone
-looked_at_none = refl
-
 -- A search among 20 entries compares the first block whole, and the last four one by one.
 searched_among_20 : (searched everyone false (many 3 ++ (everyone, Enabled) ∷ many 16) ≡ 16)
     × (searched everyone false (many 17 ++ (everyone, Enabled) ∷ many 2) ≡ 18)
@@ -131,3 +88,19 @@ searched_among_others = (refl, refl, refl)
 
 count_goes_on : (counted_by 3 5 ≡ 8) × (counted_by 3 18446744073709551613 ≡ 18446744073709551615)
 count_goes_on = (refl, refl)
+
+two_entries : record {
+  -- the upper part of an authority: S-1-0x100000005, without sub-authorities
+  upper_authority : entry_of (1 ∷ 5 ∷ 0 ∷ 0 ∷ []) ≡ (record { authority = 0x1_0000_0005; subs = [] }, Enabled);
+  with_its_key : entries_of (0x2000_0220 ∷ []) administrators_words ≡ (administrators, DenyOnly) ∷ [];
+  -- With another key the entry meets nobody.
+  with_another_key : entries_of (0x2000_0221 ∷ []) administrators_words ≡ nobody ∷ [];
+  no_key : entries_of [] administrators_words ≡ [];
+  -- an entry that does not meet the SID is looked at and passed over, and none behind the first that does is looked at
+  looked : looks everyone false
+      ((everyone, DenyOnly) ∷ (administrators, Enabled) ∷ (everyone, Enabled) ∷ (everyone, Enabled) ∷ []) ≡ 3;
+  looked_at_all : looks everyone false ((administrators, Enabled) ∷ (everyone, DenyOnly) ∷ []) ≡ 2;
+  looked_at_none : looks everyone true [] ≡ 0;
+}
+unfolding administrators administrators_words everyone
+two_entries = search rules

@@ -7,7 +7,7 @@ ghost use Rattle.sd_token.specs.TokenWords.{Numbers, entry_words};
 use crate::limits::MOST_ENTRIES;
 use crate::token::TokenFull;
 use crate::words::ENTRY_WORDS;
-use sd_memory::NoMemory;
+use sd_sink::NoMemory;
 use std::alloc::Global;
 use std::marker::Model;
 

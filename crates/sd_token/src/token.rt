@@ -10,9 +10,9 @@ ghost use Rattle.sd_token.specs.TokenWords.{entries_of, entry_words};
 use crate::entries::{BLOCK, Entries};
 use crate::memory::{Lent, Memory, Owned};
 use crate::sought::Sought;
-use sd_memory::NoMemory;
 use sd_sid::Sid;
 use sd_sid_view::SidView;
+use sd_sink::NoMemory;
 use std::alloc::Global;
 use std::marker::Model;
 

@@ -1,6 +1,6 @@
 -- Worked bytes, and the descriptors that they show (MS-DTYP 2.4.6); the limits of descriptors; the first fault of some
 -- bytes (docs/FORMAT.md, "Errors"), and the written form.
-use Rattle.std.proofs.Common.{◌≡◌, ◌<◌, ◌^◌, inl, inr, ℕ, true, false, List, [], ◌∷◌, ◌++◌, Some, None, map}
+use Rattle.std.proofs.Common.{◌≡◌, ◌<◌, ◌^◌, inl, inr, ℕ, true, false, List, [], ◌∷◌, ◌++◌, Some, None, map, rules}
 use Rattle.std.proofs.Common.{Ok, Err, drop, refl, replicate, take, arith}
 use Rattle.sd_sid.specs.Sid.{SecurityId, sid_at}
 use Rattle.sd_sid.proofs.laws.Everyone.{everyone, everyone_stands, everyones_bytes}
@@ -14,9 +14,8 @@ use Rattle.sd_acl_view.specs.Acl.{ShowsAcl}
 use Rattle.sd_acl_view.specs.AclLayout.{acl_bytes}
 use Rattle.sd_acl_view.specs.AclReading.{aces_fault, aces_of, acl_fault}
 use Rattle.sd_acl_view.specs.Bytes.{u16_at, u32_at}
-use Rattle.sd_view.specs.Descriptor.{Apart, AreApart, Descriptor, Extent, IsAclPart, IsDescriptor, Shows}
-use Rattle.sd_view.specs.Descriptor.{ShowsAclPart, ShowsSid, acl_extent, control_at, dacl_at, extents_of, group_at}
-use Rattle.sd_view.specs.Descriptor.{owner_at, sacl_at}
+use Rattle.sd_view.specs.Descriptor.{Apart, AreApart, Descriptor, Extent, IsAclPart, IsDescriptor, Shows, ShowsAclPart}
+use Rattle.sd_view.specs.Descriptor.{ShowsSid, acl_extent, control_at, dacl_at, extents_of, group_at, owner_at, sacl_at}
 use Rattle.sd_view.specs.Layout.{acl_part, layout, offsets, parts_bytes, size}
 use Rattle.sd_view.specs.Reading.{acl_part_fault, acl_shown, fault, fault_in, header_fault, overlap_fault}
 use Rattle.sd_view.specs.Reading.{overlaps_fault, parts_fault, reading, sid_fault, sid_shown}
@@ -214,9 +213,6 @@ written : IsWritten written_bytes owned
 unfolding computed written_bytes owned everyones_bytes everyone
 written = record { size = refl; sacl = refl; dacl = ([], refl) }
 
-null_is_written : AclIsWritten [] 0 acl.Null
-null_is_written = refl
-
 null_elsewhere : AclIsWritten [] 20 acl.Null → ⊥
 null_elsewhere h = cc
 
@@ -265,10 +261,6 @@ whole_places : (offsets whole ≡ record { owner = 20; group = 36; sacl = 48; da
 unfolding written_parts
 whole_places = (refl, refl)
 
-whole_layout : layout whole ≡ whole_bytes
-unfolding written_parts
-whole_layout = refl
-
 whole_is_written : IsWritten whole_bytes whole
 unfolding written_parts
 whole_is_written = record { size = refl; sacl = (2 ∷ 0 ∷ 8 ∷ 0 ∷ 0 ∷ 0 ∷ 0 ∷ 0 ∷ [], refl); dacl = ([], refl) }
@@ -280,6 +272,13 @@ order_of_the_layout : (sacl dacl : AclPart) (aces : List AccessControlEntry)
     × (acl_part (acl.List aces) ≡ acl_bytes aces) × (acl_part acl.Null ≡ []) × (acl_part acl.Absent ≡ [])
 unfolding written_parts
 order_of_the_layout sacl dacl aces = (refl, refl, refl, refl)
+
+null_is_written_and_more : record {
+  null_is_written : AclIsWritten [] 0 acl.Null;
+  whole_layout : layout whole ≡ whole_bytes;
+}
+unfolding written_parts
+null_is_written_and_more = search rules
 
 -- what is not there takes no room, and its offset is 0
 
@@ -305,11 +304,6 @@ without_dacl = (refl, refl)
 named_places : List ℕ
 named_places = 1 ∷ 0 ∷ 0x34 ∷ 0x92 ∷ 1 ∷ 2 ∷ 3 ∷ 4 ∷ 5 ∷ 6 ∷ 7 ∷ 8 ∷ 9 ∷ 10 ∷ 11 ∷ 12 ∷ 13 ∷ 14 ∷ 15 ∷ 16 ∷ []
 
-fields_of_the_header : control_at named_places ∷ owner_at named_places ∷ group_at named_places ∷ sacl_at named_places
-    ∷ dacl_at named_places ∷ [] ≡ 0x9234 ∷ 0x04030201 ∷ 0x08070605 ∷ 0x0c0b0a09 ∷ 0x100f0e0d ∷ []
-unfolding computed named_places
-fields_of_the_header = refl
-
 -- parts that meet share no byte, whichever comes first, and no part of a part that is not there is shared
 meet : Apart (Some (20, 32)) (Some (32, 40)) × Apart (Some (32, 40)) (Some (20, 32)) × Apart (Some (20, 32)) None
     × Apart None (Some (20, 32))
@@ -323,10 +317,14 @@ extents_of_acls : (aces : List AccessControlEntry)
 unfolding computed
 extents_of_acls aces = (refl, refl, refl)
 
-extents_of_the_whole : extents_of whole_bytes whole
-    ≡ record { owner = Some (20, 36); group = Some (36, 48); sacl = Some (48, 56); dacl = Some (56, 64) }
-unfolding written_parts
-extents_of_the_whole = refl
+fields_of_the_header_and_more : record {
+  fields_of_the_header : control_at named_places ∷ owner_at named_places ∷ group_at named_places ∷ sacl_at named_places
+      ∷ dacl_at named_places ∷ [] ≡ 0x9234 ∷ 0x04030201 ∷ 0x08070605 ∷ 0x0c0b0a09 ∷ 0x100f0e0d ∷ [];
+  extents_of_the_whole : extents_of whole_bytes whole
+      ≡ record { owner = Some (20, 36); group = Some (36, 48); sacl = Some (48, 56); dacl = Some (56, 64) };
+}
+unfolding computed named_places written_parts
+fields_of_the_header_and_more = search rules
 
 -- 4. The first fault.
 
@@ -336,103 +334,73 @@ unfolding computed sid_at aces_fault aces_of acl_fault header_fault sid_fault ac
     overlaps_fault sid_shown acl_shown fault reading
 read = tt
 
-whole_is_read : reading whole_bytes ≡ Ok whole
-unfolding read written_parts
-whole_is_read = refl
-
--- each ACL under its own bit and at its own offset
-others_are_read : reading owned_bytes ∷ reading audited_bytes ∷ reading bare_bytes ∷ []
-    ≡ Ok owned ∷ Ok audited ∷ Ok bare ∷ []
-unfolding read owned_bytes owned audited_bytes audited bare_bytes bare everyones_bytes everyone no_ace_bytes
-others_are_read = refl
-
-acls_are_shown : acl_shown no_ace_bytes false 0 ∷ acl_shown (9 ∷ no_ace_bytes) false 1 ∷ acl_shown no_ace_bytes true 0
-    ∷ acl_shown (9 ∷ no_ace_bytes) true 1 ∷ [] ≡ acl.Absent ∷ acl.Absent ∷ acl.Null ∷ acl.List [] ∷ []
-unfolding read no_ace_bytes
-acls_are_shown = refl
-
--- 10, 11, 12, 13 and 9 of an ACL are those of its part
-faults_of_an_acl : map (fault_in Sacl)
-    (lists.Acl ∷ lists.AceSize ∷ lists.AceType ∷ lists.AceFlags ∷ lists.Sid ∷ [])
-    ≡ faults.Acl Sacl ∷ faults.AceSize Sacl ∷ faults.AceType Sacl ∷ faults.AceFlags Sacl ∷ faults.Sid Sacl ∷ []
-faults_of_an_acl = refl
-
--- 5, 6 and 7, of which 5 comes first
-header_faults : map fault
-    (take 19 (0 ∷ 0 ∷ bare_bytes) ∷ (0 ∷ 0 ∷ 0 ∷ 0 ∷ replicate 16 0) ∷ (2 ∷ 0 ∷ 0 ∷ 0x80 ∷ replicate 16 0)
-    ∷ (1 ∷ 0 ∷ 0xff ∷ 0x7f ∷ replicate 16 0) ∷ bare_bytes ∷ [])
-    ≡ Some faults.Short ∷ Some faults.Revision ∷ Some faults.Revision ∷ Some faults.NotSelfRelative ∷ None ∷ []
-unfolding read bare_bytes
-header_faults = refl
+whole_is_read_and_more : record {
+  whole_is_read : reading whole_bytes ≡ Ok whole;
+  -- each ACL under its own bit and at its own offset
+  others_are_read : reading owned_bytes ∷ reading audited_bytes ∷ reading bare_bytes ∷ []
+      ≡ Ok owned ∷ Ok audited ∷ Ok bare ∷ [];
+  acls_are_shown : acl_shown no_ace_bytes false 0 ∷ acl_shown (9 ∷ no_ace_bytes) false 1 ∷ acl_shown no_ace_bytes true 0
+      ∷ acl_shown (9 ∷ no_ace_bytes) true 1 ∷ [] ≡ acl.Absent ∷ acl.Absent ∷ acl.Null ∷ acl.List [] ∷ [];
+  -- 10, 11, 12, 13 and 9 of an ACL are those of its part
+  faults_of_an_acl : map (fault_in Sacl)
+      (lists.Acl ∷ lists.AceSize ∷ lists.AceType ∷ lists.AceFlags ∷ lists.Sid ∷ [])
+      ≡ faults.Acl Sacl ∷ faults.AceSize Sacl ∷ faults.AceType Sacl ∷ faults.AceFlags Sacl ∷ faults.Sid Sacl ∷ [];
+  -- 5, 6 and 7, of which 5 comes first
+  header_faults : map fault
+      (take 19 (0 ∷ 0 ∷ bare_bytes) ∷ (0 ∷ 0 ∷ 0 ∷ 0 ∷ replicate 16 0) ∷ (2 ∷ 0 ∷ 0 ∷ 0x80 ∷ replicate 16 0)
+      ∷ (1 ∷ 0 ∷ 0xff ∷ 0x7f ∷ replicate 16 0) ∷ bare_bytes ∷ [])
+      ≡ Some faults.Short ∷ Some faults.Revision ∷ Some faults.Revision ∷ Some faults.NotSelfRelative ∷ None ∷ [];
+}
+unfolding read written_parts owned_bytes owned audited_bytes audited bare_bytes bare everyones_bytes everyone
+    no_ace_bytes
+whole_is_read_and_more = search rules
 
 -- 8 and 9 of a SID: an offset in the header, one with fewer than 8 bytes behind it, no SID there, and a SID that is cut
 
 behind_a_header : List ℕ → List ℕ
 behind_a_header bytes = replicate 20 0 ++ bytes
 
-sid_faults : map (λ at. sid_fault Group (behind_a_header everyones_bytes) at) (0 ∷ 1 ∷ 19 ∷ 20 ∷ 24 ∷ 25 ∷ 0x10014 ∷ [])
-    ≡ None ∷ Some (faults.Offset Group) ∷ Some (faults.Offset Group) ∷ None ∷ Some (faults.Sid Group)
-    ∷ Some (faults.Offset Group) ∷ Some (faults.Offset Group) ∷ []
-unfolding read behind_a_header everyones_bytes
-sid_faults = refl
-
-cut_sids : map (λ cut. sid_fault Owner (behind_a_header (take cut everyones_bytes)) 20) (7 ∷ 8 ∷ 11 ∷ 12 ∷ [])
-    ≡ Some (faults.Offset Owner) ∷ Some (faults.Sid Owner) ∷ Some (faults.Sid Owner) ∷ None ∷ []
-unfolding read behind_a_header everyones_bytes
-cut_sids = refl
-
--- 8 and 10 of an ACL: the same, an ACL that is absent wherever its offset leads, and one that passes the end
-acl_faults : map (λ at. acl_part_fault Dacl (behind_a_header no_ace_bytes) true at)
-    (0 ∷ 1 ∷ 19 ∷ 20 ∷ 21 ∷ 0x10014 ∷ [])
-    ≡ None ∷ Some (faults.Offset Dacl) ∷ Some (faults.Offset Dacl) ∷ None ∷ Some (faults.Offset Dacl)
-    ∷ Some (faults.Offset Dacl) ∷ []
-unfolding read behind_a_header no_ace_bytes
-acl_faults = refl
-
-absent_acl : map (λ at. acl_part_fault Sacl (behind_a_header no_ace_bytes) false at) (0 ∷ 1 ∷ 21 ∷ [])
-    ≡ None ∷ None ∷ None ∷ []
-unfolding read behind_a_header no_ace_bytes
-absent_acl = refl
-
-past_the_end : acl_part_fault Sacl (behind_a_header (2 ∷ 0 ∷ 9 ∷ 0 ∷ 0 ∷ 0 ∷ 0 ∷ 0 ∷ [])) true 20
-    ≡ Some (faults.Acl Sacl)
-unfolding read behind_a_header
-past_the_end = refl
-
 -- The parts are looked at in the order owner, group, SACL, DACL, before any two of them. Offset 1 is in the header.
 at_1 : ℕ → ℕ → ℕ → ℕ → List ℕ
 at_1 owner group sacl dacl =
     1 ∷ 0 ∷ 0x14 ∷ 0x80 ∷ owner ∷ 0 ∷ 0 ∷ 0 ∷ group ∷ 0 ∷ 0 ∷ 0 ∷ sacl ∷ 0 ∷ 0 ∷ 0 ∷ dacl ∷ 0 ∷ 0 ∷ 0 ∷ everyones_bytes
-
-order_of_parts : map fault (at_1 1 1 1 1 ∷ at_1 20 1 1 1 ∷ at_1 20 20 1 1 ∷ at_1 20 20 0 1 ∷ at_1 20 20 0 0 ∷ [])
-    ≡ Some (faults.Offset Owner) ∷ Some (faults.Offset Group) ∷ Some (faults.Offset Sacl) ∷ Some (faults.Offset Dacl)
-    ∷ Some (faults.Overlap Owner Group) ∷ []
-unfolding read at_1 everyones_bytes
-order_of_parts = refl
 
 -- an ACL is looked at under its own bit alone
 with_acls : ℕ → ℕ → ℕ → List ℕ
 with_acls bits sacl dacl =
     1 ∷ 0 ∷ bits ∷ 0x80 ∷ 0 ∷ 0 ∷ 0 ∷ 0 ∷ 0 ∷ 0 ∷ 0 ∷ 0 ∷ sacl ∷ 0 ∷ 0 ∷ 0 ∷ dacl ∷ 0 ∷ 0 ∷ 0 ∷ []
 
-present_acls : map fault
-    (with_acls 0x10 1 0 ∷ with_acls 0x04 1 0 ∷ with_acls 0x04 0 1 ∷ with_acls 0x10 0 1 ∷ with_acls 0 1 1
-    ∷ with_acls 0x14 1 1 ∷ [])
-    ≡ Some (faults.Offset Sacl) ∷ None ∷ Some (faults.Offset Dacl) ∷ None ∷ None ∷ Some (faults.Offset Sacl) ∷ []
-unfolding read with_acls
-present_acls = refl
+sid_faults_and_more : record {
+  sid_faults : map (λ at. sid_fault Group (behind_a_header everyones_bytes) at) (0 ∷ 1 ∷ 19 ∷ 20 ∷ 24 ∷ 25 ∷ 0x10014
+      ∷ [])
+      ≡ None ∷ Some (faults.Offset Group) ∷ Some (faults.Offset Group) ∷ None ∷ Some (faults.Sid Group)
+      ∷ Some (faults.Offset Group) ∷ Some (faults.Offset Group) ∷ [];
+  cut_sids : map (λ cut. sid_fault Owner (behind_a_header (take cut everyones_bytes)) 20) (7 ∷ 8 ∷ 11 ∷ 12 ∷ [])
+      ≡ Some (faults.Offset Owner) ∷ Some (faults.Sid Owner) ∷ Some (faults.Sid Owner) ∷ None ∷ [];
+  -- 8 and 10 of an ACL: the same, an ACL that is absent wherever its offset leads, and one that passes the end
+  acl_faults : map (λ at. acl_part_fault Dacl (behind_a_header no_ace_bytes) true at)
+      (0 ∷ 1 ∷ 19 ∷ 20 ∷ 21 ∷ 0x10014 ∷ [])
+      ≡ None ∷ Some (faults.Offset Dacl) ∷ Some (faults.Offset Dacl) ∷ None ∷ Some (faults.Offset Dacl)
+      ∷ Some (faults.Offset Dacl) ∷ [];
+  absent_acl : map (λ at. acl_part_fault Sacl (behind_a_header no_ace_bytes) false at) (0 ∷ 1 ∷ 21 ∷ [])
+      ≡ None ∷ None ∷ None ∷ [];
+  past_the_end : acl_part_fault Sacl (behind_a_header (2 ∷ 0 ∷ 9 ∷ 0 ∷ 0 ∷ 0 ∷ 0 ∷ 0 ∷ [])) true 20
+      ≡ Some (faults.Acl Sacl);
+  order_of_parts : map fault (at_1 1 1 1 1 ∷ at_1 20 1 1 1 ∷ at_1 20 20 1 1 ∷ at_1 20 20 0 1 ∷ at_1 20 20 0 0 ∷ [])
+      ≡ Some (faults.Offset Owner) ∷ Some (faults.Offset Group) ∷ Some (faults.Offset Sacl) ∷ Some (faults.Offset Dacl)
+      ∷ Some (faults.Overlap Owner Group) ∷ [];
+  present_acls : map fault
+      (with_acls 0x10 1 0 ∷ with_acls 0x04 1 0 ∷ with_acls 0x04 0 1 ∷ with_acls 0x10 0 1 ∷ with_acls 0 1 1
+      ∷ with_acls 0x14 1 1 ∷ [])
+      ≡ Some (faults.Offset Sacl) ∷ None ∷ Some (faults.Offset Dacl) ∷ None ∷ None ∷ Some (faults.Offset Sacl) ∷ [];
+}
+unfolding read behind_a_header everyones_bytes no_ace_bytes at_1 with_acls
+sid_faults_and_more = search rules
 
 -- 14: a part takes the bytes from its first on and before its last; parts that meet share none
 
 shared : List Extent → List (Parts Extent)
 shared others = map (λ other. record (each_part None) { group = Some (30, 40); dacl = other }) others
-
-sharing : map (overlap_fault Group Dacl)
-    (shared (Some (20, 30) ∷ Some (20, 31) ∷ Some (39, 50) ∷ Some (40, 50) ∷ Some (32, 33) ∷ Some (20, 50) ∷ None ∷ []))
-    ≡ None ∷ Some (faults.Overlap Group Dacl) ∷ Some (faults.Overlap Group Dacl) ∷ None
-    ∷ Some (faults.Overlap Group Dacl) ∷ Some (faults.Overlap Group Dacl) ∷ None ∷ []
-unfolding read shared
-sharing = refl
 
 -- the first pair in the order of docs/FORMAT.md, where each part is in all others or in none
 parts_at_20 : Extent → Extent → Extent → Extent → Parts Extent
@@ -441,21 +409,26 @@ parts_at_20 owner group sacl dacl = record { owner = owner; group = group; sacl 
 here : Extent
 here = Some (20, 32)
 
-order_of_pairs : map overlaps_fault
-    (parts_at_20 here here here here ∷ parts_at_20 here None here here ∷ parts_at_20 here None None here
-    ∷ parts_at_20 None here here here ∷ parts_at_20 None here None here ∷ parts_at_20 None None here here
-    ∷ parts_at_20 None None None here ∷ [])
-    ≡ Some (faults.Overlap Owner Group) ∷ Some (faults.Overlap Owner Sacl) ∷ Some (faults.Overlap Owner Dacl)
-    ∷ Some (faults.Overlap Group Sacl) ∷ Some (faults.Overlap Group Dacl) ∷ Some (faults.Overlap Sacl Dacl) ∷ None ∷ []
-unfolding read parts_at_20 here
-order_of_pairs = refl
-
 -- the group stands in the spare bytes of the DACL, of which its ACE needs none
 in_spare_bytes : List ℕ
 in_spare_bytes =
     (1 ∷ 0 ∷ 4 ∷ 0x80 ∷ 0 ∷ 0 ∷ 0 ∷ 0 ∷ 28 ∷ 0 ∷ 0 ∷ 0 ∷ 0 ∷ 0 ∷ 0 ∷ 0 ∷ 20 ∷ 0 ∷ 0 ∷ 0 ∷ [])
     ++ (2 ∷ 0 ∷ 20 ∷ 0 ∷ 0 ∷ 0 ∷ 0 ∷ 0 ∷ []) ++ everyones_bytes
 
-group_in_the_dacl : reading in_spare_bytes ≡ Err (faults.Overlap Group Dacl)
-unfolding read in_spare_bytes everyones_bytes
-group_in_the_dacl = refl
+sharing_and_more : record {
+  sharing : map (overlap_fault Group Dacl)
+      (shared (Some (20, 30) ∷ Some (20, 31) ∷ Some (39, 50) ∷ Some (40, 50) ∷ Some (32, 33) ∷ Some (20, 50) ∷ None
+      ∷ []))
+      ≡ None ∷ Some (faults.Overlap Group Dacl) ∷ Some (faults.Overlap Group Dacl) ∷ None
+      ∷ Some (faults.Overlap Group Dacl) ∷ Some (faults.Overlap Group Dacl) ∷ None ∷ [];
+  order_of_pairs : map overlaps_fault
+      (parts_at_20 here here here here ∷ parts_at_20 here None here here ∷ parts_at_20 here None None here
+      ∷ parts_at_20 None here here here ∷ parts_at_20 None here None here ∷ parts_at_20 None None here here
+      ∷ parts_at_20 None None None here ∷ [])
+      ≡ Some (faults.Overlap Owner Group) ∷ Some (faults.Overlap Owner Sacl) ∷ Some (faults.Overlap Owner Dacl)
+      ∷ Some (faults.Overlap Group Sacl) ∷ Some (faults.Overlap Group Dacl) ∷ Some (faults.Overlap Sacl Dacl) ∷ None
+      ∷ [];
+  group_in_the_dacl : reading in_spare_bytes ≡ Err (faults.Overlap Group Dacl);
+}
+unfolding read shared parts_at_20 here in_spare_bytes everyones_bytes
+sharing_and_more = search rules

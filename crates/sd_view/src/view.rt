@@ -8,9 +8,8 @@ ghost use Rattle.sd_view.specs.Layout.{layout, sid_part, size};
 ghost use Rattle.sd_view.specs.WrittenForm.{AclIsWritten, IsWrittenForm};
 ghost use Rattle.sd_acl_view.specs.AclChecks.{FailsBy};
 ghost use Rattle.sd_view.specs.Inner.Found.{shown_written, written_of};
-ghost use Rattle.sd_view.specs.Reading.{acl_part_fault, acl_shown, fault, header_fault, overlap_fault};
-ghost use Rattle.sd_view.specs.Reading.{overlaps_fault, parts_fault, reading, share_a_byte as share_of, shown};
-ghost use Rattle.sd_view.specs.Reading.{sid_fault, sid_shown};
+ghost use Rattle.sd_view.specs.Reading.{acl_part_fault, acl_shown, fault, header_fault, overlap_fault, overlaps_fault};
+ghost use Rattle.sd_view.specs.Reading.{parts_fault, reading, share_a_byte as share_of, shown, sid_fault, sid_shown};
 ghost use Rattle.sd_view.specs.Inner.Readable.{IsAclAt, IsSidAt};
 ghost use Rattle.sd_parts.specs.declared.limits.TheConstants.{HEADER_SIZE, MOST_SID_SIZE};
 

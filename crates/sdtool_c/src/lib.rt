@@ -13,4 +13,5 @@ mod places;
 mod reasons;
 mod runs;
 mod sids;
+mod texts;
 mod tokens;

@@ -63,7 +63,7 @@ def _sids_of(token: Token) -> FrozenSet[str]:
 
 _NO_TYPES = ObjectTypes(())
 _FEW = 20  # checks of a token that are done one by one
-_MOST_TYPED = 20_000  # checks of a descriptor for object types
+MOST_TYPED = 20_000  # checks of a descriptor for object types
 
 
 class Checks:
@@ -98,7 +98,7 @@ class Checks:
         asked[at] = None
         types = self.types(at, token)
         self._typed[at] = self._typed.get(at, 0) + len(types) * is_bound
-        for object_type in types if self._typed[at] <= _MOST_TYPED else ():
+        for object_type in types if self._typed[at] <= MOST_TYPED else ():
             self._asked.setdefault((token, object_type), {})[at] = None
 
     def too_many(self, at: int) -> Optional[Answer]:
@@ -107,13 +107,13 @@ class Checks:
         if at in self._crowded:
             return unknown(f"its ACEs name more groups of somebody than the {MOST_SIDS:,} SIDs of a token",
                            "take groups out of the file")
-        if self._typed.get(at, 0) <= _MOST_TYPED:
+        if self._typed.get(at, 0) <= MOST_TYPED:
             return None
-        return unknown(f"its ACEs name more than {_MOST_TYPED:,} pairs of a trustee and an object type",
+        return unknown(f"its ACEs name more than {MOST_TYPED:,} pairs of a trustee and an object type",
                        "look at the object on its own system")
 
     def run(self) -> None:
-        for asked in self._asked.values() if max(self._typed.values(), default=0) > _MOST_TYPED else ():
+        for asked in self._asked.values() if max(self._typed.values(), default=0) > MOST_TYPED else ():
             for at in filter(self.too_many, list(asked)):
                 del asked[at]
         apart = list(dict.fromkeys(at for asked in self._asked.values() if len(asked) < _FEW for at in asked))
@@ -248,13 +248,16 @@ def refused(descriptor: Union[Descriptor, Refusal], kind: str, mask: int) -> Opt
 _ABOUT_PERMISSIONS = rights.READ_CONTROL | rights.WRITE_DAC | rights.WRITE_OWNER
 
 
-def without_owner(descriptor: Descriptor, mask: int, place: str) -> Optional[Answer]:
-    """Why nobody is known to have rights that an owner has, where there is no owner: if the question is about
-    permissions or the owner alone, or the source never has owners."""
-    if descriptor.owner or descriptor.dacl != "list" or not mask & rights.WRITE_DAC:
+def without_owner(descriptor: Descriptor, mask: int, kind: str, place: str) -> Optional[Answer]:
+    """Why nobody is known to have rights that an owner has, where there is no owner: if an ACE is for the owner's
+    rights; or else if the question is about permissions or the owner alone, or the source never has owners."""
+    if descriptor.owner or descriptor.dacl != "list":
         return None
-    if mask & ~_ABOUT_PERMISSIONS and place != WITHOUT_OWNER:
-        return None
-    if any(ace.sid == sids.OWNER_RIGHTS for ace in descriptor.deciding):
-        return None
-    return unknown("the source has no owner, and an owner can change permissions", "export the object with its owner")
+    of_owner = [ace for ace in descriptor.deciding if ace.sid == sids.OWNER_RIGHTS]
+    if of_owner:
+        is_open = any(ace.kind in ALLOWS and mapped(ace.mask, kind) & mask for ace in of_owner)
+        why = "an ACE gives the owner some of these rights"
+    else:
+        is_open = bool(mask & rights.WRITE_DAC) and (not mask & ~_ABOUT_PERMISSIONS or place == WITHOUT_OWNER)
+        why = "an owner can change permissions"
+    return unknown(f"the source has no owner, and {why}", "export the object with its owner") if is_open else None

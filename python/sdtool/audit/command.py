@@ -266,7 +266,8 @@ def _risks(common: Common, paths: Sequence[str], options: risks.RiskOptions,
 
 def _baseline(common: Common, path: str, options: risks.RiskOptions, schema: Optional[forest.Schema]) -> Baseline:
     """What a kept report or database has found."""
-    baseline = Baseline()
+    asked = SEVERITIES[:SEVERITIES.index(options.severity) + 1]
+    baseline = Baseline(lambda rule, severity: rule in options.rules and severity in ("", *asked))
     if not is_database(path):
         baseline.fill(read_report(path))
         return baseline

@@ -20,7 +20,7 @@ from distributed.comm import CommClosedError
 from .bounded import Bounded, within
 from .engine import PATIENT_SECONDS, Engine, Job
 from .inputs import Taking, opened
-from .work import RUN, UNFINISHED, Place, Work, entries, files_of, modules_digest, move, printable, shown_url
+from .work import MODULES, RUN, UNFINISHED, Place, Work, entries, files_of, printable, shown_url
 
 CLOSE_SECONDS = 5
 LEAST_THREADS = 4  # without a cluster: a task that hangs keeps its thread, and others go on
@@ -44,30 +44,48 @@ def say(what: object) -> None:
 def take_over(work: Work) -> None:
     """Makes this run the owner of the output, and removes what earlier ones have not finished.
 
-    A run has its folder only when it has owned the output. So the folders that are there while this one owns it are its
-    own and those of earlier runs, also where several begin at once. Another one may remove what this one has written,
-    until that has its name."""
+    A run claims the output before it looks for others, and owns it when its claim gets the name of the record. So of
+    two with other words, the later one to look finds the other's claim or record. A run has its folder only when it has
+    owned the output. So the folders that are there while this one owns it are its own and those of earlier runs, also
+    where several begin at once. Another one may remove what this one has written, until that has its name."""
     place, fs = work.place, work.place.fs
-    require_words(place, work.words)  # another run may have begun while this one looked at its inputs
     record = json.dumps({"run": work.run, "words": work.words}).encode()
     if place.renames:
         fs.makedirs(place.ours, exist_ok=True)
     for left in reversed(range(CLAIMS)):
-        unfinished = f"{place.ours}/{uuid.uuid4().hex}" if place.renames else f"{place.ours}/run.json"
+        claim = f"{place.ours}/{uuid.uuid4().hex}"
         try:
-            fs.pipe_file(unfinished, record)
+            fs.pipe_file(claim, record)
+            remove_claims(place, work.words)
+            require_words(place, work.words)
             if place.renames:
-                move(fs, unfinished, f"{place.ours}/run.json")
+                place.move(claim, f"{place.ours}/run.json")
                 fs.makedirs(work.mine, exist_ok=True)
+            else:
+                fs.pipe_file(f"{place.ours}/run.json", record)
             break
         except FileNotFoundError:
             if not left:
                 raise
+        finally:
+            with contextlib.suppress(FileNotFoundError):
+                fs.rm_file(claim)
     folders = [told["name"].rstrip("/") for told in entries(fs, place.ours) if told["type"] == "directory"]
     work.require_ownership()
     for folder in [place.ours, *folders]:
         if folder == place.ours or RUN.fullmatch(os.path.basename(folder)) and folder != work.mine:
             remove_run(place, folder)
+
+
+def remove_claims(place: Place, words: List[str]) -> None:
+    """Removes the claims of runs with other words, which then begin again and find this one. Where nothing is renamed,
+    that stops no run, so this one is refused."""
+    for path, _ in files_of(place.fs, place.ours, UNFINISHED):
+        if place.words_of_run(path) not in (None, words):
+            if not place.renames:
+                raise ValueError(f"--out: a run with other words begins there: {shown_url(place.fs, path)}")
+            with contextlib.suppress(FileNotFoundError):
+                place.fs.rm_file(path)
 
 
 def require_words(place: Place, words: List[str]) -> None:
@@ -141,14 +159,14 @@ class Parser(argparse.ArgumentParser):
         sys.exit(2)
 
 
-def number(what: str, read: Callable[[str], float], least: float, most: float) -> Callable[[str], float]:
-    def value_of(word: str) -> float:
-        with contextlib.suppress(ValueError):
-            value = read(word)
-            if least <= value < most:
-                return value
-        raise argparse.ArgumentTypeError(what)
-    return value_of
+def at_least(least: float, most: float = 1e9) -> Callable[[str], float]:
+    """Reads a number of the same type, for argparse."""
+    def number(word: str) -> float:
+        value = type(least)(word)
+        if not least <= value <= most:  # nor nan
+            raise ValueError
+        return value
+    return number
 
 
 def wanted_of(words: List[str]) -> argparse.Namespace:
@@ -159,16 +177,13 @@ def wanted_of(words: List[str]) -> argparse.Namespace:
         help="of Dask, as tcp://host:8786; without it and DASK_SCHEDULER_ADDRESS, a cluster in this process")
     add("--out", metavar="URL", required=True, help="the folder of the answers")
     add("--parts", action="store_true", help="leave the answers to an input in parts, in a folder of its name")
-    add("--block", default="64000000", metavar="BYTES", help="of an input in one task (%(default)s)",
-        type=number("--block is a number, and is at least 1", int, 1, 2 ** 63))
-    add("--wait", default="60", metavar="SECONDS",
-        help="for a scheduler, a worker, a file system and any progress (%(default)s)",
-        type=number("--wait is a number of seconds", float, 1e-9, 1e9))
-    add("--retries", default="3", metavar="N", help="of a task that fails (%(default)s)",
-        type=number("--retries is a number, and is at least 0", int, 0, 2 ** 63))
-    add("--slowest", default="500000", metavar="BYTES",
-        help="a second: a task that is slower, behind its first 30 seconds, goes to another worker (%(default)s)",
-        type=number("--slowest is a number of bytes", float, 1e-9, 1e9))
+    add("--block", type=at_least(1, 1e18), default="64000000", metavar="BYTES",
+        help="of an input in one task (%(default)s)")
+    add("--wait", type=at_least(1e-9), default="60", metavar="SECONDS",
+        help="for a scheduler, a worker, a file system and any progress (%(default)s)")
+    add("--retries", type=at_least(0), default="3", metavar="N", help="of a task that fails (%(default)s)")
+    add("--slowest", type=at_least(1e-9), default="500000", metavar="BYTES",
+        help="a second: a task that is slower, behind its first 30 seconds, goes to another worker (%(default)s)")
     add("command", choices=("convert", "explain", "check", "derive"), help="and its options, for sdtool")
     add("options", nargs=argparse.REMAINDER, help=argparse.SUPPRESS)
     at = words.index("--") if "--" in words else len(words)
@@ -193,8 +208,8 @@ def answered(wanted: argparse.Namespace) -> Tuple[List[Job], List[Tuple[str, str
     taking.take_all(wanted.urls)
     if not taking.inputs:
         return [], taking.refused
-    work = in_output(Work, f"sdtool-{uuid.uuid4().hex}", wanted.words, sdtool._library.digest(), modules_digest(),
-                     wanted.out, wanted.parts)
+    work = in_output(Work, f"sdtool-{uuid.uuid4().hex}", wanted.words, sdtool._library.digest(), MODULES, wanted.out,
+                     wanted.parts)
     with contextlib.redirect_stdout(sys.stderr):  # for what Dask prints
         return drive(wanted, work, taking), taking.refused
 
@@ -211,7 +226,8 @@ def shown(jobs: List[Job], refused: List[Tuple[str, str]]) -> int:
     if sys.stdout is None:
         say("standard output is closed, so the counts are not shown")
         return 3
-    signal.signal(signal.SIGPIPE, signal.SIG_DFL)  # as programs do whose output is closed
+    with contextlib.suppress(ValueError):  # in another thread than the first
+        signal.signal(signal.SIGPIPE, signal.SIG_DFL)  # as programs do whose output is closed
     if isinstance(sys.stdout, io.TextIOWrapper):
         is_utf8 = sys.stdout.encoding.lower() in ("utf-8", "utf8")
         sys.stdout.reconfigure(errors="surrogateescape" if is_utf8 else "backslashreplace")  # for names of files

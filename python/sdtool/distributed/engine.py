@@ -1,17 +1,17 @@
 """The tasks of a run in Dask, and what follows a failure.
 
-Dask's scheduler has a window of tasks that are bound to no worker. So it chooses the workers, moves tasks from slow and
-retired ones, and an adaptive cluster sees what waits. Here is what Dask lacks:
+Dask's scheduler has a window of tasks that are bound to no worker. So it chooses the workers, moves tasks from slow,
+retired and dead ones, and an adaptive cluster sees what waits. Here is what Dask lacks:
 
 - Who failed: each outcome has the worker's address. A task that failed is sent to the others, and a worker whose task
   another one does is left out for a while.
-- Who died: an event of Dask marks what a worker has begun. The scheduler sends the tasks of a dead worker to the next
-  one, which leaves such a task to the end, since it may be the cause.
 - A limit of time: the worker gives up a task that hangs. Every few seconds it tells of one that goes on.
-- A worker that is silent or paused: what it has is sent to others too, and the first outcome counts. Dask waits for the
-  time to live of workers, and for a paused one without an end.
+- A worker of whose tasks nothing comes, since it is stopped or paused: others get them too, and the first outcome
+  counts.
+- A task that Dask gives up, since its workers died: it is tried once more, with no other such task beside it.
 """
 import collections
+import contextlib
 import dataclasses
 import itertools
 import pickle
@@ -19,14 +19,13 @@ import queue
 import time
 from typing import Any, Callable, Deque, Dict, List, Set, Tuple
 
-from distributed import Client, Future, as_completed
+from distributed import Client, Future, KilledWorker, as_completed
 
 from .bounded import Bounded, Overdue, within
 from .work import MANIFEST, Anew, Given, Unfit, Work, look
 
 LEAST_WINDOW = 100  # tasks, besides two for each thread of the cluster
-SILENT_SECONDS = 15  # of a worker that says nothing, until others get what it has
-PAUSED_SECONDS = 10  # of one that begins nothing
+STUCK_SECONDS = 30  # of a worker that has tasks, until others get them
 PATIENT_SECONDS = 10  # without progress, a line says what is waited for
 LOOK_SECONDS, REPORT_SECONDS, REST_SECONDS = 1, 10, 0.05
 LOST_SECONDS = 30  # for the outcome of a task that Dask says is done: a worker that is stopped may have it
@@ -38,7 +37,6 @@ BATCH, BATCH_BYTES = 50, 4 << 20  # small inputs in one task
 UNPACKED = 20  # how often as long as its file a compressed input may be, for the time that its task has
 TOPIC = "sdtool"  # of the events by which workers tell of long tasks
 SILENT_SCHEDULER = "the scheduler does not answer"
-RETIRED = {"retired", "closing_gracefully"}  # how Dask's events call a worker that was to go
 
 
 class Lost(OSError):
@@ -56,9 +54,8 @@ class Task:
     failed: Dict[str, str] = dataclasses.field(default_factory=dict)  # the last failure of each worker
     failures: int = 0
     failed_at: float = 0  # for the first time
-    deaths: int = 0
     hangs: int = 0
-    is_alone: bool = False  # it may have killed a worker
+    is_suspect: bool = False  # it may have killed workers
     is_done: bool = False
     not_before: float = 0
 
@@ -89,7 +86,6 @@ class Sent:
     """What is one task for Dask: a task, or some small ones."""
     future: Future
     tasks: List[Task]
-    had_by: Set[str] = dataclasses.field(default_factory=set)  # the workers that Dask has given it to
     is_twin: bool = False  # its tasks were sent once more
     done_at: float = 0  # when Dask first said so
 
@@ -103,11 +99,8 @@ class Worker:
     address: str
     threads: int = 1
     status: str = "running"
-    last_seen: Any = None  # by the scheduler's clock
-    heard_at: float = 0  # when that has changed, by this one's
-    idle_at: float = 0  # since when it begins nothing
-    is_silent: bool = False
-    is_stuck: bool = False  # silent, or paused for long
+    heard_at: float = 0  # when something came of its tasks, or it had none
+    is_stuck: bool = False
     unfit_at: float = 0  # when it was last found not to be fit
     delay: float = 0  # for which it then gets nothing
 
@@ -118,15 +111,6 @@ class Worker:
     def is_hopeful(self, since: float) -> bool:
         """It works, or nothing says since then that it does not."""
         return self.status == "running" and not self.is_stuck and (self.is_fit or self.unfit_at < since)
-
-    def follow(self, told: Dict[str, Any], now: float) -> None:
-        """Takes what the scheduler says of it."""
-        self.threads, self.status = told["nthreads"], told.get("status", "running")
-        if told["last_seen"] != self.last_seen:
-            self.last_seen, self.heard_at = told["last_seen"], now
-        self.idle_at = 0 if self.status == "running" else self.idle_at or now
-        self.is_silent = now - self.heard_at > SILENT_SECONDS
-        self.is_stuck = self.is_silent or bool(self.idle_at and now - self.idle_at > PAUSED_SECONDS)
 
 
 def task_of_dask() -> Callable[..., Any]:
@@ -185,6 +169,7 @@ class Engine:
             if time.monotonic() - reported >= REPORT_SECONDS:
                 reported = time.monotonic()
                 self.report()
+                self.require_ownership()
             self.fill()
             if is_idle:
                 time.sleep(REST_SECONDS)
@@ -296,17 +281,14 @@ class Engine:
 
     def fail(self, task: Task, address: str, reason: str, is_enough: bool = False) -> None:
         """A task is tried again after a failure, or that was enough."""
-        self.note(task, address, reason)
+        task.failed[address] = reason
+        task.failed_at = task.failed_at or time.monotonic()
         task.failures += 1
         if (is_enough or task.failures > self.wanted.retries) and not self.has_hope(task):
             self.close(task.job, reason)
             return
         task.not_before = time.monotonic() + min(5.0, 0.2 * 2 ** min(task.failures, 5))
         self.later.append(task)
-
-    def note(self, task: Task, address: str, reason: str) -> None:
-        task.failed[address] = reason
-        task.failed_at = task.failed_at or time.monotonic()
 
     def has_hope(self, task: Task) -> bool:
         """Whether one worker alone has failed, and another one may do the task. A run waits for that, but not for
@@ -327,24 +309,14 @@ class Engine:
         self.require_ownership()
         self.leave_out(address, reason)
 
-    def bury(self, sent: Sent, address: str) -> None:
-        """A worker is gone that had begun some tasks. If it was not retired, they may have killed it. The address is
-        that of the next worker, which has done nothing."""
-        if any(self.was_retired(each) for each in sent.had_by - {address}):
-            self.later += sent.open
-            return
+    def suspect(self, sent: Sent) -> None:
+        """Dask has given up a task, since worker after worker died of it, or beside it."""
         for task in sent.open:
-            task.deaths += len(sent.tasks) == 1
-            task.is_alone = True
-            self.note(task, f"the dead worker {len(task.failed)}", "it died")  # which one, nobody knows for sure
-            if task.deaths > self.wanted.retries and not self.has_hope(task):
-                self.close(task.job, f"KilledWorker: {task.deaths} workers died that had {task.words}")
+            if task.is_suspect:
+                self.close(task.job, f"KilledWorker: worker after worker died that had {task.words}")
             else:
+                task.is_suspect = True
                 self.later.append(task)
-
-    def was_retired(self, address: str) -> bool:
-        events = self.asked(self.client.get_events, address) or ()
-        return any(isinstance(told, dict) and {told.get("action"), told.get("status")} & RETIRED for _, told in events)
 
     def tell(self, line: str) -> None:
         """Says a thing once."""
@@ -354,8 +326,9 @@ class Engine:
 
     def require_ownership(self) -> None:
         """Ends this run if another one has taken its output over."""
-        place = self.work.place
-        record = self.bounded(f"a look at {place.ours}", place.content, f"{place.ours}/run.json")
+        place, record = self.work.place, None
+        with contextlib.suppress(Exception):  # file systems have many
+            record = self.bounded(f"a look at {place.ours}", place.content, f"{place.ours}/run.json")
         if isinstance(record, dict) and record.get("run") != self.work.run:
             raise Lost(f"{self.work.out} is another output here, or another run has taken it over")
 
@@ -373,12 +346,10 @@ class Engine:
                 raise Lost(f"the scheduler is lost: it has not answered for {self.wanted.wait:g} seconds") from None
         except OSError as error:
             raise Lost(f"the scheduler is lost: {error}") from None
-        except Exception:  # a worker that it was asked for is gone
-            pass
         return None
 
     def look(self) -> None:
-        """Asks the scheduler what its workers are and have, and follows what has become of them."""
+        """Asks the scheduler what its workers are and have. What one has of which nothing comes is sent again."""
         # The first question fails where the connection is lost, and the second one does not.
         had = self.asked(self.client.processing)
         info = None if had is None else self.asked(lambda: self.client.scheduler_info(n_workers=-1))
@@ -391,21 +362,23 @@ class Engine:
         self.workers = {address: self.workers.get(address) or Worker(address, heard_at=now)
                         for address in info["workers"]}
         for address, worker in self.workers.items():
-            worker.follow(info["workers"][address], now)
-            for sent in [self.sent[key] for key in self.keys_of.get(address, ()) if key in self.sent]:
-                sent.had_by.add(address)
-                if worker.is_stuck and not sent.is_twin:
+            worker.threads, worker.status = (info["workers"][address][key] for key in ("nthreads", "status"))
+            has = [self.sent[key] for key in self.keys_of.get(address, ()) if key in self.sent]
+            worker.heard_at = worker.heard_at if has else now
+            worker.is_stuck = now - worker.heard_at > STUCK_SECONDS
+            for sent in has if worker.is_stuck else ():
+                if not sent.is_twin:
                     sent.is_twin = True
                     self.later += sent.open
-                    if worker.is_silent:
-                        self.tell(f"worker {address} is silent; others get its tasks")
+                    self.tell(f"nothing comes of the tasks of worker {address}, which is {worker.status}; others get "
+                              "them")
         self.drop(now)
 
     def drop(self, now: float) -> None:
         """Takes back what nobody waits for, and sends again what Dask says is done though nothing came of it."""
         for key, sent in list(self.sent.items()):
             sent.done_at = (sent.done_at or now) if sent.future.status != "pending" else 0
-            # A twin stays where it is: a silent worker that seems to be idle would get more.
+            # A twin stays where it is: a stuck worker that seems to be idle would get more.
             if sent.done_at and now - sent.done_at > LOST_SECONDS or not sent.is_twin and not sent.open:
                 del self.sent[key]
                 sent.future.release()
@@ -430,8 +403,11 @@ class Engine:
         reason = "nothing goes on" if is_fit else f"no worker is fit of {len(self.workers)}"
         self.say(f"{reason}, and the run waits{what}")
 
-    def go_on(self) -> None:
+    def go_on(self, address: str) -> None:
+        """Something came of a worker's tasks."""
         self.progress, self.is_patient = time.monotonic(), False
+        if address in self.workers:
+            self.workers[address].heard_at = self.progress
 
     # Tasks.
 
@@ -447,25 +423,19 @@ class Engine:
             self.submit(tasks)
 
     def next_tasks(self) -> List[Task]:
-        """What is sent next: a task that comes again, or a new one, or small inputs together. At last those that may
-        have killed a worker, no more of them than there are workers; and one by one when several have died."""
+        """What is sent next: a task that comes again, or a new one, or small inputs together. At last, one by one,
+        those that may have killed workers."""
         now = time.monotonic()
         self.later = [task for task in self.later if not task.is_stale]
-        for task in self.later:
-            if not task.is_alone and now >= task.not_before:
-                self.later.remove(task)
-                return [task]
-        tasks = self.next_fresh()
-        if tasks or not self.later:
-            return tasks
-        on_the_way = [task for sent in self.sent.values() for task in sent.open]
-        if not all(task.is_alone for task in [*self.later, *on_the_way]):
-            return []
-        for task in sorted(self.later, key=lambda each: each.deaths):
-            if len(on_the_way) < (1 if task.deaths > 1 else len(self.workers)):
-                self.later.remove(task)
-                return [task]
-        return []
+        ready = [task for task in self.later if now >= task.not_before and not task.is_suspect]
+        if not ready:
+            tasks = self.next_fresh()
+            if tasks or any(task.is_suspect for sent in self.sent.values() for task in sent.open):
+                return tasks
+            ready = [task for task in self.later if task.is_suspect]
+        for task in ready[:1]:
+            self.later.remove(task)
+        return ready[:1]
 
     def next_fresh(self) -> List[Task]:
         batch: List[Task] = []
@@ -498,9 +468,8 @@ class Engine:
         calls = [(task.method, task.job.given, task.arguments, FIRST_SECONDS + task.bytes / self.wanted.slowest)
                  for task in tasks]
         each = min(PATIENT_SECONDS, self.wanted.wait / 3)
-        future = self.client.submit(
-            self.do, self.work.fields, pickle.dumps(calls), key, tuple(failed) if better else (), each, key=key,
-            pure=False, retries=self.wanted.retries, workers=workers or None, allow_other_workers=bool(workers))
+        future = self.client.submit(self.do, self.work.fields, pickle.dumps(calls), key, each, key=key, pure=False,
+                                    workers=workers or None, allow_other_workers=bool(workers))
         self.sent[key] = Sent(future, tasks)
         self.done.add(future)
 
@@ -516,25 +485,23 @@ class Engine:
             sent = self.sent.pop(future.key, None)
             if sent is None:
                 continue
-            if future.status == "error":
-                error = future.exception(timeout=PATIENT_SECONDS)
-                if hasattr(error, "last_worker"):  # Dask's KilledWorker
-                    self.bury(sent, "")
-                    continue
+            if future.status == "finished" and isinstance(result, tuple):
+                self.take_result(sent, *result)
+            elif future.status != "error":  # another client's restart takes all that a worker has
+                self.again(sent)
+            elif isinstance(error := future.exception(timeout=PATIENT_SECONDS), KilledWorker):
+                self.suspect(sent)
+            else:
                 for task in sent.open:
                     self.fail(task, "", f"{type(error).__name__}: {error}")
-            elif future.status == "finished" and isinstance(result, tuple):
-                self.take_result(sent, *result)
-            else:  # another client's restart takes all that a worker has
-                self.again(sent)
         return bool(came)
 
     def hear(self, told: Dict[str, Any]) -> None:
         """A worker tells of a task that goes on."""
         sent = self.sent.get(told["key"])
-        if sent is None or told["number"] >= len(sent.tasks):
+        if sent is None:
             return
-        self.go_on()
+        self.go_on(told["worker"])
         task = sent.tasks[told["number"]]
         if told["taken"] > LONG_SECONDS and not task.job.is_long:
             task.job.is_long = True
@@ -542,16 +509,13 @@ class Engine:
                      f"{told['limit']:.0f} that it has")
 
     def take_result(self, sent: Sent, address: str, what: str, value: Any) -> None:
-        if what == "outcomes":
-            self.go_on()
-            for task, (what, outcome) in zip(sent.tasks, value):
-                self.take_outcome(task, address, what, outcome)
-        elif what == "begun":
-            self.bury(sent, address)
-        else:
-            if what == "unfit":
-                self.unfit(address, value)
+        if what == "unfit":
+            self.unfit(address, value)
             self.again(sent)
+            return
+        self.go_on(address)
+        for task, (what, outcome) in zip(sent.tasks, value):
+            self.take_outcome(task, address, what, outcome)
 
     def take_outcome(self, task: Task, address: str, what: str, value: Any) -> None:
         if what == "unfit":

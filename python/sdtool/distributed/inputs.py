@@ -37,8 +37,9 @@ class Finder:
     def __init__(self, fs: Any, above: str, bounded: Bounded, is_pattern: bool) -> None:
         self.fs, self.above, self.bounded, self.is_pattern = fs, above, bounded, is_pattern
 
-    def found(self, path: str, problem: str = "") -> Found:
-        return Found(path, os.path.basename(path) if self.is_pattern else os.path.relpath(path, self.above), problem)
+    def found(self, path: str, problem: str = "", told: Optional[Dict[str, Any]] = None) -> Found:
+        name = os.path.basename(path) if self.is_pattern else os.path.relpath(path, self.above)
+        return Found(path, name, problem, told)
 
     def find(self, folder: str, parts: List[str]) -> Iterator[Found]:
         """What the parts of a pattern lead to: a part has the form of one name, and ** is any folders."""
@@ -64,29 +65,21 @@ class Finder:
         if part == "**" and rest:
             yield from self.find(folder, rest)
         for path, told in zip(paths, listed):
-            is_folder = told["type"] == "directory"
+            is_folder, is_alike = told["type"] == "directory", fnmatch.fnmatchcase(os.path.basename(path), part)
             is_of_run = self.is_pattern and is_output and is_folder and os.path.basename(path) == OURS
             if is_of_run or path == folder.rstrip("/"):
                 continue
             if part == "**" and is_folder:
                 yield from self.find(path, parts)
-            elif rest and part != "**" and fnmatch.fnmatchcase(os.path.basename(path), part):
-                if is_folder or told.get("islink"):
-                    yield from self.find(path, rest)
-            elif not rest and (part == "**" or fnmatch.fnmatchcase(os.path.basename(path), part)):
-                yield self.file(path, told)
+            elif rest and part != "**" and is_alike and (is_folder or told.get("islink")):
+                yield from self.find(path, rest)
+            elif not rest and is_alike:
+                yield self.found(path, told=plain(told) if is_of_store(self.fs, told) else None)
 
-    def file(self, path: str, told: Dict[str, Any]) -> Found:
-        if not renames(self.fs) and STORE_KEYS & told.keys():
-            return self.found(path)._replace(told=plain(told))
-        try:
-            kind = self.bounded(f"a look at {path}", self.fs.info, path)["type"]
-        except FileNotFoundError:
-            return self.found(path, "is a link that leads nowhere, or is gone")
-        except Exception as error:
-            return self.found(path, f"cannot be looked at: {reason_of(error)}")
-        problems = {"file": "", "directory": "is a folder, or a link to one"}
-        return self.found(path, problems.get(kind, "is not a regular file"))
+
+def is_of_store(fs: Any, told: Dict[str, Any]) -> bool:
+    """Whether a listing tells as much of a file as a look at it."""
+    return not renames(fs) and bool(STORE_KEYS & told.keys())
 
 
 def has_run(fs: Any, folder: str) -> bool:
@@ -103,7 +96,7 @@ def found(fs: Any, path: str, kind: str, bounded: Bounded) -> Iterator[Found]:
     if kind == "directory":
         yield from Finder(fs, path, bounded, False).find(path, ["**"])
     elif kind:
-        yield Finder(fs, os.path.dirname(path), bounded, False).file(path, {})
+        yield Found(path, os.path.basename(path))
     elif magic:
         above, _, pattern = path[:magic.start()].rpartition("/")
         matches = Finder(fs, above, bounded, True).find(above, (pattern + path[magic.start():]).split("/"))
@@ -197,8 +190,12 @@ class Taking:
             return one.problem
         try:
             told = one.told or self.bounded(f"a look at {one.path}", look, fs, one.path)
+            if told["type"] != "file":
+                return "is a folder, or a link to one" if told["type"] == "directory" else "is not a regular file"
             beginning = self.bounded(f"the beginning of {one.path}", beginning_of, fs, one.path, told["size"])
             kind = packed.kind_of(one.path, beginning)
+        except FileNotFoundError:
+            return "is a link that leads nowhere, or is gone"
         except Exception as error:  # file systems have many
             return str(error) if type(error) is ValueError else f"cannot be read: {reason_of(error)}"
         if told["size"] == 0 and beginning:

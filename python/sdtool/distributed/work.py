@@ -6,12 +6,11 @@ import functools
 import hashlib
 import io
 import json
-import math
 import os
 import pickle
 import re
+import stat
 import threading
-import time
 import uuid
 from typing import Any, Callable, Counter, Dict, Iterator, List, Optional, Sequence, Set, Tuple
 
@@ -19,6 +18,7 @@ from fsspec.core import url_to_fs
 from fsspec.implementations.local import LocalFileSystem
 from fsspec.implementations.memory import MemoryFileSystem
 from fsspec.spec import AbstractFileSystem
+from sdtool import _library, _runs
 
 from .bounded import Overdue, within
 from .packed import grouped, unpacked
@@ -66,13 +66,6 @@ def renames(fs: Any) -> bool:
     """Whether a file gets another name in one step. In object stores and memory it appears with all its bytes, and a
     new name would be a copy."""
     return isinstance(fs, LocalFileSystem) or type(fs).mv is not AbstractFileSystem.mv
-
-
-def move(fs: Any, old: str, new: str) -> None:
-    if isinstance(fs, LocalFileSystem):
-        os.replace(old, new)
-    else:
-        fs.mv(old, new)
 
 
 def has_one_connection(fs: Any) -> bool:
@@ -192,10 +185,9 @@ def total_of(blocks: List[Record]) -> Dict[str, int]:
     return {key: sum(block[key] for block in blocks) for key in ("lines", "errors", "bytes")}
 
 
-def modules_digest() -> str:
+def _modules_digest() -> str:
     """The digest of the files of the module and of this package, since they count the answers and compare them with the
     lines."""
-    from sdtool import _library
     top, digest = os.path.dirname(os.path.abspath(_library.__file__)), new_digest()
     names = [os.path.join(folder, name) for folder in ("", "distributed")
              for name in os.listdir(os.path.join(top, folder))]
@@ -204,6 +196,9 @@ def modules_digest() -> str:
             with open(os.path.join(top, name), "rb") as file:
                 digest.update(f"{name}\0{new_digest(file.read()).hexdigest()}\0".encode(errors="surrogateescape"))
     return digest.hexdigest()
+
+
+MODULES = _modules_digest()  # of what this process has imported, whatever becomes of the files
 
 
 @dataclasses.dataclass
@@ -280,7 +275,6 @@ class Place:
     def __init__(self, fs: Any, root: str) -> None:
         self.fs, self.root, self.ours = fs, root, f"{root}/{OURS}"
         self.is_local, self.renames = isinstance(fs, LocalFileSystem), renames(fs)
-        self.real: Any = functools.lru_cache(maxsize=None)(os.path.realpath)  # many inputs are in one folder
         self.known: Optional[Set[str]] = None
 
     def list_all(self) -> None:
@@ -289,6 +283,41 @@ class Place:
             self.fs.invalidate_cache(self.root)
             self.known = {path[:at] for path in self.fs.find(self.root)
                           for at, character in enumerate(path + "/") if character == "/"}
+
+    @contextlib.contextmanager
+    def folder_of(self, path: str, is_made: bool = False) -> Iterator[int]:
+        """The folder of a local file. None between it and the output is a link, and none becomes one meanwhile."""
+        folder = os.open(self.root, os.O_PATH | os.O_DIRECTORY)
+        try:
+            for name in path[len(self.root) + 1:].split("/")[:-1]:
+                if is_made:
+                    with contextlib.suppress(FileExistsError):
+                        os.mkdir(name, dir_fd=folder)
+                try:
+                    below = os.open(name, os.O_PATH | os.O_DIRECTORY | os.O_NOFOLLOW, dir_fd=folder)
+                except NotADirectoryError:
+                    if stat.S_ISLNK(os.lstat(name, dir_fd=folder).st_mode):
+                        raise OSError(f"{path} is behind a link") from None
+                    raise
+                os.close(folder)
+                folder = below
+            yield folder
+        finally:
+            os.close(folder)
+
+    def move(self, old: str, new: str, is_made: bool = False) -> None:
+        """Gives a file another name, where a file system does that in one step."""
+        if self.is_local:
+            with self.folder_of(old) as above, self.folder_of(new, is_made) as to:
+                os.replace(os.path.basename(old), os.path.basename(new), src_dir_fd=above, dst_dir_fd=to)
+            return
+        try:
+            self.fs.mv(old, new)
+        except FileNotFoundError:
+            if not is_made:
+                raise
+            self.fs.makedirs(os.path.dirname(new), exist_ok=True)
+            self.fs.mv(old, new)
 
     def is_there(self, path: str) -> bool:
         """Whether anything has this name, a link that leads nowhere too."""
@@ -312,19 +341,17 @@ class Place:
         seal = content.pop("seal", None) if isinstance(content, dict) else None
         return dict(content) if seal and seal == seal_of(content) else {}
 
-    def words_of_run(self) -> Optional[List[str]]:
-        """The words of the run that owns the output; None where none does."""
-        record = self.content(f"{self.ours}/run.json")
+    def words_of_run(self, path: str = "") -> Optional[List[str]]:
+        """The words of the run that owns the output, or of the one that wrote this file; None where none did."""
+        record = self.content(path or f"{self.ours}/run.json")
         words = record.get("words") if isinstance(record, dict) and isinstance(record.get("run"), str) else None
         return words if isinstance(words, list) and all(isinstance(word, str) for word in words) else None
 
     def problem_of(self, given: Given, is_parts: bool) -> str:
         """Why the answers to an input cannot have their place, if so."""
-        for folder in (os.path.dirname(given.folder), os.path.dirname(given.answers)) if self.is_local else ():
-            if self.real(folder) != self.real(self.root) + folder[len(self.root):]:
-                return f"would have its answers behind a link, at {folder}"
-        if self.is_local and os.path.islink(given.folder):
-            return f"would have its answers behind a link, at {given.folder}"
+        for path in (given.answers, f"{given.folder}/{MANIFEST}") if self.is_local else ():
+            with contextlib.suppress(FileNotFoundError, NotADirectoryError), self.folder_of(path):
+                pass
         if not self.is_there(given.answers):
             return ""
         there, manifest = f"has answers at {given.answers}, which", self.manifest_of(given.folder)
@@ -353,19 +380,18 @@ class Work:
         self.run, self.words, self.library, self.modules, self.out, self.is_parts = fields
         self.place = Place(*url_to_fs(self.out))
         self.mine = f"{self.place.ours}/{self.run}"
-        self.is_fit, self.owned_at = False, -math.inf
+        self.is_fit = False
 
     def require_fit(self) -> None:
         """Raises Unfit if the library, the module or the output is not the driver's, or nothing can be written
         there."""
-        from sdtool import _library  # here, as a worker may have none
-        self.require_ownership()
-        if self.is_fit:
+        if self.is_fit:  # what is written looks whose the output is
             return
+        self.require_ownership()
         if _library.digest() != self.library:
             raise Unfit(f"its library is not the driver's, but has the digest {_library.digest()}")
-        if modules_digest() != self.modules:
-            raise Unfit(f"its module is not the driver's, but has the digest {modules_digest()}")
+        if MODULES != self.modules:
+            raise Unfit(f"its module is not the driver's, but has the digest {MODULES}")
         try:
             probe = f"{self.mine}/{uuid.uuid4().hex}"
             self.place.fs.pipe_file(probe, b"written")
@@ -375,15 +401,18 @@ class Work:
         self.is_fit = True
 
     def require_ownership(self) -> None:
-        """Raises Unfit if another run has taken the output over. It looks once a second in an object store."""
-        if not self.place.renames and time.monotonic() - self.owned_at < 1:
-            return
+        """Raises Unfit if another run has taken the output over."""
         record = self.place.content(f"{self.place.ours}/run.json")
         if record is None:
             raise Unfit(f"{self.out} is gone, or is another output here")
         if not isinstance(record, dict) or record.get("run") != self.run:
             raise Unfit(f"{self.out} is another output here, or another run has taken it over")
-        self.owned_at = time.monotonic()
+
+    def require_ownership_of(self, path: str) -> None:
+        """The same for one file. What is among the files of runs counts only with a digest, so that a run which has
+        lost the output may change it."""
+        if not path.startswith(f"{self.place.ours}/"):
+            self.require_ownership()
 
     @contextlib.contextmanager
     def written(self, path: str) -> Iterator[Any]:
@@ -393,7 +422,7 @@ class Work:
             upload = Upload(fs, path)
             try:
                 yield upload
-                self.require_ownership()
+                self.require_ownership_of(path)
                 upload.commit()
             except BaseException:
                 upload.discard()
@@ -402,12 +431,8 @@ class Work:
         try:
             with fs.open(unfinished, "wb") as file:
                 yield file
-            self.require_ownership()
-            try:
-                move(fs, unfinished, path)
-            except FileNotFoundError:
-                fs.makedirs(os.path.dirname(path), exist_ok=True)
-                move(fs, unfinished, path)
+            self.require_ownership_of(path)
+            self.place.move(unfinished, path, True)
         except BaseException:
             with contextlib.suppress(Exception):
                 fs.rm_file(unfinished)
@@ -470,7 +495,6 @@ class Work:
 
     def answer_to(self, given: Given, start: int, end: Optional[int], file: Any) -> Record:
         """Writes the answers to a block. Gives their counts and digests."""
-        from sdtool import _runs
         if isinstance(given.fs, LocalFileSystem):  # elsewhere a look takes as long as a small input
             given.require_same()
         total: Counter[str] = Counter()
@@ -557,14 +581,15 @@ class Work:
 
     def tidy(self, given: Given, count: int) -> None:
         """Removes parts and evidence that the answers do not need: with --parts those of other blocks, else all."""
-        fs, is_listed = self.place.fs, self.place.renames or self.is_parts or not given.is_new
-        unneeded = [path for path, match in (files_of(fs, given.folder, PART, EVIDENCE) if is_listed else ())
-                    if not self.is_parts or int(match[1]) >= count]
-        if not is_listed and not self.is_parts:
+        fs = self.place.fs
+        if given.is_new and not self.is_parts:  # so there are no others
             unneeded = [path for index in range(count) for path in paths_of(given, index)]
+        else:
+            unneeded = [path for path, match in files_of(fs, given.folder, PART, EVIDENCE)
+                        if not self.is_parts or int(match[1]) >= count]
         if unneeded and not self.place.renames and not MAGIC.search(given.folder):  # which would be a pattern
             with contextlib.suppress(FileNotFoundError):  # a copy of this task has removed one, or there is none
-                self.require_ownership()
+                self.require_ownership_of(given.folder)
                 fs.rm(unneeded)  # object stores remove many by one request
                 return
         at_once(self.remove, unneeded, [fs])
@@ -575,10 +600,10 @@ class Work:
         try:
             if self.place.renames:
                 unneeded = f"{self.mine}/{uuid.uuid4().hex}"
-                move(self.place.fs, path, unneeded)
+                self.place.move(path, unneeded)
                 path = unneeded
             else:
-                self.require_ownership()
+                self.require_ownership_of(path)
             self.place.fs.rm_file(path)
         except FileNotFoundError:  # a copy of this task has removed it, or a later run the folder of this one
             self.require_ownership()
@@ -602,20 +627,10 @@ def prepared(fields: Tuple[Any, ...], pickled: bytes) -> Tuple[Work, List[Any]]:
     return work, pickle.loads(pickled)
 
 
-def done(worker: Any, fields: Tuple[Any, ...], pickled: bytes, key: str, avoided: Tuple[str, ...],
-         each: float) -> Tuple[str, str, Any]:
+def done(worker: Any, fields: Tuple[Any, ...], pickled: bytes, key: str, each: float) -> Tuple[str, str, Any]:
     """What a worker does for one task of Dask: it answers small inputs side by side, as each waits for a disk or a
-    server. Gives its address and the outcomes, or why there are none."""
-    from distributed import Event, get_client
-    if worker.address in avoided:  # it was stolen by a worker that has failed
-        time.sleep(0.2)
-        return worker.address, "elsewhere", None
+    server. Gives its address and the outcomes."""
     work, calls = within(SHORT_SECONDS, f"a look at {fields[4]} and the inputs", prepared, fields, pickled)
-    begun = Event(key, get_client())  # the scheduler sends a task again when its worker has died
-    if begun.is_set():
-        begun.clear()
-        return worker.address, "begun", None
-    begun.set()
 
     def outcome(number: int) -> Tuple[str, Any]:
         def tell(taken: float) -> None:
@@ -624,11 +639,8 @@ def done(worker: Any, fields: Tuple[Any, ...], pickled: bytes, key: str, avoided
         what, value = work.outcome(tell, each, *calls[number])
         return what, value
 
-    try:
-        used = [work.place.fs, *(given.fs for _, given, _, _ in calls)]
-        return worker.address, "outcomes", at_once(outcome, range(len(calls)), used)
-    finally:
-        begun.clear()
+    used = [work.place.fs, *(given.fs for _, given, _, _ in calls)]
+    return worker.address, "outcomes", at_once(outcome, range(len(calls)), used)
 
 
 def seen(pieces: Iterator[bytes], see: Callable[[bytes], Any]) -> Iterator[bytes]:

@@ -92,25 +92,39 @@ static void complain(const char *what)
     wrong = 1;
 }
 
+static bool is_fault(const struct sdtool_outcome *o, uint32_t fault, size_t length)
+{
+    return o->fault == fault && o->part == 0 && o->other_part == 0 && o->argument == 0 && o->entry == 0
+           && o->length == length;
+}
+
+/* Who asks: the flags of a question are the maximum and the two privileges. */
+static struct sdtool_asker asker_of(const struct question *q)
+{
+    uint32_t flags = q->numbers[2], options = q->has_level ? SDTOOL_HAS_LEVEL : 0;
+
+    options |= (flags & 2) != 0 ? SDTOOL_SECURITY : 0;
+    options |= (flags & 4) != 0 ? SDTOOL_TAKE_OWNERSHIP : 0;
+    return (struct sdtool_asker){.mapping = q->numbers[1], .level = q->numbers[3], .options = options};
+}
+
 /* A verdict as the program prints it, with the room that there is for it. */
 static struct sdtool_outcome check(const struct question *q, uint8_t *out, size_t size)
 {
     const struct bytes *in = q->fields;
     struct sdtool_request request = {
+        .asker = asker_of(q),
         .wanted = q->numbers[0],
-        .mapping = q->numbers[1],
-        .level = q->numbers[3],
-        .has_level = q->has_level,
-        .maximum = (q->numbers[2] & 1) != 0,
-        .security = (q->numbers[2] & 2) != 0,
-        .take_ownership = (q->numbers[2] & 4) != 0,
+        .options = (q->numbers[2] & 1) != 0 ? SDTOOL_MAXIMUM : 0,
     };
     struct sdtool_verdict v = sdtool_check(in[0].cells, in[0].size, in[1].cells, in[1].size, in[2].cells, in[2].size,
                                            in[3].cells, in[3].size, in[4].cells, in[4].size, &request);
-    struct sdtool_outcome o = {v.fault, v.part, v.other_part, v.argument, v.entry, 0};
+    struct sdtool_outcome o = v.outcome;
     char text[VERDICT + 2];
 
-    if (v.fault != SDTOOL_OK) {
+    if (o.length != 0)
+        complain("a length beside a verdict");
+    if (o.fault != SDTOOL_OK) {
         if (v.mask != 0 || v.granted)
             complain("a verdict beside a fault");
         return o;
@@ -127,13 +141,7 @@ static struct sdtool_outcome check(const struct question *q, uint8_t *out, size_
 static struct sdtool_outcome reasons(const struct question *q, uint8_t *out, size_t size)
 {
     const struct bytes *in = q->fields;
-    struct sdtool_asker asker = {
-        .mapping = q->numbers[1],
-        .level = q->numbers[3],
-        .has_level = q->has_level,
-        .security = (q->numbers[2] & 2) != 0,
-        .take_ownership = (q->numbers[2] & 4) != 0,
-    };
+    struct sdtool_asker asker = asker_of(q);
     struct sdtool_reason *told = (struct sdtool_reason *)block(SDTOOL_RIGHTS * sizeof *told);
     memset(told, 0xaa, SDTOOL_RIGHTS * sizeof *told);
     struct sdtool_outcome o = sdtool_reasons(in[0].cells, in[0].size, in[1].cells, in[1].size, in[2].cells, in[2].size,
@@ -201,7 +209,7 @@ static struct sdtool_origins ask_origins(const struct question *q, size_t sacl_r
                                                     in[2].size, in[3].cells, in[3].size, q->numbers[0], q->numbers[1],
                                                     sacl.told, sacl_room, dacl.told, dacl_room);
 
-    if (o.fault == SDTOOL_OK) {
+    if (o.outcome.fault == SDTOOL_OK) {
         /* Cells behind the last origin may hold anything, but here they are as they were. */
         if (!is_untouched(&sacl, o.sacl_count) || !is_untouched(&dacl, o.dacl_count))
             complain("more origins than were told");
@@ -212,7 +220,7 @@ static struct sdtool_origins ask_origins(const struct question *q, size_t sacl_r
     } else {
         if (!is_untouched(&sacl, 0) || !is_untouched(&dacl, 0))
             complain("an origin beside a fault");
-        if (o.fault != SDTOOL_TOO_SMALL && (o.sacl_count != 0 || o.dacl_count != 0))
+        if (o.outcome.fault != SDTOOL_TOO_SMALL && (o.sacl_count != 0 || o.dacl_count != 0))
             complain("a count beside a fault");
     }
     release((uint8_t *)sacl.told, sacl_room * sizeof *sacl.told);
@@ -225,8 +233,8 @@ static void try_room(const struct question *q, const struct sdtool_origins *whol
     bool fits = whole->sacl_count <= sacl_room && whole->dacl_count <= dacl_room;
     struct sdtool_origins o = ask_origins(q, sacl_room, dacl_room, NULL);
 
-    if (o.fault != (fits ? SDTOOL_OK : SDTOOL_TOO_SMALL) || o.part != 0 || o.other_part != 0 || o.argument != 0
-        || o.entry != 0 || o.sacl_count != whole->sacl_count || o.dacl_count != whole->dacl_count)
+    if (!is_fault(&o.outcome, fits ? SDTOOL_OK : SDTOOL_TOO_SMALL, 0) || o.sacl_count != whole->sacl_count
+        || o.dacl_count != whole->dacl_count)
         complain("other room for origins");
 }
 
@@ -238,9 +246,11 @@ static struct sdtool_outcome origins(const struct question *q, uint8_t *out, siz
     };
     char *text = (char *)__real_malloc(2 * MOST * ORIGIN + sizeof "sacl dacl");
     struct sdtool_origins whole = ask_origins(q, MOST, MOST, text);
-    struct sdtool_outcome o = {whole.fault, whole.part, whole.other_part, whole.argument, whole.entry, 0};
+    struct sdtool_outcome o = whole.outcome;
 
-    if (whole.fault == SDTOOL_OK) {
+    if (o.length != 0)
+        complain("a length beside origins");
+    if (o.fault == SDTOOL_OK) {
         size_t sacl = whole.sacl_count, dacl = whole.dacl_count;
 
         try_room(q, &whole, sacl, dacl);
@@ -400,12 +410,6 @@ static struct sdtool_outcome call_here(const struct question *q, uint8_t *out, s
     if (strcmp(job, "origins") == 0)
         return origins(q, out, size);
     return from_sddl(in, out, size);
-}
-
-static bool is_fault(const struct sdtool_outcome *o, uint32_t fault, size_t length)
-{
-    return o->fault == fault && o->part == 0 && o->other_part == 0 && o->argument == 0 && o->entry == 0
-           && o->length == length;
 }
 
 static void try_size(const struct question *in, const struct bytes *answer, size_t size)

@@ -22,7 +22,7 @@ static const char before_sids[] = "check\0--want\0"
 static uint8_t descriptor[SDTOOL_MOST_BYTES], sids[SDTOOL_MOST_SIDS * SID_SIZE], entries[SDTOOL_MOST_SIDS];
 static uint32_t token[SDTOOL_TOKEN_WORDS(SDTOOL_MOST_SIDS)];
 static char run_words[sizeof before_sids + SDTOOL_MOST_SIDS * ACE_TEXT], line[2 * SDTOOL_MOST_BYTES + 2];
-static const struct sdtool_request request = {.wanted = 1, .mapping = SDTOOL_MAPPING_FILE};
+static const struct sdtool_request request = {.asker = {.mapping = SDTOOL_MAPPING_FILE}, .wanted = 1};
 static const struct sdtool_asker asker = {.mapping = SDTOOL_MAPPING_FILE};
 static size_t size, count, words_size, line_size;
 
@@ -91,7 +91,7 @@ static struct sdtool_verdict check_many(void)
     struct sdtool_outcome made = sdtool_check_many(&bytes, 1, sids, count * SID_SIZE, entries, count, NULL, 0, NULL, 0,
                                                    &request, &verdict, 1);
     if (made.fault != SDTOOL_OK)
-        verdict.fault = made.fault;
+        verdict.outcome = made;
     return verdict;
 }
 
@@ -100,7 +100,7 @@ static struct sdtool_verdict verdict_of(struct sdtool_outcome made, const struct
 {
     struct sdtool_verdict verdict;
     memset(&verdict, 0, sizeof verdict);
-    verdict.fault = made.fault;
+    verdict.outcome = made;
     verdict.mask = request.wanted;
     for (size_t i = 0; i < SDTOOL_RIGHTS; i++)
         verdict.granted |= reasons[i].kind != SDTOOL_REASON_NOTHING;
@@ -132,7 +132,7 @@ static struct sdtool_verdict check_by_run(void)
     struct sdtool_verdict verdict;
     memset(&verdict, 0, sizeof verdict);
     bool is_denied = ended.length == sizeof denied - 1 && memcmp(output, denied, ended.length) == 0;
-    verdict.fault = ended.status != SDTOOL_STATUS_ANSWERED;
+    verdict.outcome.fault = ended.status != SDTOOL_STATUS_ANSWERED;
     verdict.granted = !is_denied;
     verdict.mask = is_denied;
     return verdict;
@@ -153,7 +153,7 @@ int main(int words, char **word)
                                         : strcmp(word[1], "reasons") == 0      ? reasons_once()
                                         : strcmp(word[1], "reasons-held") == 0 ? reasons_held()
                                                                                : check_many();
-        if (verdict.fault != SDTOOL_OK || verdict.granted || verdict.mask != request.wanted)
+        if (verdict.outcome.fault != SDTOOL_OK || verdict.granted || verdict.mask != request.wanted)
             return failed("another verdict");
     }
     return 0;

@@ -48,7 +48,7 @@ static long reasons(void)
     struct sdtool_outcome told = sdtool_reasons_with(descriptor, head[2], token, SDTOOL_TOKEN_WORDS(head[0]), NULL, 0,
                                                      NULL, 0, &asker, all);
 
-    verdicts[0] = (struct sdtool_verdict){.fault = told.fault, .granted = all[0].kind == SDTOOL_REASON_NO_DACL};
+    verdicts[0] = (struct sdtool_verdict){.outcome = told, .granted = all[0].kind == SDTOOL_REASON_NO_DACL};
     return 1;
 }
 
@@ -81,7 +81,7 @@ int main(int count, char **words)
     long granted = 0;
     for (long round = strtol(words[2], NULL, 10); round > 0; round--)
         for (long made = call(); made > 0; made--) {
-            must(verdicts[made - 1].fault == SDTOOL_OK);
+            must(verdicts[made - 1].outcome.fault == SDTOOL_OK);
             granted += verdicts[made - 1].granted;
         }
     printf("%ld\n", granted);

@@ -399,16 +399,17 @@ static void fault_place(const struct bytes *in, const struct sdtool_contents *co
 {
     long before = allocations;
     struct sdtool_fault_place found = sdtool_place(in->cells, in->size);
-    bool is_told = contents->fault != SDTOOL_OK && contents->fault != SDTOOL_FAULT_TOO_LONG;
+    const struct sdtool_outcome *outcome = &contents->outcome;
+    bool is_told = outcome->fault != SDTOOL_OK && outcome->fault != SDTOOL_FAULT_TOO_LONG;
 
     expect(allocations == before, "sdtool_place allocates");
-    expect(found.fault == (is_told ? contents->fault : SDTOOL_OK), "the place of another fault");
+    expect(found.fault == (is_told ? outcome->fault : SDTOOL_OK), "the place of another fault");
     expect(found.place.offset <= in->size && found.place.size <= in->size - found.place.offset,
            "a place past the bytes");
     expect(found.part
-               == (contents->other_part != SDTOOL_NO_PART ? contents->other_part
-                   : is_told                              ? contents->part
-                                                          : 0),
+               == (outcome->other_part != SDTOOL_NO_PART ? outcome->other_part
+                   : is_told                             ? outcome->part
+                                                         : 0),
            "a place in another part");
     expect(is_told || (found.ace == SDTOOL_NO_ACE && found.field == SDTOOL_NO_FIELD && is_none(&found.place)),
            "a place without a fault");
@@ -421,8 +422,10 @@ static void parts(const struct bytes *in)
 
     expect(allocations == before, "sdtool_parts allocates");
     fault_place(in, &contents);
-    if (contents.fault != SDTOOL_OK) {
-        print_fault(contents.fault, contents.part, contents.other_part);
+    if (contents.outcome.fault != SDTOOL_OK) {
+        print_fault(contents.outcome.fault, contents.outcome.part, contents.outcome.other_part);
+        expect(contents.outcome.argument == 0 && contents.outcome.entry == 0 && contents.outcome.length == 0,
+               "more than a fault of a descriptor");
         expect(contents.control == 0 && contents.resource_manager == 0 && is_none(&contents.owner)
                    && is_none(&contents.group) && is_none(&contents.sacl.place) && is_none(&contents.dacl.place)
                    && contents.sacl.state == 0 && contents.dacl.state == 0 && contents.sacl.ace_count == 0
@@ -430,7 +433,7 @@ static void parts(const struct bytes *in)
                "parts beside a fault");
         return;
     }
-    expect(contents.part == 0 && contents.other_part == 0, "a part without a fault");
+    expect(is_outcome(&contents.outcome, SDTOOL_OK, 0, 0, 0, 0), "the outcome of parts");
     printf("control 0x%04x\nrm 0x%02x\n", contents.control, contents.resource_manager);
     print_part("owner", in, &contents.owner);
     print_part("group", in, &contents.group);
@@ -549,8 +552,10 @@ static struct sdtool_verdict check(const struct question *q, const struct sdtool
 
 static bool are_same(const struct sdtool_verdict *a, const struct sdtool_verdict *b)
 {
-    return a->fault == b->fault && a->part == b->part && a->other_part == b->other_part && a->argument == b->argument
-           && a->entry == b->entry && a->mask == b->mask && a->granted == b->granted;
+    return a->outcome.fault == b->outcome.fault && a->outcome.part == b->outcome.part
+           && a->outcome.other_part == b->outcome.other_part && a->outcome.argument == b->outcome.argument
+           && a->outcome.entry == b->outcome.entry && a->outcome.length == b->outcome.length && a->mask == b->mask
+           && a->granted == b->granted;
 }
 
 /* The verdicts, with room for that many, of which none is written after a fault. */
@@ -612,10 +617,10 @@ static void refuse_allocations(const struct question *q, const struct sdtool_byt
 
 static void print_verdict(const struct sdtool_verdict *verdict)
 {
-    if (verdict->fault == SDTOOL_OK)
+    if (verdict->outcome.fault == SDTOOL_OK)
         printf("%s 0x%08" PRIx32 "\n", verdict->granted ? "granted" : "denied", verdict->mask);
     else
-        print_fault(verdict->fault, verdict->part, verdict->other_part);
+        print_fault(verdict->outcome.fault, verdict->outcome.part, verdict->outcome.other_part);
 }
 
 static void many(const struct question *q, const struct sdtool_bytes *descriptors, size_t count)
@@ -635,14 +640,14 @@ static void many(const struct question *q, const struct sdtool_bytes *descriptor
     try_many(q, descriptors, count, count + 3, SDTOOL_OK, 0, 0, count);
     try_many(q, descriptors, 0, 2, SDTOOL_OK, 0, 0, 0);
     try_many(q, NULL, 0, 0, SDTOOL_OK, 0, 0, 0);
-    faulty.request.mapping = 3;
+    faulty.request.asker.mapping = 3;
     refuse_allocations(q, descriptors, count, &faulty);
     /* Too little room comes before a wrong argument, and that before what the request asks for. */
     try_many(&faulty, descriptors, count, 0, SDTOOL_TOO_SMALL, 0, 0, count);
     faulty.request.wanted = 0;
-    faulty.request.maximum = false;
+    faulty.request.options = 0;
     try_many(&faulty, descriptors, count, count, SDTOOL_ARGUMENT, SDTOOL_ARGUMENT_MAPPING, 0, 0);
-    faulty.request.mapping = SDTOOL_MAPPING_KEY;
+    faulty.request.asker.mapping = SDTOOL_MAPPING_KEY;
     try_many(&faulty, descriptors, count, count, SDTOOL_FAULT_EMPTY_REQUEST, 0, 0, 0);
     faulty.request.wanted = 1u << 27;
     try_many(&faulty, descriptors, count, count, SDTOOL_FAULT_RESERVED_BITS, 0, 0, 0);
@@ -681,31 +686,25 @@ static struct sdtool_verdict check_with(const struct question *q, const struct t
                              q->self.cells, q->self.size, &q->request);
 }
 
-static struct sdtool_asker asker_of(const struct question *q)
-{
-    return (struct sdtool_asker){q->request.mapping, q->request.level, q->request.has_level, q->request.security,
-                                 q->request.take_ownership};
-}
-
 /* The reasons with a token are those of the call that reads it, and grant what a check grants. */
 static void try_reasons(const struct question *q, const struct token *token, const struct sdtool_bytes *in)
 {
     struct sdtool_reason alone[SDTOOL_RIGHTS], *told = (struct sdtool_reason *)block(sizeof alone);
-    struct sdtool_asker asker = asker_of(q);
     struct question one = *q;
     struct sdtool_outcome o = sdtool_reasons(in->bytes, in->size, q->sids.cells, q->sids.size, q->entries.cells,
                                              q->entries.size, q->object.cells, q->object.size, q->self.cells,
-                                             q->self.size, &asker, alone);
+                                             q->self.size, &q->request.asker, alone);
     long before = allocations;
     struct sdtool_outcome with = sdtool_reasons_with(in->bytes, in->size, token->words, token->count, q->object.cells,
-                                                     q->object.size, q->self.cells, q->self.size, &asker, told);
+                                                     q->object.size, q->self.cells, q->self.size, &q->request.asker,
+                                                     told);
 
     expect(allocations == before, "reasons with a token allocate");
     expect(with.fault == o.fault && with.part == o.part && with.other_part == o.other_part
                && with.argument == o.argument && with.entry == o.entry && with.length == o.length,
            "the outcome of reasons with a token");
     expect(memcmp(alone, told, sizeof alone) == 0, "other reasons with a token");
-    one.request.maximum = false;
+    one.request.options = 0;
     for (int right = 0; right < SDTOOL_RIGHTS; right++) {
         uint16_t kind = alone[right].kind;
         bool grants = kind == SDTOOL_REASON_NO_DACL || kind == SDTOOL_REASON_OWNER || kind == SDTOOL_REASON_PRIVILEGE
@@ -720,13 +719,13 @@ static void try_reasons(const struct question *q, const struct token *token, con
 static void expect_no_token(const struct question *q, const struct token *token, const char *what)
 {
     static const struct sdtool_bytes no_descriptor;
-    static const struct sdtool_verdict no_token = {.fault = SDTOOL_ARGUMENT, .argument = SDTOOL_ARGUMENT_TOKEN};
+    static const struct sdtool_verdict no_token = {
+        .outcome = {.fault = SDTOOL_ARGUMENT, .argument = SDTOOL_ARGUMENT_TOKEN}};
     struct sdtool_verdict verdict = check_with(q, token, &no_descriptor);
 
-    struct sdtool_asker asker = asker_of(q);
     struct sdtool_reason told[SDTOOL_RIGHTS];
     struct sdtool_outcome o = sdtool_reasons_with(NULL, 0, token->words, token->count, q->object.cells, q->object.size,
-                                                  q->self.cells, q->self.size, &asker, told);
+                                                  q->self.cells, q->self.size, &q->request.asker, told);
 
     expect(are_same(&verdict, &no_token), what);
     expect(is_outcome(&o, SDTOOL_ARGUMENT, 0, SDTOOL_ARGUMENT_TOKEN, 0, 0), what);
@@ -841,15 +840,15 @@ static void order_of_faults(const struct question *q, const struct token *token)
     struct question faulty = *q;
     struct sdtool_verdict verdict;
 
-    faulty.request.mapping = 3;
+    faulty.request.asker.mapping = 3;
     expect_no_token(&faulty, &(struct token){NULL, 0}, "no token, and a wrong argument");
     verdict = check_with(&faulty, token, &no_descriptor);
-    expect(verdict.fault == SDTOOL_ARGUMENT && verdict.argument == SDTOOL_ARGUMENT_MAPPING, "a wrong mapping");
+    expect(is_outcome(&verdict.outcome, SDTOOL_ARGUMENT, 0, SDTOOL_ARGUMENT_MAPPING, 0, 0), "a wrong mapping");
     faulty.request = (struct sdtool_request){.wanted = 0};
     verdict = check_with(&faulty, token, &no_descriptor);
-    expect(verdict.fault == SDTOOL_FAULT_EMPTY_REQUEST, "a request without a right");
+    expect(verdict.outcome.fault == SDTOOL_FAULT_EMPTY_REQUEST, "a request without a right");
     verdict = check_with(q, token, &no_descriptor);
-    expect(verdict.fault == SDTOOL_FAULT_SHORT, "an empty descriptor");
+    expect(verdict.outcome.fault == SDTOOL_FAULT_SHORT, "an empty descriptor");
 }
 
 static void unread_tokens(const struct question *q, size_t size)
@@ -1136,7 +1135,7 @@ static void arguments_of_sids(void)
         expect_call(&from_text, SDTOOL_FAULT_ALIAS, 0, "no alias");
     }
     expect(sdtool_sid_size(NULL, 0) == 0, "the size of no bytes");
-    expect(sdtool_parts(NULL, 0).fault == SDTOOL_FAULT_SHORT, "the parts of no bytes");
+    expect(sdtool_parts(NULL, 0).outcome.fault == SDTOOL_FAULT_SHORT, "the parts of no bytes");
     struct sdtool_ace ace = {0};
     expect(!sdtool_next_ace(NULL, 0, &ace) && ace.fault == SDTOOL_FAULT_ACL, "an ACE of no bytes");
     for (int i = 0; i < WRONG_SIDS; i++)
@@ -1156,7 +1155,7 @@ static void arguments_of_many(void)
 
     wrong_sids(sids);
     for (int i = 0; i < WRONG_SIDS; i++) {
-        struct question q = {sids[i], two, short_guid, sids[i], {.wanted = 0, .mapping = 3}};
+        struct question q = {sids[i], two, short_guid, sids[i], {.asker = {.mapping = 3}}};
 
         try_many(&q, &one, 1, 1, SDTOOL_ARGUMENT, SDTOOL_ARGUMENT_ENTRIES, 0, 0);
         q.entries = zero;
@@ -1164,7 +1163,7 @@ static void arguments_of_many(void)
         try_many(&q, &one, 1, 1, SDTOOL_ARGUMENT, SDTOOL_ARGUMENT_SIDS, i == 1, 0);
         q.sids = sid;
         try_many(&q, &one, 1, 1, SDTOOL_ARGUMENT, SDTOOL_ARGUMENT_MAPPING, 0, 0);
-        q.request.mapping = SDTOOL_MAPPING_DS;
+        q.request.asker.mapping = SDTOOL_MAPPING_DS;
         try_many(&q, &one, 1, 1, SDTOOL_ARGUMENT, SDTOOL_ARGUMENT_OBJECT, 0, 0);
         q.object = nothing;
         try_many(&q, &one, 1, 1, SDTOOL_ARGUMENT, SDTOOL_ARGUMENT_PRINCIPAL_SELF, 0, 0);
@@ -1200,18 +1199,57 @@ static void wrong_state(const struct sdtool_new_ace *ace, uint32_t state)
 
 static void wrong_mapping(const struct question *right, const struct token *token, uint32_t mapping)
 {
-    static const struct sdtool_verdict expected = {.fault = SDTOOL_ARGUMENT, .argument = SDTOOL_ARGUMENT_MAPPING};
+    static const struct sdtool_verdict expected = {
+        .outcome = {.fault = SDTOOL_ARGUMENT, .argument = SDTOOL_ARGUMENT_MAPPING}};
     uint8_t empty[20] = {1, 0, 0, 0x80};
     struct sdtool_bytes one = {empty, sizeof empty};
     struct question q = *right;
     struct sdtool_verdict verdict;
 
-    q.request.mapping = mapping;
+    q.request.asker.mapping = mapping;
     try_many(&q, &one, 1, 1, SDTOOL_ARGUMENT, SDTOOL_ARGUMENT_MAPPING, 0, 0);
     verdict = check(&q, &one);
     expect(are_same(&verdict, &expected), "a mapping that is too high");
     verdict = check_with(&q, token, &one);
     expect(are_same(&verdict, &expected), "a mapping that is too high, with a token");
+}
+
+/* Each bit without a meaning is refused, of who asks and of the request, behind the mapping and before the object. */
+static void wrong_options(const struct question *right, const struct token *token)
+{
+    static const struct sdtool_verdict expected = {
+        .outcome = {.fault = SDTOOL_ARGUMENT, .argument = SDTOOL_ARGUMENT_OPTIONS}};
+    uint8_t empty[20] = {1, 0, 0, 0x80};
+    struct sdtool_bytes one = {empty, sizeof empty};
+
+    for (int at = 0; at < 64; at++) {
+        uint32_t bit = 1u << (at % 32), known = at < 32 ? 7 : SDTOOL_MAXIMUM;
+        struct question q = *right;
+        struct sdtool_reason told[SDTOOL_RIGHTS];
+        uint32_t *options = at < 32 ? &q.request.asker.options : &q.request.options;
+        struct sdtool_verdict verdict, with;
+        bool is_known = (bit & known) != 0;
+
+        *options = bit | (at % 2 == 0 ? known : 0);
+        verdict = check(&q, &one);
+        with = check_with(&q, token, &one);
+        expect((verdict.outcome.fault == SDTOOL_OK) == is_known, "an option without a meaning");
+        expect(are_same(&verdict, &with), "an option with a token");
+        expect(is_known || are_same(&verdict, &expected), "another fault of an option");
+        try_many(&q, &one, 1, 1, is_known ? SDTOOL_OK : SDTOOL_ARGUMENT, is_known ? 0 : SDTOOL_ARGUMENT_OPTIONS, 0,
+                 is_known ? 1 : 0);
+        struct sdtool_outcome o = sdtool_reasons_with(one.bytes, one.size, token->words, token->count, NULL, 0, NULL, 0,
+                                                      &q.request.asker, told);
+        expect(o.fault == (is_known || at >= 32 ? SDTOOL_OK : SDTOOL_ARGUMENT), "an option of who asks for reasons");
+        if (is_known)
+            continue;
+        q.object = (struct bytes){(uint8_t *)"", 1};
+        verdict = check(&q, &one);
+        expect(are_same(&verdict, &expected), "an option behind the object");
+        q.request.asker.mapping = 3;
+        verdict = check(&q, &one);
+        expect(verdict.outcome.argument == SDTOOL_ARGUMENT_MAPPING, "an option before the mapping");
+    }
 }
 
 /* Numbers whose low 8, 16 or 24 bits are a right number: nothing may cut them. */
@@ -1224,6 +1262,7 @@ static void numbers_too_high(void)
     struct sdtool_outcome o = read_token(&q, &token);
 
     expect(is_outcome(&o, SDTOOL_OK, 0, 0, 0, token.count), "a token of one SID");
+    wrong_options(&q, &token);
     for (uint32_t high = 256; high != 0; high <<= 8) {
         for (uint32_t low = 0; low <= 2; low++) {
             wrong_state(&ace, high + low);
@@ -1270,7 +1309,7 @@ static void large(void)
 
     expect(is_outcome(&o, SDTOOL_OK, 0, 0, 0, 20 + 2 * LONG_SID + 2 * (LARGEST_ACL - 3)), "the largest ACLs");
     struct sdtool_contents contents = sdtool_parts(answer.cells, answer.size);
-    expect(contents.fault == SDTOOL_OK && contents.dacl.place.size == LARGEST_ACL - 3
+    expect(contents.outcome.fault == SDTOOL_OK && contents.dacl.place.size == LARGEST_ACL - 3
                && contents.dacl.ace_count == most.ace_count,
            "the parts of the largest ACLs");
     free(answer.cells);
@@ -1358,7 +1397,7 @@ static void many_descriptors(void)
     struct sdtool_outcome o = check_many(&q, descriptors, DESCRIPTORS, verdicts, DESCRIPTORS);
     expect(is_outcome(&o, SDTOOL_OK, 0, 0, 0, DESCRIPTORS), "the outcome of 100,000 checks");
     for (size_t i = 0; i < DESCRIPTORS; i++)
-        are_right = are_right && verdicts[i].fault == SDTOOL_OK && verdicts[i].mask == 1
+        are_right = are_right && verdicts[i].outcome.fault == SDTOOL_OK && verdicts[i].mask == 1
                     && verdicts[i].granted == (i % 2 == 0);
     expect(are_right, "one of 100,000 verdicts");
     free(descriptors);
@@ -1405,7 +1444,7 @@ static void answer_all(char **words)
                          spelled(words[3], strlen(words[3])),
                          spelled(words[4], strlen(words[4])),
                          spelled(words[5], strlen(words[5])),
-                         {0}};
+                         {.wanted = 0}};
     unsigned long flags = strtoul(words[8], NULL, 10);
     struct sdtool_bytes *descriptors = NULL;
     size_t count = 0, room = 0;
@@ -1414,13 +1453,13 @@ static void answer_all(char **words)
     ssize_t got;
 
     q.request = (struct sdtool_request){
+        .asker = {.mapping = (uint32_t)strtoul(words[7], NULL, 10),
+                  .level = (uint32_t)strtoul(words[9], NULL, 10),
+                  .options = (strcmp(words[9], "-") != 0 ? SDTOOL_HAS_LEVEL : 0)
+                             | ((flags & 2) != 0 ? SDTOOL_SECURITY : 0)
+                             | ((flags & 4) != 0 ? SDTOOL_TAKE_OWNERSHIP : 0)},
         .wanted = (uint32_t)strtoul(words[6], NULL, 10),
-        .mapping = (uint32_t)strtoul(words[7], NULL, 10),
-        .level = (uint32_t)strtoul(words[9], NULL, 10),
-        .has_level = strcmp(words[9], "-") != 0,
-        .maximum = (flags & 1) != 0,
-        .security = (flags & 2) != 0,
-        .take_ownership = (flags & 4) != 0,
+        .options = (flags & 1) != 0 ? SDTOOL_MAXIMUM : 0,
     };
     while ((got = getline(&line, &line_room, stdin)) > 0) {
         struct bytes in = spelled(line, (size_t)got - (line[got - 1] == '\n'));

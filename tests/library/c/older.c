@@ -65,7 +65,7 @@ static void print_fault(const char *name)
 int main(void)
 {
     static const uint8_t entries[] = {SDTOOL_ENABLED, 7};
-    struct sdtool_request request = {.wanted = 0x120089, .mapping = SDTOOL_MAPPING_FILE};
+    struct sdtool_request request = {.asker = {.mapping = SDTOOL_MAPPING_FILE}, .wanted = 0x120089};
     uint8_t both[sizeof everyone + sizeof admins];
     size_t size;
 
@@ -87,9 +87,11 @@ int main(void)
                                 SDTOOL_KIND_CONTAINER, SDTOOL_MAPPING_FILE, other, sizeof other));
     print_hex(other, outcome.value.length);
     CALL(verdict, sdtool_check(bytes, size, both, sizeof everyone, entries, 1, NULL, 0, NULL, 0, &request));
-    printf("%u %d 0x%08x\n", (unsigned)verdict.value.fault, verdict.value.granted, (unsigned)verdict.value.mask);
+    printf("%u %d 0x%08x\n", (unsigned)verdict.value.outcome.fault, verdict.value.granted,
+           (unsigned)verdict.value.mask);
     CALL(verdict, sdtool_check(bytes, size, both, sizeof both, entries, 2, NULL, 0, NULL, 0, &request));
-    printf("%u %u %zu\n", (unsigned)verdict.value.fault, (unsigned)verdict.value.argument, verdict.value.entry);
+    printf("%u %u %zu\n", (unsigned)verdict.value.outcome.fault, (unsigned)verdict.value.outcome.argument,
+           verdict.value.outcome.entry);
     CALL(ending, sdtool_run((const uint8_t *)"convert\0--from\0sddl", 20, (const uint8_t *)"D:\nzz\n", 6, text,
                             sizeof text, message, sizeof message));
     printf("%u %zu\n%.*s", (unsigned)ending.value.status, ending.value.message_length, (int)ending.value.length, text);

@@ -41,7 +41,7 @@ static size_t read_hex(uint8_t *to)
 
 static uint32_t check(void)
 {
-    return sdtool_check_with(descriptor, size, token, token_words, NULL, 0, NULL, 0, &request).fault;
+    return sdtool_check_with(descriptor, size, token, token_words, NULL, 0, NULL, 0, &request).outcome.fault;
 }
 
 static uint32_t reasons(void)
@@ -86,8 +86,9 @@ int main(void)
         }
         if (scanf("%x", &level) != 1 || getchar() != '\n')
             return 2;
-        request.has_level = asker.has_level = level != 0;
-        request.level = asker.level = level;
+        asker.options = level != 0 ? SDTOOL_HAS_LEVEL : 0;
+        asker.level = level;
+        request.asker = asker;
         token_words = SDTOOL_TOKEN_WORDS(count);
         if (sdtool_token_read(sids, sids_size, entries, count, token, token_words).fault != SDTOOL_OK)
             return 2;

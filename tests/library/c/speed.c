@@ -32,7 +32,7 @@ static uint32_t to_sddl(void)
 static uint32_t check(void)
 {
     return sdtool_check(descriptor, size, users, sizeof users, entries, sizeof entries, NULL, 0, NULL, 0, &request)
-        .fault;
+        .outcome.fault;
 }
 
 static double time_of(uint32_t (*call)(void), long rounds)

@@ -3,6 +3,13 @@
 // translated is seen.
 export const GERMAN = {
     "en": "de",
+    "After the change: {sentence}": "Nach der Änderung: {sentence}",
+    "Before: {sentence}.": "Vorher: {sentence}.",
+    "Nothing is changed yet.": "Noch ist nichts geändert.",
+    "Take {aces} away": "{aces} wegnehmen",
+    "{aces} taken away.": "{aces} weggenommen.",
+    "gains {rights}": "gewinnt: {rights}",
+    "loses {rights}": "verliert: {rights}",
     "this": "das",
     "this folder": "diesen Ordner",
     "this file": "diese Datei",

@@ -4,7 +4,8 @@ import {descriptorsIn} from "../../../web/clipboard.mjs";
 import {placeOf, rangeIn} from "../../../web/faults.mjs";
 import {listingIn} from "../../../web/icacls.mjs";
 import {kindIn} from "../../../web/kinds.mjs";
-import {namesOfReport, ownNames, visible} from "../../../web/naming.mjs";
+import {namesIn} from "../../../web/name_lists.mjs";
+import {namesOfReport, visible} from "../../../web/naming.mjs";
 import {Report} from "../../../web/report.mjs";
 import {writtenAces} from "../../../web/scanning.mjs";
 import {addressOf, takeAddress} from "../../../web/address.mjs";
@@ -31,7 +32,7 @@ export const READERS = {
     "a text as hex": (text) => descriptorsIn(text, "hex"),
     "a listing": (text) => listingIn(text),
     "the kind of an object": (text) => kindIn(text),
-    "names of SIDs": (text) => ownNames(text),
+    "names of SIDs": (text) => namesIn(text),
     "characters that don't show": (text) => visible(text),
     "a token": (text) => readToken(REFUSING, text, ""),
     "a token of SIDs": (text) => readToken(accepting(), text, ""),

@@ -39,7 +39,9 @@ function slowest(pattern) {
 }
 
 test("no pattern is slow", () => {
-    const all = SOURCES.flatMap(([file, source]) => [...source.matchAll(PATTERN)].map(
+    // windows.mjs has texts alone, of which the hints are patterns.
+    const written = SOURCES.filter(([file]) => file !== "windows.mjs");
+    const all = written.flatMap(([file, source]) => [...source.matchAll(PATTERN)].map(
                                     ([whole, text, flags]) => ({file, whole, pattern: new RegExp(text, flags)})));
     const hints = AROUND.flatMap(({patterns}) => patterns)
                       .map((pattern) => ({file: "hints.toml", whole: String(pattern), pattern}));

@@ -7,7 +7,8 @@ import {readToken} from "../../../web/tokens.mjs";
 import {descriptorsIn, straysIn} from "../../../web/clipboard.mjs";
 import {placeOf} from "../../../web/faults.mjs";
 import {descriptorOf} from "../../../web/library.mjs";
-import {nameOf, namesOfReport, ownNames, whereOf} from "../../../web/naming.mjs";
+import {MOST_NAMES, namesIn} from "../../../web/name_lists.mjs";
+import {nameOf, namesOfReport, whereOf} from "../../../web/naming.mjs";
 import {Report} from "../../../web/report.mjs";
 import {addressOf, takeAddress} from "../../../web/address.mjs";
 import {commandLine} from "../../../web/command.mjs";
@@ -150,7 +151,8 @@ test("each field of an address takes so many characters, and what is longer is l
 
 test("a name that would fill the page is cut, and this is shown", () => {
     const name = "x".repeat(500);
-    assert.deepEqual([...ownNames(`S-1-1-0 ${name}\nS-1-1-1 ${name}y`).values()], [name, `${name} ..`]);
+    assert.deepEqual(
+        [...namesIn(`S-1-5-21-1-2-3-1 ${name}\nS-1-5-21-1-2-3-2 ${name}y`).names.values()], [name, `${name} ..`]);
     const [told] = namesOfReport([["S-1-5-21-1-2-3-1001", `${name}y`]]).values();
     assert.ok(told.startsWith(`${name} .. (`), told);
 });
@@ -172,11 +174,89 @@ test("a command line has no character that does not show, and a shell reads it a
     assert.doesNotMatch(commandLine(state, {form: "sddl", line: "D:"}, null), /\p{Cc}/u);
 });
 
-test("names of the user", () => {
-    const names = ownNames(
-        "S-1-5-21-1-2-3-1001 Ann Lee \r\ns-1-1-0 = ,: All\nS-1-1-1\nS-1-1-2 \nS-1-1-3,\u202ex\n  S-1-1-4;b = c");
-    assert.deepEqual([...names],
-        [["S-1-5-21-1-2-3-1001", "Ann Lee"], ["S-1-1-0", "All"], ["S-1-1-3", "\\u{202e}x"], ["S-1-1-4", "b = c"]]);
+// Names as people have them. Get-ADUser prints a list, a table or CSV, ldifde and ldapsearch print SIDs in base64.
+const DOMAIN = "S-1-5-21-1-2-3";
+const OBJECT_SID = "AQUAAAAAAAUVAAAAAQAAAAIAAAADAAAA6QMAAA=="; // of account 1001
+const LIST = `
+DistinguishedName : CN=Ann Lee,OU=People,DC=example,DC=com
+Enabled           : True
+Name              : Ann Lee
+ObjectClass       : user
+SamAccountName    : ann
+SID               : ${DOMAIN}-1001
+
+Description       : x
+                    SID               : ${DOMAIN}-1009
+SID               : ${DOMAIN}-1002
+SamAccountName    : bob
+`;
+const TABLE = `
+Name       SamAccountName SID
+----       -------------- ---
+Ann Lee    ann            ${DOMAIN}-1001
+\u738b \u5c0f\u660e       wang           ${DOMAIN}-1003
+Gone       gone           S-1-5-21-1-2...
+`;
+const CSV = `#TYPE Microsoft.ActiveDirectory.Management.ADUser
+"DistinguishedName","Description","Name","SID"
+"CN=Ann","first
+x,""y"",${DOMAIN}-1009
+z","Ann ""A"" Lee","${DOMAIN}-1001"
+"CN=No","","","${DOMAIN}-1002"
+"CN=Bob","","","S-1-5-21-1-2..."
+`;
+const LDIF = `dn: CN=Ann Lee,DC=example,DC=com
+objectClass: user
+cn:: QW5uIEzDqWU=
+objectSid:: ${OBJECT_SID.slice(0, 20)}
+ ${OBJECT_SID.slice(20)}
+
+dn: CN=Bob,DC=exam
+ ple,DC=com
+objectSid: ${DOMAIN}-1002
+
+dn: OU=People,DC=example,DC=com
+
+dn: CN=No,DC=example,DC=com
+objectSid:: AQIAAA==
+`;
+const NAME_LISTS = [
+    [
+        `${DOMAIN}-1001 Ann Lee \r\ns-1-5-21-9-9-9-7 = ,: All\n${DOMAIN}-1\n${DOMAIN}-2 \n${DOMAIN}-3,\u202ex\n  ${
+            DOMAIN}-4;b = c`,
+        {"1001": "Ann Lee", "S-1-5-21-9-9-9-7": "All", "3": "\\u{202e}x", "4": "b = c"}, [0, 2]
+    ],
+    [`"${DOMAIN}-1001","Ann ""A"", Lee"\n${DOMAIN}-1002\tBob`, {"1001": "Ann \"A\", Lee", "1002": "Bob"}, [0, 0]],
+    [LIST, {"1001": "Ann Lee", "1002": "bob"}, [0, 0]],
+    [LIST.replaceAll("\n", "\r\n"), {"1001": "Ann Lee", "1002": "bob"}, [0, 0]],
+    [TABLE, {"1001": "Ann Lee", "1003": "\u738b \u5c0f\u660e"}, [0, 1]],
+    [CSV, {"1001": "Ann \"A\" Lee", "1002": "CN=No"}, [0, 1]],
+    [`\uFEFFsid;name\n${DOMAIN}-1001;Ann\n`, {"1001": "Ann"}, [0, 0]],
+    [`SamAccountName\tSID\nann\t${DOMAIN}-1001\n`, {"1001": "ann"}, [0, 0]],
+    [LDIF, {"1001": "Ann L\u00e9e", "1002": "CN=Bob,DC=example,DC=com"}, [0, 1]],
+    // Windows' own are never replaced, not even those of a domain.
+    [`S-1-1-0 Nobody\nS-1-5-32-545,x\n${DOMAIN}-512 y\n${DOMAIN}-1001 Ann`, {"1001": "Ann"}, [3, 0]],
+    [`SID,Name\nS-1-5-18,Guest\n${DOMAIN}-500,x`, {}, [2, 0]],
+    ["S-1-12-1-5-6-7-8 Ann", {"S-1-12-1-5-6-7-8": "Ann"}, [0, 0]], ["", {}, [0, 0]],
+    [`dn:cn=x\nobjectSid::${OBJECT_SID}\ncn:Ann`, {"1001": "Ann"}, [0, 0]], ["dn: x", {}, [0, 0]],
+    ["SID,Name", {}, [0, 0]]
+];
+
+test("names of the user, from lists of people's programs", () => {
+    for (const [text, expected, counts] of NAME_LISTS) {
+        const {names, known, unread, left} = namesIn(text);
+        const wanted =
+            Object.entries(expected).map(([sid, name]) => [sid.startsWith("S") ? sid : `${DOMAIN}-${sid}`, name]);
+        assert.deepEqual([[...names].sort(), known, unread, left], [wanted.sort(), ...counts, 0], text);
+    }
+    const many = Array.from({length: MOST_NAMES + 7}, (_, at) => `${DOMAIN}-${1000 + at} a${at}`).join("\n");
+    const {names, left} = namesIn(`${many}\n${DOMAIN}-1000 again`);
+    assert.deepEqual([names.size, left, names.get(`${DOMAIN}-1000`)], [MOST_NAMES, 7, "again"]);
+    for (const name of ["__proto__", "constructor", "toString"]) {
+        assert.deepEqual(
+            [...namesIn(`${name}: x\nSID: ${DOMAIN}-1001\nname: ${name}`).names], [[`${DOMAIN}-1001`, name]]);
+        assert.deepEqual([...namesIn(`SID,${name},name\n${DOMAIN}-1001,x,y`).names], [[`${DOMAIN}-1001`, "y"]]);
+    }
 });
 
 test("names of a report are told as its own, and never in the place of those of Windows", () => {
@@ -188,7 +268,7 @@ test("names of a report are told as its own, and never in the place of those of 
         assert.equal(nameOf(sid, names), nameOf(sid, new Map()));
     }
     assert.equal(nameOf(account, names), "BUILTIN\\Administrators\\u{202e} (a name of the report)");
-    assert.equal(nameOf(account, new Map([...names, ...ownNames(`${account} Ann`)])), "Ann");
+    assert.equal(nameOf(account, new Map([...names, ...namesIn(`${account} Ann`).names])), "Ann");
     assert.equal(nameOf("S-1-1-0", namesOfReport([[account, "x\nS-1-1-0 BUILTIN\\Administrators"]])), "Everyone");
 });
 

@@ -138,3 +138,10 @@ test("SIDs and aliases behind a listing count, and a line that has a broken SID 
     assert.equal(read(`"BUILTIN\\Users","Alias","${USERS}","${ENABLED}",BA`).faults.length, 1);
     assert.equal(read(`${listing("table", "user")}S-1-1-0G:BA`).faults.length, 1);
 });
+
+test("a level that no token has is none", () => {
+    for (const level of ["4294967296", "9".repeat(400)]) {
+        const {level: found, entries} = read(`"a\\b","S-1-5-7"\r\n"x","Label","S-1-16-${level}","${ENABLED}"\r\n`);
+        assert.deepEqual([found, entries.some(({sid}) => sid === `S-1-16-${level}`)], [null, true]);
+    }
+});

@@ -198,6 +198,42 @@ function edit(line) {
     }
 }
 
+// A call of a text of a part, with what it reads in hex, as ../../library/c/texts.c prints it.
+const ARGUMENT_NUMBERS = {
+    domain: 1,
+    ace: 18,
+    flags: 19,
+    guid: 20
+};
+const ascii = (data) => Buffer.from(data).toString("latin1");
+const numberIn = (data) => data.reduceRight((found, byte) => found * 256 + byte, 0);
+const ofDomain = (data) => (data.length > 0 ? {domain: data} : {});
+const TEXTS = {
+    ace_from_text: (first, second) => sdtool.aceFromText(ascii(first), ofDomain(second)),
+    ace_to_text: (first, second) => sdtool.aceToText(first, ofDomain(second)),
+    ace_to_numbers: (first, second) => sdtool.aceToText(first, {...ofDomain(second), numeric: true}),
+    ace_read: (first) => sdtool.aceRead(first),
+    rights_from_text: (first) => sdtool.rightsFromText(ascii(first)),
+    rights_to_text: (first, second) => sdtool.rightsToText(numberIn(second), {label: first.length > 0}),
+    flags_from_text: (first) => sdtool.flagsFromText(ascii(first)),
+    flags_to_text: (_, second) => sdtool.flagsToText(numberIn(second)),
+    guid_from_text: (first) => sdtool.guidFromText(ascii(first)),
+    guid_to_text: (first) => sdtool.guidToText(first),
+};
+
+function text(line) {
+    const [call, ...inputs] = line.split(" ");
+    try {
+        const found = TEXTS[call](...inputs.map(bytes));
+        if (typeof found === "number") return `0 0 ${found} \n`;
+        return `0 0 ${found.length} ${hex(typeof found === "string" ? Buffer.from(found, "latin1") : found)}\n`;
+    } catch (fault) {
+        if (fault instanceof ArgumentFault) return `70 ${ARGUMENT_NUMBERS[fault.argument]} 0 \n`;
+        if (!(fault instanceof Fault)) throw fault;
+        return `${fault.number} 0 0 \n`;
+    }
+}
+
 const OF_ALL = {
     many,
     with: withToken
@@ -221,6 +257,7 @@ const JOBS = {
     from_text: (line) => `${hex(sdtool.sidFromText(line, domain))}\n`,
     to_text: (line) => `${sdtool.sidToText(bytes(line), {...domain, ...numeric})}\n`,
     size: (line) => `${sdtool.sidSize(bytes(line))}\n`,
+    text,
 };
 
 // A fault as ../../library/c/calls.c prints it. The number of an argument is told by its name, so only a test of one

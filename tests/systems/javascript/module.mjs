@@ -420,6 +420,39 @@ add(sdtool.sidFromText("BA").length === 16 &&
         sdtool.sidSize(new Uint8Array(0)) === 0 && sdtool.sidSize(twice) === 12,
     "SIDs");
 
+// Texts of parts, and their faults.
+const aced = sdtool.aceFromText("(OA;CI;CR;00000001-0002-0003-0405-060708090a0b;;DA)", {domain: "S-1-5-21-1-2-3"});
+const read = sdtool.aceRead(Uint8Array.from([...aced, 1, 2]));
+add(read.size === aced.length && read.kind === 5 && read.flags === 2 && read.mask === 0x100 &&
+        sdtool.guidToText(read.objectType) === "00000001-0002-0003-0405-060708090a0b" &&
+        read.inheritedObjectType === null && sdtool.sidToText(read.sid) === "S-1-5-21-1-2-3-512",
+    `the places of an ACE: ${JSON.stringify(read)}`);
+add(sdtool.aceToText(aced, {domain: "S-1-5-21-1-2-3"}) === "(OA;CI;CR;00000001-0002-0003-0405-060708090a0b;;DA)" &&
+        sdtool.aceToText(sdtool.aceFromText("(A;;;;;WD) "), {numeric: true}) === "(A;;0x0;;;S-1-1-0)",
+    "the text of an ACE");
+add(sdtool.rightsFromText("frwd") === 0x160089 && sdtool.rightsFromText("") === 0 &&
+        sdtool.rightsFromText("010") === 8 && sdtool.rightsToText(0xffffffff) === "0xffffffff" &&
+        sdtool.rightsToText(1, {label: true}) === "NW" && sdtool.rightsToText(1) === "CC",
+    "rights");
+add(sdtool.flagsFromText("OICI") === 3 && sdtool.flagsFromText("") === 0 &&
+        sdtool.flagsToText(0xdf) === "OICINPIOIDSAFA",
+    "flags");
+add(Buffer.from(sdtool.guidFromText("00000001-0002-0003-0405-060708090A0B")).toString("hex") ===
+        "01000000020003000405060708090a0b",
+    "a GUID");
+addFault(() => sdtool.rightsFromText("XX"), 27, "rights", null, null, "error 27 rights, at byte 0, rights");
+addFault(() => sdtool.flagsFromText("O"), 26, "flags", null, null, "error 26 flags, at byte 0, flags");
+addFault(() => sdtool.guidFromText(""), 28, "guid", null, null, "error 28 guid, at byte 0");
+addFault(
+    () => sdtool.aceFromText("(A;;FA;;;Everyone)"), 25, "sid-form", null, null, "error 25 sid-form, at byte 9, SID");
+addFault(() => sdtool.aceFromText("(A;;FA;;;WD)(A;;FA;;;WD)"), 20, "shape", null, null, "error 20 shape");
+addFault(() => sdtool.aceFromText("A"), 20, "shape", null, null, "error 20 shape");
+addFault(() => sdtool.aceRead(aced.slice(0, 15)), 11, "ace-size", null, null, "error 11 ace-size");
+addRefused("bytes behind an ACE", () => sdtool.aceToText(Uint8Array.from([...aced, 0])), "ace");
+addRefused("the flag 0x20", () => sdtool.flagsToText(0x20), "flags");
+addRefused("a GUID of 15 bytes", () => sdtool.guidToText(new Uint8Array(15)), "guid");
+addRefused("a domain that is none", () => sdtool.aceFromText("(A;;FA;;;WD)", {domain: new Uint8Array(1)}), "domain");
+
 // Many checks: a fault in its place, batches, and no descriptor.
 const yes = sdtool.fromSddl("D:(A;;FR;;;BU)"), no = sdtool.fromSddl("D:"), short = new Uint8Array(5);
 for (const count of [1, 2, 1023, 1024, 1025, 5000]) {

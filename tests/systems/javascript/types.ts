@@ -7,7 +7,10 @@ async function all(): Promise<void> {
     const sdtool = await load(canLoad ? new URL("sdtool.wasm", "file:///") : undefined);
     const users: Uint8Array = sdtool.sidFromText("BU", {domain: "S-1-5-21-1-2-3"});
     const text: string = sdtool.sidToText(users, {domain: users, numeric: true});
-    const size: number = sdtool.sidSize(users);
+    const size: number = sdtool.sidSize(users) + sdtool.rightsFromText("FA") + sdtool.flagsFromText("OI") +
+        sdtool.aceRead(sdtool.aceFromText("(A;;FA;;;WD)", {domain: users})).size;
+    console.log(sdtool.aceToText(users, {numeric: true}), sdtool.rightsToText(1, {label: true}), sdtool.flagsToText(1),
+        sdtool.guidToText(sdtool.guidFromText("00000001-0002-0003-0405-060708090a0b")));
     const descriptor: Uint8Array = sdtool.fromSddl("D:", {domain: users});
     const verdict: Verdict =
         sdtool.check(descriptor, [users, "WD"], {denyOnly: ["BA"], wanted: 1, level: null, mapping: "ds"});

@@ -25,12 +25,7 @@ pub record HasRow (k : AceKind) : Type 0 where
 pub each_has_row : (k : AceKind) → HasRow k
 unfolding kind_of kind_code kind_named kind_letters kind_entry
 each_has_row kinds.Allow = record { row = refl; code = refl; letters = refl }
-each_has_row kinds.Deny = record { row = refl; code = refl; letters = refl }
-each_has_row kinds.Audit = record { row = refl; code = refl; letters = refl }
-each_has_row kinds.ObjectAllow = record { row = refl; code = refl; letters = refl }
-each_has_row kinds.ObjectDeny = record { row = refl; code = refl; letters = refl }
-each_has_row kinds.ObjectAudit = record { row = refl; code = refl; letters = refl }
-each_has_row kinds.Label = record { row = refl; code = refl; letters = refl }
+each_has_row _ = record { row = refl; code = refl; letters = refl }
 
 -- a test that the letters of each row pass
 pub letters-pass : (test : List ℕ → Bool) → list_all (λ e. test (letters_of e)) KINDS ≡ true → (k : AceKind)

@@ -359,7 +359,7 @@ sections-finished domain ss shaped once =
     by_said (Ok xs) e = all-finished xs (never-twice domain ss xs e ∙ once)
     by_said (Err f) e = refl
 
-line-shaped : (text : List ℕ) → is_shaped text ≡ true → are_shaped (sections_of text).parts ≡ true
+pub line-shaped : (text : List ℕ) → is_shaped text ≡ true → are_shaped (sections_of text).parts ≡ true
 line-shaped text e =
     (and_parts (list_all is_blank_piece (sections_of text).before) _ (and_parts (is_paired false text) _ e).1).1
 

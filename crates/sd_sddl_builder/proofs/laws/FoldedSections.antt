@@ -17,14 +17,13 @@ use Rattle.sd_builder.specs.Draft.{begun, closed, with_ace, with_acl}
 use Rattle.sd_view.specs.declared.acl_part.AclPart.{AclPart}
 use Rattle.sd_view.specs.declared.acl_part.AclPart.TheVariants as acl
 use Rattle.sd_parts.specs.declared.part.Which.{Which}
-use Rattle.sd_sddl_fields.specs.FieldTexts.{front_reads, kind_reads, object_reads}
+use Rattle.sd_sddl_fields.specs.FieldTexts.{front_reads, kind_reads, object_reads, is_blank}
 use Rattle.sd_sddl_builder.specs.FoldedReading.{Field, FieldsRead, ace_fields, ace_fields_from, ace_of_fields}
 use Rattle.sd_sddl_builder.specs.FoldedReading.{fields_in, fields_of, grown, no_fields, read_fields, take_ace_field}
 use Rattle.sd_sddl_builder.specs.FoldedReading.{take_field, take_front, with_flags, with_owner_or_group, with_sid}
 use Rattle.sd_sddl_builder.specs.FoldedReading.{with_trustee, with_value}
 use Rattle.sd_sddl_builder.specs.Line.{Piece, Section, ace, ace_cuts, aces, are_aces, are_shaped, byte}
 use Rattle.sd_sddl_builder.specs.Line.{cut_at_semicolons, front, has_aces, has_six_fields, is_acl_body, is_body, trim}
-use Rattle.sd_sddl_fields.specs.FieldTexts.{is_blank}
 use Rattle.sd_text.specs.Chains.{and_then}
 use Rattle.sd_sddl_builder.specs.Meaning.{Said, acl_said, ace_reads, body_reads, each, acl_part_reads, field_reads}
 use Rattle.sd_sddl_builder.specs.Meaning.{is_unreadable, section_reads, sid_field_reads, sid_or_fault, sid_said}
@@ -224,7 +223,7 @@ unfoldable pub with_entries : FieldsRead → List AccessControlEntry → FieldsR
 with_entries r [] = r
 with_entries r (e ∷ es) = with_entries (with_read_ace r e) es
 
-abbrev HaveSix : List (List ℕ) → Type 0
+abbrev pub HaveSix : List (List ℕ) → Type 0
 HaveSix texts = AllByRecursion (λ a. has_six_fields a ≡ true) texts
 
 abbrev aces_read : Option SecurityId → List (List ℕ) → Found (List AccessControlEntry)
@@ -299,12 +298,12 @@ module _ (domain : Option SecurityId) (w : Which) (body : List Piece) (r : Field
   acl-read false None = refl
   acl-read false (Some f) = front-read f.flags f.null
 
-aces-six : (body : List Piece) → are_aces body ≡ true → HaveSix (aces body)
+pub aces-six : (body : List Piece) → are_aces body ≡ true → HaveSix (aces body)
 aces-six [] h = tt
 aces-six (byte b ∷ ps) h = aces-six ps (and_parts (is_blank b) _ h).1
 aces-six (ace a ∷ ps) h = let parts = and_parts (has_six_fields a) _ h in (parts.0, aces-six ps parts.1)
 
-acl-six : (body : List Piece) → is_acl_body body ≡ true → HaveSix (aces body)
+pub acl-six : (body : List Piece) → is_acl_body body ≡ true → HaveSix (aces body)
 acl-six [] h = tt
 acl-six (byte b ∷ ps) h = acl-six ps (and_parts _ (is_acl_body ps) h).1
 acl-six (ace a ∷ ps) h = aces-six (ace a ∷ ps) h

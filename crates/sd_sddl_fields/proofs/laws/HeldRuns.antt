@@ -3,23 +3,7 @@ use Rattle.std.proofs.Common.{◌≡◌, ℕ, ◌+◌, ◌<◌, ◌≤◌, Bool,
 use Rattle.std.proofs.Common.{◌∙◌, arith, append-nil, append_assoc, length-append}
 use Rattle.std.specs.Prelude.{◌==◌, if◌then◌else◌}
 use Rattle.std.proofs.lemmas.Bool.Decides.{nat_tests}
-use Rattle.sd_sddl_fields.specs.Held.{Held, broken_text, held_run, held_with}
-
-with_broken : (h : Held) (b : ℕ) → h.broken ≡ true → held_with h b ≡ broken_text
-with_broken h b e = rw e refl
-
-with_gap : (h : Held) (b : ℕ) → h.gap ≡ true → held_with h b ≡ broken_text
-with_gap h b e = by_broken h.broken
-  where
-    by_broken : (x : Bool)
-        → (if x || (h.gap || length h.text == 183) then broken_text else record {
-          text = h.text ++ b ∷ [];
-          gap =
-              false;
-          broken = false;
-        }) ≡ broken_text
-    by_broken true = refl
-    by_broken false = rw e refl
+use Rattle.sd_sddl_fields.specs.Held.{Held, broken_text, held_run}
 
 run-broken : (bs : List ℕ) → held_run broken_text bs ≡ broken_text
 run-broken [] = refl

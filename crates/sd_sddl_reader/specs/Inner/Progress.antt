@@ -8,8 +8,8 @@ use Rattle.sd_sid.specs.Sid.{SecurityId}
 use Rattle.sd_sddl_fields.specs.Held.{Held, held_text, is_plain_text}
 use Rattle.sd_sddl_builder.specs.FoldedReading.{Field, FieldsRead, ace_fields, ace_fields_from, fields_of, read_fields}
 use Rattle.sd_sddl_builder.specs.FoldedReading.{take_field, if_shaped}
-use Rattle.sd_sddl_builder.specs.Line.{Piece, Section, Sections, aces, are_aces, are_shaped, cut_at_semicolons, front}
-use Rattle.sd_sddl_builder.specs.Line.{has_aces, has_twice, head_of, is_acl_body, is_blank_piece, is_paired}
+use Rattle.sd_sddl_builder.specs.Line.{Piece, Sections, aces, are_aces, are_shaped, cut_at_semicolons, front}
+use Rattle.sd_sddl_builder.specs.Line.{has_aces, has_seen, has_twice, head_of, is_acl_body, is_blank_piece, is_paired}
 use Rattle.sd_sddl_builder.specs.Line.{is_sid_body, part_of_head, pieces_from, sections, trim}
 use Rattle.sd_sddl_fields.specs.FieldTexts.{is_blank}
 use Rattle.sd_text.specs.Chains.{and_then}
@@ -82,10 +82,6 @@ is_seen s h = get_part (part_of_head h) s
 
 abbrev pub with_head : Seen → Head → Seen
 with_head s h = set_part (part_of_head h) true s
-
-abbrev pub has_seen : Seen → List Section → Bool
-has_seen seen [] = false
-has_seen seen (s ∷ ss) = is_seen seen s.head || has_seen seen ss
 
 -- the answer to what was read before and to a rest in pieces
 unfoldable pub judged : Option SecurityId → Bool → Bool → Seen → Result FieldsRead SddlFault → State → Held → Bool

@@ -19,9 +19,8 @@ use Rattle.sd_alias.specs.declared.table.DomainRelative.{DomainRelative}
 use Rattle.sd_alias.specs.declared.table.TheConstants.{WELL_KNOWN, DOMAIN_RELATIVE}
 use Rattle.sd_sid.specs.declared.sid_text.SidFault.TheVariants as faults
 use Rattle.sd_alias.specs.Names.{known_named, relative_named}
-use Rattle.sd_sid.specs.SidText.{alias_of, has_form, known_alias, known_sid, letters_read, name_reads}
-use Rattle.sd_sid.specs.SidText.{numbers_read, or_number_fault, cut_at_dashes, relative_alias, same_sid}
-use Rattle.sd_sid.specs.SidText.{sid_in, sid_reads, usable}
+use Rattle.sd_sid.specs.SidText.{alias_of, has_form, known_alias, known_sid, letters_read, name_reads, numbers_read}
+use Rattle.sd_sid.specs.SidText.{or_number_fault, cut_at_dashes, relative_alias, same_sid, sid_in, sid_reads, usable}
 
 -- 1. Tests over the tables.
 

@@ -2,6 +2,7 @@
 no fixed number."""
 import collections
 import contextlib
+import functools
 import itertools
 import re
 from typing import Counter, Dict, Iterable, Iterator, List, Optional, Sequence, Set, Tuple
@@ -33,7 +34,8 @@ class Forest:
     def __init__(self, domain: str, trust: sids.Trust, machines: Machines) -> None:
         self._domain, self._trust, self._machines = domain, trust, machines
         self._parents = Parents(domain)
-        self._heirs: Dict[str, Counter[Inherited]] = {}
+        self._names: Set[int] = set()  # hashes of those that are there
+        self._inherited: Dict[str, Counter[Inherited]] = {}  # by the name above
 
     def read(self, items: Iterable[Item]) -> None:
         """Reads the objects of a source a first time."""
@@ -42,19 +44,26 @@ class Forest:
             self._count(batch)
 
     def _count(self, items: Sequence[Item]) -> None:
-        """Counts the objects below each object that have inherited an ACE."""
+        """Counts the objects directly below each name that have inherited an ACE."""
         for item, found in zip(items, _explained(items, self._domain)):
+            self._names.add(hash(item.name.casefold()))
             inherited = {(ace.sid, ace.object_type) for ace in found.aces if self._is_counted(ace)} if found else ()
-            for above in ldif.objects_above(item.name) if inherited else ():
-                self._heirs.setdefault(above.casefold(), collections.Counter()).update(inherited)
+            if inherited:
+                above = ldif.parent_of(item.name).casefold()
+                self._inherited.setdefault(above, collections.Counter()).update(inherited)
 
     def _is_counted(self, ace: Ace) -> bool:
         return ace.kind in ALLOWS and bool(ace.flags & INHERITED) and not self._trust.has(ace.sid)
 
-    @property
+    @functools.cached_property
     def heirs(self) -> Dict[str, Dict[Inherited, int]]:
-        """How many objects below each object have inherited an ACE."""
-        return {name: dict(counted) for name, counted in self._heirs.items()}
+        """How many objects below each object have inherited an ACE, once all are read."""
+        found: Dict[str, Counter[Inherited]] = {}
+        for name, counted in self._inherited.items():
+            for above in itertools.chain([name], ldif.objects_above(name)):
+                if hash(above) in self._names:
+                    found.setdefault(above, collections.Counter()).update(counted)
+        return {name: dict(counted) for name, counted in found.items()}
 
     def placed(self, items: Iterable[Item]) -> Iterator[Item]:
         """The objects, with what is known of their places."""
@@ -65,7 +74,7 @@ class Forest:
 
     def _place(self, item: Item, found: Optional[Descriptor]) -> Place:
         name, place = item.name.casefold(), place_of(item.place)
-        place = place._replace(heirs=name if name in self._heirs else "")
+        place = place._replace(heirs=name if name in self.heirs else "")
         if found is None:
             return place
         own = place.classes[-1] if place.classes else ""

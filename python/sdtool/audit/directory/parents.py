@@ -4,6 +4,7 @@ from typing import Dict, Iterable, List, Literal, NamedTuple, Optional, Tuple
 
 import sdtool
 from sdtool._windows import CLASSES
+from sdtool.audit.checks import MOST_TYPED
 from sdtool.audit.directory.trails import places_of, read_descriptor
 from sdtool.audit.library import (CONTAINER_INHERIT, DENIES, INHERIT_ONLY, INHERITED, PROTECTED, Ace, Descriptor,
                                   Refusal, explained, mapped)
@@ -65,6 +66,12 @@ def _counts(reach: Dict[_Grant, _Reach], grant: _Grant, where: _Reach) -> bool:
     return reach.get(grant, _NOWHERE).covers(where)
 
 
+def _is_crowded(above: sdtool.SecurityDescriptor) -> bool:
+    """Whether an object may have too many trustees and object types to be asked about, so that it is unknown."""
+    types = {ace.object_type for ace in above.dacl if ace.object_type is not None}
+    return len(types) * len({ace.sid for ace in above.dacl} if types else ()) > MOST_TYPED
+
+
 _NOTHING = _Handed({}, {}, [])
 
 
@@ -120,7 +127,7 @@ class Parents:
     def _derived(self, key: str, of_class: str) -> _Handed:
         """What an object hands on to those of a class below it."""
         above = self._descriptor(key)
-        if above is None or not above.dacl.is_list:
+        if above is None or not above.dacl.is_list or _is_crowded(above):
             return _NOTHING
         try:
             handed = explained(HEX, [above.derive(_NOBODY, _NOBODY, kind="container", mapping=_KIND).bytes.hex()])[0]

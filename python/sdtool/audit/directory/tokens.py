@@ -13,7 +13,7 @@ from sdtool.audit.sources.opening import OpeningFault
 from sdtool.audit.windows.names import Names, meaning_of
 
 _SID = re.compile(r"!?S-1-[0-9]+(?:-[0-9]+)+\Z", re.I)
-_LEVEL = re.compile(r"S-1-16-([0-9]+)\Z", re.I)
+_LEVEL = re.compile(r"S-1-16-([0-9]{1,10})\Z", re.I)
 _FIXED_SID = re.compile(r"\bS-1-[0-9]+(?:-[0-9]+)+\b", re.I)
 _ID = re.compile(r"\s*uid=([0-9]+)")
 # A line of a privilege: in CSV, in a table, or in a list behind a title.

@@ -4,7 +4,7 @@ import collections
 import functools
 import re
 import struct
-from typing import Counter, Iterator, Optional, Set
+from typing import Counter, Dict, Iterator, Optional, Set
 
 from sdtool.audit.sources.binary import end_of
 from sdtool.audit.sources.items import HEX, SDDL, UNREADABLE, Item
@@ -15,6 +15,19 @@ _FIRST_PART = re.compile(r"(?:[^,\\]|\\.)*,", re.S)
 _MOST_KEPT = 1_000  # characters
 _MOST_LEVELS = 200  # of folders; most programs take no path of more than 260 characters
 _BACKSLASH, _SLASH, _EITHER = "\\", "/", "\\/"
+
+
+class _Letters(Dict[int, int]):
+    """Small letters, for capital ones that Windows takes for the same: one for one, so that 'ss' is another folder than
+    '\u00df'."""
+
+    def __missing__(self, code: int) -> int:
+        small = chr(code).lower()
+        self[code] = ord(small) if len(small) == 1 and small.upper() == chr(code) else code
+        return self[code]
+
+
+_SMALL = _Letters()
 
 
 def _parts_at(name: str, kind: str) -> str:
@@ -38,8 +51,8 @@ def _kept_key(name: str, kind: str) -> str:
     marks = _parts_at(name, kind)
     short = name.rstrip(marks) or name
     if marks == _EITHER:
-        return short.casefold().replace("/", "\\")
-    return short.casefold() if marks == _BACKSLASH and marks in short else short
+        return short.translate(_SMALL).replace("/", "\\")
+    return short.translate(_SMALL) if marks == _BACKSLASH and marks in short else short
 
 
 def folder_of(name: str, kind: str) -> str:

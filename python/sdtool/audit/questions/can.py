@@ -94,7 +94,7 @@ class Can:
         if self._token.missing and descriptor.dacl == "list":
             reason, _, advice = self._token.missing.partition(": ")
             return unknown(reason, advice)
-        return without_owner(descriptor, mask, place)
+        return without_owner(descriptor, mask, kind, place)
 
     def _findings(self, got: Got, checks: Checks, at: int, kind: str, mask: int,
                   descriptor: Descriptor) -> Iterator[Finding]:

@@ -166,6 +166,7 @@ class _Case(NamedTuple):
     below: Dict[str, List[Ace]]
     owner: str
     adding: FrozenSet[str] = frozenset()  # of a folder: who gets no right to change its files by what counts here
+    given: Dict[str, _Wanted] = {}  # of those whose ACEs Windows gives to a kind
 
     def adds(self, sid: str, mask: int) -> bool:
         """Whether rights of a trustee that are a finding let it add to a folder, and no more."""
@@ -291,6 +292,7 @@ class Risks:
         # What an ACE that denies takes here, children may get all the same; and a generic right may mean more for them.
         is_denied = any(ace.kind in DENIES for ace in descriptor.aces)
         kept: List[int] = []
+        given: Dict[str, _Wanted] = {}
         filing: Set[str] = set()
         for number, ace in enumerate(descriptor.aces, 1):
             if ace.kind in ALLOWS:
@@ -300,6 +302,7 @@ class Risks:
                     is_told = number in place.handed_on and not (
                         place.classes and self._abilities.needs_class(ace, place.classes))
                     if is_told or sid in place.makers or self._defaults.excuse(ace, kind, place):
+                        given.update({sid: wanted} if ace.decides and not is_directory else {})
                         continue
                     if ace.decides:
                         asked[sid] = wanted
@@ -311,17 +314,27 @@ class Risks:
                         below.setdefault(sid, []).append(ace)
             kept.append(number)
         adding = frozenset(asked.keys() - filing if is_folder(descriptor, kind) else ())
-        case = _Case(place, groups, whole, whole, (), asked, below, self._asked_owner(descriptor, kind, place), adding)
+        owner = self._asked_owner(descriptor, kind, place)
+        case = _Case(place, groups, whole, whole, (), asked, below, owner, adding, given)
+        if given:  # masks of a kind that the library doesn't map are replaced
+            case = case._replace(whole=self._view(views, descriptor, kind, range(1, len(descriptor.aces) + 1)))
+        for sid in given:
+            case.whole.ask(sid)
         return self._asked(views, descriptor, kind, case, kept) if asked or below or case.owner else case
+
+    @staticmethod
+    def _view(views: _Views, descriptor: Descriptor, kind: str, numbers: Sequence[int]) -> _View:
+        """What is left of a descriptor, with masks as a check replaces them."""
+        aces = [descriptor.aces[number - 1] for number in numbers]
+        texts = [ace_text(ace, ace.flags, mapped(ace.mask, kind)) for ace in aces]
+        return views.changed(spelled(descriptor, texts), numbers, [ace for ace in aces if ace.decides])
 
     def _asked(self, views: _Views, descriptor: Descriptor, kind: str, case: _Case, kept: Sequence[int]) -> _Case:
         """Asks the library what a case needs. Of the ACEs those count that are kept, by their numbers."""
         own = case.whole
         children: List[_View] = []
-        aces = [descriptor.aces[number - 1] for number in kept]
         if len(kept) < len(descriptor.aces) or kind in WITHOUT_MAPPING:
-            texts = [ace_text(ace, ace.flags, mapped(ace.mask, kind)) for ace in aces]
-            own = views.changed(spelled(descriptor, texts), kept, [ace for ace in aces if ace.decides])
+            own = self._view(views, descriptor, kind, kept)
         for sid in (*case.here, *case.below, *filter(None, (case.owner,))):
             own.ask(sid)
         if case.below:
@@ -376,6 +389,10 @@ class Risks:
                 is_adding = case.adds(sid, own.mask & wanted.mask)
                 yield from self._of_got(sid, wanted, own, kind, case.place, about, is_adding)
             yield from self._of_below(case, descriptor.aces, kind, where)
+            for sid, wanted in case.given.items():
+                known = case.own.got(sid, wanted.mask) if sid in case.here else Got(0, ())
+                got = _without(case.whole.got(sid, wanted.mask), known)
+                yield from self._of_mask(_GIVEN, sid, got, kind, "", case.whole.why(sid, descriptor.aces))
             yield from self._of_list(descriptor)
         if self._context.names.given:
             yield from self._of_unknown_sids(descriptor)
@@ -506,7 +523,7 @@ class Risks:
                           object_type=object_type)
 
 
-_OWNER = "foreign-owner"
+_OWNER, _GIVEN = "foreign-owner", "given-by-windows"
 
 
 def severity_of(rule: str, kind: str, sid: str) -> str:

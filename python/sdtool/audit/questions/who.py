@@ -79,7 +79,7 @@ class Who:
                 continue
             answer = without_trusted(self._findings(checks, at, trustees, kind, mask), self._listing)
             is_found = answer.status in (FOUND, TRUSTED)
-            answers[at] = answer if is_found else without_owner(trustees.descriptor, mask, place) or answer
+            answers[at] = answer if is_found else without_owner(trustees.descriptor, mask, kind, place) or answer
         return complete(answers)
 
     def _members(self, sid: str) -> Sequence[str]:

@@ -1,7 +1,7 @@
 """What is new, changed or mended since a report that was kept."""
 import json
 import re
-from typing import Any, Dict, Iterable, Iterator, List, NamedTuple, Set, Tuple
+from typing import Any, Callable, Dict, Iterable, Iterator, List, NamedTuple, Set, Tuple, Union
 
 from sdtool.audit.directory.trees import Repeats, is_cut, is_rest, unnamed
 from sdtool.audit.engine import Answered
@@ -12,6 +12,7 @@ from sdtool.audit.store.scratch import Scratch, restored, stored
 
 _SID_AT_END = re.compile(r"\((S-1-[0-9-]+)\)\Z")
 _OF_BASELINES = (NEW, KNOWN, MENDED)
+_GUID = re.compile("[0-9a-f]{8}(?:-[0-9a-f]{4}){3}-[0-9a-f]{12}")
 
 
 class _Old(NamedTuple):
@@ -31,10 +32,18 @@ def _who(trustee: str) -> str:
     return found[1] if found else trustee
 
 
-class Baseline:
-    """The findings of a report that was kept, and which of them came again. gone is how many objects came no more."""
+def _likeness(finding: Union[_Old, Finding], who: str, is_exact: bool) -> Tuple[str, ...]:
+    """What a finding has in common with the same one of another report: the rights and object types if it is exact."""
+    exact = (finding.rights, *_GUID.findall(finding.text)) if is_exact else ()
+    return (finding.rule, who, *exact)
 
-    def __init__(self) -> None:
+
+class Baseline:
+    """The findings of a report that was kept, and which of them came again. gone is how many objects came no more.
+    is_asked says whether a rule and a severity are asked about, so that a finding that isn't there is mended."""
+
+    def __init__(self, is_asked: Callable[[str, str], bool]) -> None:
+        self._is_asked = is_asked
         self._scratch = Scratch()
         self._scratch.database.execute("CREATE TABLE old(id INTEGER PRIMARY KEY, name, nth, source, line, rule, who, "
                                        "trustee, rights, text, severity, seen INTEGER)")
@@ -53,7 +62,7 @@ class Baseline:
             key = unnamed(item)
             nth = repeats.number_of(key)
             for finding in answer.findings:
-                if finding.counts or finding.accepted:
+                if (finding.counts or finding.accepted) and self._is_asked(finding.rule, finding.severity):
                     self._names.add(hash(key))
                     yield (stored(key), nth, stored(item.source), item.line, finding.rule, _who(finding.trustee),
                            finding.trustee, finding.rights, stored(finding.text), finding.severity)
@@ -108,17 +117,20 @@ class Baseline:
         waiting = [finding for finding in answer.findings if finding.counts]
         for is_exact in (True, False):
             rest: List[Finding] = []
+            alike: Dict[Tuple[str, ...], List[_Old]] = {}  # the last one first
+            for one, who in reversed(list(left.items())):
+                alike.setdefault(_likeness(one, who, is_exact), []).append(one)
             for finding in waiting:
-                like = next((one for one, who in left.items() if one.rule == finding.rule
-                             and who == _who(finding.trustee)
-                             and (not is_exact or one.rights == finding.rights)), None)
-                if like is None:
+                found = alike.get(_likeness(finding, _who(finding.trustee), is_exact))
+                if not found:
                     rest.append(finding)
                     continue
+                like = found.pop()
                 left.pop(like)
                 if not is_exact:
                     statuses.append(CHANGED)
-                    was = f"{CHANGED}, was: {like.rights or 'no rights'}"
+                    bound = like.text if like.rights == finding.rights else ""
+                    was = f"{CHANGED}, was: {', '.join(filter(None, (like.rights, bound))) or 'no rights'}"
                     told.append(finding._replace(text=f"{was}; {finding.text}" if finding.text else was))
             waiting = rest
         for finding in waiting:

@@ -186,7 +186,7 @@ def _chosen_column(chosen: str, header: Optional[List[str]], width: int) -> Opti
         titles = [cell.strip().lower() for cell in header]
         if chosen.strip().lower() in titles:
             return titles.index(chosen.strip().lower())
-    return int(chosen) - 1 if chosen.isdigit() and 1 <= int(chosen) <= width else None
+    return int(chosen) - 1 if re.fullmatch("[0-9]{1,9}", chosen) and 1 <= int(chosen) <= width else None
 
 
 def _likely_columns(rows: List[List[str]]) -> List[int]:

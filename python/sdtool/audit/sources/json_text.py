@@ -180,8 +180,9 @@ class _Text:
             except (ValueError, RecursionError) as error:
                 is_damaged = len(self.text) - self.at > _MOST_CHARACTERS or not _may_go_on(error, len(self.text))
                 if is_damaged or not self.more():
-                    raise _Broken(error.msg if isinstance(error, json.JSONDecodeError)
-                                  else "it has too many levels") from error
+                    raise _Broken(error.msg if isinstance(error, json.JSONDecodeError) else
+                                  "it has too many levels" if isinstance(error, RecursionError) else
+                                  "a number has too many digits") from error
                 continue
             # A number may go on in the next part of the text.
             if end == len(self.text) and self.text[end - 1] not in "\"]}" and self.more():
@@ -192,8 +193,9 @@ class _Text:
 
 def _may_go_on(error: Exception, length: int) -> bool:
     """Whether what is no JSON may be some, once more was read."""
-    return (not isinstance(error, json.JSONDecodeError) or error.msg.startswith("Unterminated")
-            or error.pos > length - 20)
+    if not isinstance(error, json.JSONDecodeError):
+        return isinstance(error, RecursionError)
+    return error.msg.startswith("Unterminated") or error.pos > length - 20
 
 
 @functools.lru_cache(maxsize=1_000)

@@ -26,11 +26,11 @@ _NAME = re.compile(r"dn:", re.I)
 _ENTRY_LINE = re.compile(r" ?dn:|version: *[0-9]+\s*\Z", re.I)
 _CONTROL = re.compile(r"(search|result|ref|control|matchedDN|text|pagedresults|# ?pagedresults):", re.I)
 # What AdFind says before entries, whose attributes it marks with >, and behind them.
-_ADFIND = re.compile(r"AdFind V|Using server: |Directory: |Base DN: |([0-9]+) Objects returned\s*\Z")
-_NUMBERED = re.compile(r"# (numResponses|numEntries|numReferences|numPartial|numExtended): ([0-9]+)\s*\Z")
-_RETURNED = re.compile(r"# returned ([0-9]+) records\s*\Z")
+_ADFIND = re.compile(r"AdFind V|Using server: |Directory: |Base DN: |([0-9]{1,18}) Objects returned\s*\Z")
+_NUMBERED = re.compile(r"# (numResponses|numEntries|numReferences|numPartial|numExtended): ([0-9]{1,18})\s*\Z")
+_RETURNED = re.compile(r"# returned ([0-9]{1,18}) records\s*\Z")
 _FIRST_RECORD = re.compile(r"# record [0-9]+\s*\Z")
-_ENTRIES = re.compile(r"# ([0-9]+) (entries|referrals)\s*\Z")
+_ENTRIES = re.compile(r"# ([0-9]{1,18}) (entries|referrals)\s*\Z")
 _LONGEST_CHARACTER = 4  # bytes
 _DUMP = re.compile(r"(?:[A-Za-z0-9][\w;.-]*:)? +(?:NDR|SDDL): struct \w+\s*\Z")
 

@@ -4,21 +4,12 @@ import functools
 import re
 from typing import AbstractSet, Dict, Iterable, List, Sequence
 
-from sdtool._windows import DESCRIPTORS, HINTS
+from sdtool._windows import DESCRIPTORS, HINTS, TITLES
 from sdtool.audit.sources.items import BY_PATH, UNTOLD, Item, item_of
 from sdtool.audit.sources.ldif import place_of_object, unknown_attribute
 
-# In lower case and without blanks, '_' and '-'; the first that is there counts.
-DESCRIPTOR_NAMES = ("sddl", "securitydescriptor", "ntsecuritydescriptor", "descriptor", "sd", "acl",
-                    "securitydescriptorsddl", "sddlstring", "permissionsddl", "channelaccess", "permissions")
-NAME_NAMES = ("path", "fullname", "distinguishedname", "dn", "name", "objectname", "pspath", "object",
-              "file", "filename", "folder", "share", "pschildname", "key", "service", "id", "logname", "taskname",
-              "sharename", "printername", "servicename", "uri")
-# Get-SmbShare has beside a share's name the local path, which several shares may have, or none.
-_OF_SHARES = frozenset({"sharestate", "sharetype", "scopename", "smbinstance", "cachingmode", "folderenumerationmode",
-                        "encryptdata",
-                        "concurrentuserlimit", "continuouslyavailable", "currentusers", "shadowcopy",
-                        "securitydescriptor"})
+DESCRIPTOR_NAMES, NAME_NAMES = TITLES["descriptor"], TITLES["name"]  # the first that is there counts
+_OF_SHARES = frozenset(TITLES["share"])
 CLASS_NAME = "objectclass"
 _CLASS = re.compile(r"[\w-]+")
 # How names of objects tell their kind; the first that fits counts.

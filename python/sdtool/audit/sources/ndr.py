@@ -11,7 +11,7 @@ from sdtool.audit.sources.samba import CONTROL_NAMES, Unknown, flags_text
 # A line of Samba's dump of a structure: a name, a colon and a value.
 _DUMPED = re.compile(r"\s*(\w+)(?:\([0-9]+\))?\s*: ?(.*)")
 _HEAD = re.compile(r"\s*\w+ *: struct security_descriptor\s*\Z")
-_NUMBER = re.compile(r".*\(([0-9]+)\)\s*\Z")
+_NUMBER = re.compile(r".*\(([0-9]{1,18})\)\s*\Z")
 _GUID = re.compile(r"[0-9a-f]{8}-[0-9a-f]{4}-[0-9a-f]{4}-[0-9a-f]{4}-[0-9a-f]{12}\Z", re.I)
 _ACE_TYPES = {0: "A", 1: "D", 2: "AU", 5: "OA", 6: "OD", 7: "OU", 0x11: "ML"}
 _SACL_NAMES = ((0x2000, "P"), (0x200, "AR"), (0x800, "AI"))

@@ -10,7 +10,7 @@ from sdtool.audit.sources.options import SourceOptions
 from sdtool.audit.sources.samba import CONTROL_NAMES, Unknown, flags_text
 
 # ACL:SID:TYPE/FLAGS/MASK. Names instead of SIDs can't be looked up here, and a mask of fewer digits is cut.
-_ACE_LINE = re.compile(r"ACL:(S-1-[0-9x-]+):(\w+)/(0x[0-9a-fA-F]+|[0-9]+)/(0x[0-9a-fA-F]{8})\Z", re.I)
+_ACE_LINE = re.compile(r"ACL:(S-1-[0-9x-]+):(\w+)/(?:0x([0-9a-f]{1,8})|([0-9]{1,9}))/(0x[0-9a-f]{8})\Z", re.I)
 _WORD = re.compile(r"(REVISION|CONTROL|OWNER|GROUP|ACL):", re.I)
 _SHARE = re.compile(r"\[(.+)\]\Z")
 _SID = re.compile(r"S-1-[0-9a-fA-Fx-]+\Z", re.I)
@@ -37,7 +37,8 @@ def _sddl(block: List[str]) -> str:
         found = _ACE_LINE.match(line.strip())
         if not found or found[2].lower() not in _KINDS:
             raise Unknown(f"{line.strip()[:200]!r} names no SID or isn't numeric")
-        aces.append(f"({_KINDS[found[2].lower()]};{flags_text(int(found[3], 0))};{found[4]};;;{found[1]})")
+        flags = int(found[3], 16) if found[3] else int(found[4])
+        aces.append(f"({_KINDS[found[2].lower()]};{flags_text(flags)};{found[5]};;;{found[1]})")
     for part in ("REVISION", "OWNER", "GROUP"):
         if part not in fields:
             raise Unknown(f"the line with {part} is missing")
@@ -46,13 +47,13 @@ def _sddl(block: List[str]) -> str:
     control = fields.get("CONTROL", "")
     if not re.fullmatch("0x[0-9a-fA-F]+", control):
         raise Unknown(f"control {control!r} isn't numeric")
-    flags = int(control, 16)
+    bits = int(control, 16)
     text = "".join(f"{part[0]}:{fields[part]}" for part in ("OWNER", "GROUP") if fields[part])
-    if not flags & 0x4:
+    if not bits & 0x4:
         return text or " "
     if not aces:
         raise Unknown("the list of ACEs is empty or null, which smbcacls prints alike")
-    return text + "D:" + "".join(name for bit, name in CONTROL_NAMES if flags & bit) + "".join(aces)
+    return text + "D:" + "".join(name for bit, name in CONTROL_NAMES if bits & bit) + "".join(aces)
 
 
 def _item(number: int, block: List[str], label: str, kind: str) -> Item:

@@ -106,23 +106,28 @@ struct sdtool_outcome sdtool_normalize(const uint8_t *descriptor, size_t descrip
                                        size_t output_size);
 struct sdtool_outcome sdtool_from_sddl(const uint8_t *text, size_t text_size, const uint8_t *domain, size_t domain_size,
                                        uint8_t *output, size_t output_size);
-struct sdtool_request {
-    uint32_t wanted;
+enum sdtool_asker_option {
+    SDTOOL_HAS_LEVEL = 1,
+    SDTOOL_SECURITY = 2,
+    SDTOOL_TAKE_OWNERSHIP = 4
+};
+struct sdtool_asker {
     uint32_t mapping;
     uint32_t level;
-    bool has_level;
-    bool maximum;
-    bool security;
-    bool take_ownership;
+    uint32_t options;
+};
+enum sdtool_request_option {
+    SDTOOL_MAXIMUM = 1
+};
+struct sdtool_request {
+    struct sdtool_asker asker;
+    uint32_t wanted;
+    uint32_t options;
 };
 struct sdtool_verdict {
-    uint32_t fault;
-    uint32_t part;
-    uint32_t other_part;
-    uint32_t argument;
-    size_t entry;
+    struct sdtool_outcome outcome;
     uint32_t mask;
-    bool granted;
+    uint8_t granted;
 };
 struct sdtool_verdict sdtool_check(const uint8_t *descriptor, size_t descriptor_size, const uint8_t *sids,
                                    size_t sids_size, const uint8_t *entries, size_t sid_count, const uint8_t *object,

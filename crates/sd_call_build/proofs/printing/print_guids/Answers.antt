@@ -1,7 +1,6 @@
-use Rattle.std.proofs.Common.{true, ◌≡◌}
+use Rattle.std.proofs.Common.{true, ◌≡◌, ap}
 use Rattle.sd_kinds.specs.Kinds.{is_object}
 use Rattle.sd_ace.specs.AceLayout.{guid_part}
-use Rattle.std.proofs.Common.{ap}
 use Rattle.sd_sink.proofs.laws.PrintLemmas.{prints_as, prints_then}
 use Rattle.sd_call_build.proofs.printing.print_guids.Goals as goal
 

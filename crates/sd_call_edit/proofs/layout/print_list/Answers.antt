@@ -1,6 +1,6 @@
 use Rattle.std.proofs.Common.{arith, rules, refl}
 use Rattle.sd_sink.proofs.laws.PrintLemmas.{prints_as, prints_then}
-use Rattle.sd_call_edit.proofs.ListLemmas.{few, header_by}
+use Rattle.sd_call_build.proofs.laws.AclHeaders.{few, header_by}
 use Rattle.sd_call_edit.proofs.layout.print_list.Goals as goal
 
 pub overflow_cast-count : goal.overflow_cast-count

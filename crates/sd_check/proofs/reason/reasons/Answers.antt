@@ -9,8 +9,7 @@ use Rattle.sd_check.proofs.ReasonLaws.{reasons_scan-le}
 use Rattle.sd_check.proofs.VerdictLaws.{bound_from_need}
 use Rattle.sd_check.proofs.reason.reasons.Goals as goal
 use Rattle.sd_check.proofs.reason.reasons.Given.{Over}
-use Rattle.sd_check.proofs.reason.reasons.Goals.{After-give_label, After-reasons_by_aces-reasons}
-use Rattle.sd_check.proofs.reason.reasons.Goals.{After-undecided-undecided}
+use Rattle.sd_check.proofs.reason.reasons.Goals.{After-reasons_by_aces-reasons, After-undecided-undecided}
 
 undecided : (g : Over) (c : After-undecided-undecided g)
     → c.undecided-undecided.result ≡ open_rights c.args.view.now c.args.token.now.holder c.args.ask.now

@@ -1,6 +1,7 @@
 use Rattle.std.proofs.Common.{◌≡◌, ◌==◌, ◌∷◌, ◌++◌, ℕ, [], ap, ◌∙◌, sym, false, rules}
 use Rattle.sd_answer.specs.LineEnd.{without_cr}
-use Rattle.sd_run.proofs.FirstLineLemmas.{with-cr, without, without-none}
+use Rattle.sd_answer.proofs.laws.LineEnds.{with-cr, without-cr}
+use Rattle.sd_run.proofs.FirstLineLemmas.{without-none}
 use Rattle.sd_run.proofs.cut.without_cr.Goals as goal
 
 pub returns-in-Some : goal.returns-in-Some
@@ -13,7 +14,7 @@ pub returns-in_default : goal.returns-in_default
 returns-in_default c =
     let other : (c.in-Some.last.now == 13) ≡ false = search rules in
     let line = c.in-Some.ensures.cases.0 in
-    line ∙ sym (ap without_cr line ∙ without c.in-Some.front.now c.in-Some.last.now other)
+    line ∙ sym (ap without_cr line ∙ without-cr c.in-Some.front.now c.in-Some.last.now other)
 
 pub returns-in_default-2 : goal.returns-in_default-2
 returns-in_default-2 c = sym (without-none c.args.line.now (search rules))

@@ -1,4 +1,3 @@
-use Rattle.std.proofs.Common.{}
 use Rattle.sd_sddl_fields.proofs.laws.PlainFields.{rights-whole}
 use Rattle.sd_sddl_fields.proofs.whole_ace.usual_rights.Goals as goal
 

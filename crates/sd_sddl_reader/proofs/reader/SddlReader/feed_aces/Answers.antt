@@ -1,49 +1,39 @@
 use Rattle.std.proofs.Common.{◌≡◌, ℕ, ap, length, [], ◌∷◌, None, refl, ◌∙◌, arith, length-append}
 use Rattle.sd_sddl_reader.specs.declared.line.State.TheVariants as state
 use Rattle.sd_sddl_reader.proofs.WholeFields.{fed-on, over-blanks, reader-at, steps-open, steps-over}
+use Rattle.sd_sddl_reader.specs.Inner.Reads.{Feeds}
 use Rattle.sd_sddl_reader.proofs.reader.SddlReader.feed_aces.Goals as goal
+use Rattle.sd_sddl_reader.proofs.reader.SddlReader.feed_aces.Goals.{After-behind_blanks-behind}
+
+-- behind an ACE that was read in place, and the blanks after it
+ended : (c : After-behind_blanks-behind) → Feeds c.args.self.now c.args.buf.now c.args.text.now
+    (record c.loop-after.self { state = state.AfterAce; fields = c.take_ace.new.self }) c.take_ace.new.buf
+    c.behind_blanks-behind.result.now
+ended c =
+    let s = c.loop-after.self in
+    let i = c.loop-after.invariant in
+    let none : s.pending ≡ None = i.reader.still (rw (i.here) refl) in
+    let t = record s { state = state.AfterAce; fields = c.take_ace.new.self } in
+    let ace = steps-over s t c.loop-after.buf c.take_ace.new.buf c.loop-after.rest.now c.in-Some.after.now i.here
+    i.begins i.clear c.take_ace.ensures.domain refl c.in-Some.ensures.read in
+    let between = c.behind_blanks-behind.ensures in
+    let over = over-blanks s t c.loop-after.buf c.take_ace.new.buf c.loop-after.rest.now c.in-Some.after.now
+    between.blanks c.behind_blanks-behind.result.now ace between.blank between.stands in
+    let e = over.steps i.reader.read i.reader.held in
+    record {
+      shorter =
+          omega (arith, length-append over.bytes c.behind_blanks-behind.result.now, ap length over.stands, i.shorter);
+      reader = reader-at _ _ over.field (over.pending ∙ none) e.0 e.1;
+      read = λ domain before h.
+          fed-on s t c.loop-after.buf c.take_ace.new.buf domain over.bytes _ _ _ none (over.pending ∙ none) over.steps
+          over.stands (i.read domain before h);
+    }
 
 pub returns-in_default-split_first : goal.returns-in_default-split_first
-returns-in_default-split_first c =
-    let s = c.loop-after.self in
-    let i = c.loop-after.invariant in
-    let none : s.pending ≡ None = i.reader.still (rw (i.here) refl) in
-    let t = record s { state = state.AfterAce; fields = c.take_ace.new.self } in
-    let ace = steps-over s t c.loop-after.buf c.take_ace.new.buf c.loop-after.rest.now c.in-Some.after.now i.here
-    i.begins i.clear c.take_ace.ensures.domain refl c.in-Some.ensures.read in
-    let between = c.behind_blanks-behind.ensures in
-    let over = over-blanks s t c.loop-after.buf c.take_ace.new.buf c.loop-after.rest.now c.in-Some.after.now
-    between.blanks c.behind_blanks-behind.result.now ace between.blank between.stands in
-    let e = over.steps i.reader.read i.reader.held in
-    record {
-      shorter =
-          omega (arith, length-append over.bytes c.behind_blanks-behind.result.now, ap length over.stands, i.shorter);
-      reader = reader-at _ _ over.field (over.pending ∙ none) e.0 e.1;
-      read = λ domain before h.
-          fed-on s t c.loop-after.buf c.take_ace.new.buf domain over.bytes _ _ _ none (over.pending ∙ none) over.steps
-          over.stands (i.read domain before h);
-    }
+returns-in_default-split_first c = ended (goal.at.returns-in_default-split_first c).After-behind_blanks-behind
 
 pub returns-in_default-split_first-2 : goal.returns-in_default-split_first-2
-returns-in_default-split_first-2 c =
-    let s = c.loop-after.self in
-    let i = c.loop-after.invariant in
-    let none : s.pending ≡ None = i.reader.still (rw (i.here) refl) in
-    let t = record s { state = state.AfterAce; fields = c.take_ace.new.self } in
-    let ace = steps-over s t c.loop-after.buf c.take_ace.new.buf c.loop-after.rest.now c.in-Some.after.now i.here
-    i.begins i.clear c.take_ace.ensures.domain refl c.in-Some.ensures.read in
-    let between = c.behind_blanks-behind.ensures in
-    let over = over-blanks s t c.loop-after.buf c.take_ace.new.buf c.loop-after.rest.now c.in-Some.after.now
-    between.blanks c.behind_blanks-behind.result.now ace between.blank between.stands in
-    let e = over.steps i.reader.read i.reader.held in
-    record {
-      shorter =
-          omega (arith, length-append over.bytes c.behind_blanks-behind.result.now, ap length over.stands, i.shorter);
-      reader = reader-at _ _ over.field (over.pending ∙ none) e.0 e.1;
-      read = λ domain before h.
-          fed-on s t c.loop-after.buf c.take_ace.new.buf domain over.bytes _ _ _ none (over.pending ∙ none) over.steps
-          over.stands (i.read domain before h);
-    }
+returns-in_default-split_first-2 c = ended (goal.at.returns-in_default-split_first-2 c).After-behind_blanks-behind
 
 pub returns : goal.returns
 returns c =

@@ -1,0 +1,2 @@
+-- Laws of the definitions alone, which crates above may cite.
+pub mod AclHeaders

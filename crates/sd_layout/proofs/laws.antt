@@ -1,3 +1,0 @@
--- Laws of the definitions alone, which crates above may cite.
-pub mod AclLayoutLaws
-pub mod LayoutLaws

@@ -1,0 +1,3 @@
+module zaptirony.example/sdtool
+
+go 1.19
