@@ -100,12 +100,13 @@ const placeOf = ({one, other}) => (other ?? one).number + (other ? 0 : -0.5);
 
 const listOf = ({model}, list) => ({texts: model[list].aces.map(aceText), aces: model[list].aces});
 
+// No token has the SID of owner rights, also where it is the owner.
 function trusteesOf(sides) {
     const trustees = new Map();
     for (const {model} of sides) {
-        const aces = model.dacl.aces.filter((ace) => DECIDING.includes(ace.kind) && ace.sid !== OWNER_RIGHTS);
+        const aces = model.dacl.aces.filter((ace) => DECIDING.includes(ace.kind));
         const anyone = model.dacl.state === "list" ? null : EVERYONE;
-        for (const who of [model.owner, anyone, ...aces].filter(Boolean)) {
+        for (const who of [model.owner, anyone, ...aces].filter((one) => one && one.sid !== OWNER_RIGHTS)) {
             trustees.set(who.sid, {sid: who.sid, alias: who.alias ?? trustees.get(who.sid)?.alias ?? null});
         }
     }

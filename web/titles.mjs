@@ -16,6 +16,8 @@ const ENTITIES = {
     "&amp;": "&"
 };
 const DELIMITERS = [",", ";", "\t", "|"];
+// A line without one of these is no line of titles of a table.
+const OF_DESCRIPTOR = new RegExp(TITLES.descriptor.map((title) => [...title].join("[ _-]*")).join("|"), "i");
 
 const plainTitle = (title) => title.trim().replace(/[ _-]/g, "").toLowerCase();
 
@@ -111,9 +113,10 @@ function cellsOf(line, delimiter) {
  * @param {string} line
  */
 export function tableBelow(line) {
-    for (const delimiter of DELIMITERS) {
+    const delimiters = OF_DESCRIPTOR.test(line) ? DELIMITERS.filter((delimiter) => line.includes(delimiter)) : [];
+    for (const delimiter of delimiters) {
         const titles = cellsOf(line, delimiter).map(plainTitle);
-        if (titles.length > 1 && titles.some(isOfDescriptor)) {
+        if (titles.length > 1 && titles.some((title) => TITLES.descriptor.includes(title))) {
             return (row) => {
                 const cells = cellsOf(row, delimiter);
                 return new Map(titles.map((title, at) => [title, cells[at] ?? ""]));

@@ -220,13 +220,13 @@ def in_library(change):
 
 
 def trustees(descriptors):
-    """Those whose rights a comparison asks about."""
+    """Those whose rights a comparison asks about. No token has the SID of owner rights, also where it is the owner."""
     sids = set()
     for one in descriptors:
         aces = one.dacl.aces if one.dacl else ()
-        sids |= {one.owner} | {ace.sid for ace in aces if kind_of(ace) in DECIDING and ace.sid.text() != OWNER_RIGHTS}
+        sids |= {one.owner} | {ace.sid for ace in aces if kind_of(ace) in DECIDING}
         sids |= set() if one.dacl else {sid_of("S-1-1-0")}
-    return {sid.text() for sid in sids if sid}
+    return {sid.text() for sid in sids if sid} - {OWNER_RIGHTS}
 
 
 class Checks:

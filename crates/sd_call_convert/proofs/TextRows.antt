@@ -14,7 +14,7 @@ use Rattle.sd_call.specs.Arguments.{optional_sid_in}
 use Rattle.sd_call.specs.Outcomes.{done, failed}
 use Rattle.sd_call.specs.declared.argument.Argument.TheVariants as which
 use Rattle.sd_call.specs.declared.outcome.CallFault.TheVariants as call
-use Rattle.sd_call_convert.specs.AceTexts.{ace_alone, ace_domain, ace_from_text, ace_in, alone}
+use Rattle.sd_call_convert.specs.AceTexts.{ace_alone, domain_of_ace, ace_from_text, ace_in, alone}
 use Rattle.sd_call_convert.specs.Conversions.{read_under}
 use Rattle.sd_call_convert.specs.FieldTexts.{flags_in, flags_to_text, guid_from_text, guid_to_text, of_text, rights_in}
 use Rattle.sd_call_convert.specs.FieldTexts.{rights_to_text, told}
@@ -48,9 +48,10 @@ no_guid : (guid_to_text [] ≡ Err (call.Argument which.Guid 0))
 no_guid = (refl, refl)
 
 -- What does not begin with a parenthesis is no ACE, and neither is what has more than one or another part.
-begins : (ace_domain (codes "A;;;;;WD") [] ≡ Err (of_text sddl.Shape)) × (ace_domain [] [] ≡ Err (of_text sddl.Shape))
-    × (ace_domain (codes "(") [] ≡ Ok None) × (ace_domain (codes "x") (1 ∷ []) ≡ Err (call.Argument which.Domain 0))
-unfolding ace_domain optional_sid_in read_under sid_at
+begins : (domain_of_ace (codes "A;;;;;WD") [] ≡ Err (of_text sddl.Shape))
+    × (domain_of_ace [] [] ≡ Err (of_text sddl.Shape)) × (domain_of_ace (codes "(") [] ≡ Ok None)
+    × (domain_of_ace (codes "x") (1 ∷ []) ≡ Err (call.Argument which.Domain 0))
+unfolding domain_of_ace optional_sid_in read_under sid_at
 begins = (refl, refl, refl, refl)
 
 abbrev ace : AccessControlEntry

@@ -37,8 +37,8 @@ begins_ace (b ∷ bs) = b == char "("
 abbrev pub domain_if : Bool → Option SecurityId → Result (Option SecurityId) CallFault
 domain_if begins domain = if begins then Ok domain else Err (of_text sddl.Shape)
 
-unfoldable pub ace_domain : List ℕ → List ℕ → Result (Option SecurityId) CallFault
-ace_domain text domain = do
+unfoldable pub domain_of_ace : List ℕ → List ℕ → Result (Option SecurityId) CallFault
+domain_of_ace text domain = do
   named ← domain_for (as_dacl text) domain
   domain_if (begins_ace text) named
 
@@ -79,7 +79,7 @@ bytes_alone meant = do
 
 abbrev pub ace_from_text : List ℕ → List ℕ → Result (List ℕ) CallFault
 ace_from_text text domain = do
-  named ← ace_domain text domain
+  named ← domain_of_ace text domain
   bytes_alone (text_in named (as_dacl text))
 
 -- 2. The text of bytes that are one ACE and nothing else.

@@ -3,7 +3,7 @@
 ghost use Rattle.std.specs.Prelude.{◌≡◌, [], length, MatchResult, Ok, Err, OnOk};
 ghost use Rattle.sd_ace.specs.Ace.{ace_size};
 ghost use Rattle.sd_call.specs.Outcomes.{Answers, AnswersWithin, Gives, Refused};
-ghost use Rattle.sd_call_convert.specs.AceTexts.{ace_alone, ace_domain, ace_from_text, ace_in, ace_to_text, as_dacl};
+ghost use Rattle.sd_call_convert.specs.AceTexts.{ace_alone, domain_of_ace, ace_from_text, ace_in, ace_to_text, as_dacl};
 ghost use Rattle.sd_call_convert.specs.AceTexts.{begins_ace, bytes_alone, bytes_of, has_others, named_ace};
 ghost use Rattle.sd_call_convert.specs.Conversions.{text_in};
 ghost use Rattle.sd_sddl_builder.specs.Meaning.{means};
@@ -31,19 +31,19 @@ const HEAD: &[u8] = b"D:";
 /// Gives the bytes of the ACE that a text means.
 pub fn ace_from_text(alloc: Global, text: &[u8], domain: &[u8], output: &mut [u8]) -> Outcome
     // A wrong domain, a text that is too long, and one that begins no ACE are told before memory is asked for.
-    ensures { AnswersWithin (ace_domain text.now domain.now) (ace_from_text text.now domain.now)
+    ensures { AnswersWithin (domain_of_ace text.now domain.now) (ace_from_text text.now domain.now)
         output.old output.new result }
 {
-    match ace_domain(text, domain) {
+    match domain_of_ace(text, domain) {
         Ok(domain) => give_meant(text, domain, SdBuf::new(alloc), output),
         Err(fault) => failed(fault),
     }
 }
 
 // The domain under which a text is read, if it begins as an ACE.
-#[tactic(auto, unfolding(crate::specs::AceTexts::ace_domain))]
-fn ace_domain(text: &[u8], domain: &[u8]) -> Result<Option<Sid>, CallFault>
-    ensures { result ≡ ace_domain text.now domain.now }
+#[tactic(auto, unfolding(crate::specs::AceTexts::domain_of_ace))]
+fn domain_of_ace(text: &[u8], domain: &[u8]) -> Result<Option<Sid>, CallFault>
+    ensures { result ≡ domain_of_ace text.now domain.now }
 {
     let domain = domain_of_size(size_as_dacl(text), domain)?;
     if !begins_ace(text) {

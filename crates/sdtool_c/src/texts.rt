@@ -2,7 +2,7 @@
 
 ghost use Rattle.std.specs.Prelude.{◌≡◌};
 ghost use Rattle.sd_call.specs.Outcomes.{Answers, AnswersWithin, Gives};
-ghost use Rattle.sd_call_convert.specs.AceTexts.{ace_domain, ace_from_text, ace_to_text};
+ghost use Rattle.sd_call_convert.specs.AceTexts.{domain_of_ace, ace_from_text, ace_to_text};
 ghost use Rattle.sd_call_convert.specs.FieldTexts.{flags_in, flags_to_text, guid_from_text, guid_to_text, rights_in};
 ghost use Rattle.sd_call_convert.specs.FieldTexts.{rights_to_text, told};
 
@@ -22,7 +22,8 @@ pub extern "C" fn sdtool_ace_from_text(
     ace: &mut [u8],
 ) -> Outcome
     // A wrong domain, a text that is too long, and one that begins no ACE are told before memory is asked for.
-    ensures { AnswersWithin (ace_domain text.now domain.now) (ace_from_text text.now domain.now) ace.old ace.new result }
+    ensures { AnswersWithin (domain_of_ace text.now domain.now) (ace_from_text text.now domain.now)
+        ace.old ace.new result }
 {
     ace_from_text(alloc, text, domain, ace)
 }
