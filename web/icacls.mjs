@@ -97,18 +97,20 @@ function aceOf(account, groups) {
 
 // The SDDL of a listing of one object: {name, line}, or null if any part of it is unknown.
 export function listingIn(text) {
-    const lines = text.split(/\r?\n/).map((line) => line.trim()).filter((line) => !LAST.test(line));
     let name = "";
     const aces = [];
-    for (const [index, line] of lines.entries()) {
+    for (const line of text.split("\n").map((whole) => whole.trim())) {
+        if (LAST.test(line)) {
+            continue;
+        }
         const found = GROUPS.exec(line);
         const account = found && accountIn(line.slice(0, found.index));
         const ace = account && aceOf(account.sid, found[1].slice(1, -1).split(")("));
         // A path in a later line is another object.
-        if (!ace || (index > 0 && account.path)) {
+        if (!ace || (aces.length && account.path)) {
             return null;
         }
-        name = index === 0 ? account.path : name;
+        name ||= account.path;
         aces.push(ace);
     }
     return aces.length ? {name, line: `D:${aces.join("")}`} : null;

@@ -29,7 +29,7 @@ export const isElement = (line) => ELEMENT.test(line);
 
 // A title of a line and its value, or an empty one.
 function titled(line) {
-    const [, attribute, tag, inside] = ELEMENT.exec(line) ?? [];
+    const [, attribute, tag, inside] = (line.includes("<") && ELEMENT.exec(line)) || [];
     if (inside !== undefined) {
         return [
             plainTitle(attribute ?? tag), inside.replace(/&\w+;/g, (entity) => valueIn(ENTITIES, entity) ?? entity)
@@ -42,7 +42,10 @@ function titled(line) {
 
 // A value without its quotation marks. Behind a title of JSON it has escapes.
 function valueOf(text, isJson) {
-    const value = text.replace(/,$/, "");
+    const value = text.endsWith(",") ? text.slice(0, -1) : text;
+    if (value === "") {
+        return "";
+    }
     if (isJson && value.startsWith("\"")) {
         try {
             return String(JSON.parse(value));
@@ -113,8 +116,8 @@ function cellsOf(line, delimiter) {
  * @param {string} line
  */
 export function tableBelow(line) {
-    const delimiters = OF_DESCRIPTOR.test(line) ? DELIMITERS.filter((delimiter) => line.includes(delimiter)) : [];
-    for (const delimiter of delimiters) {
+    const delimiters = DELIMITERS.filter((delimiter) => line.includes(delimiter));
+    for (const delimiter of delimiters.length && OF_DESCRIPTOR.test(line) ? delimiters : []) {
         const titles = cellsOf(line, delimiter).map(plainTitle);
         if (titles.length > 1 && titles.some((title) => TITLES.descriptor.includes(title))) {
             return (row) => {
