@@ -40,7 +40,8 @@ class Cargo:
             "RUSTDOCFLAGS": "-D warnings"}
 
     def run(self, *words, **others):
-        return language_requests.judge_run(self.count, ["cargo", *words, "--locked"], self.folder / "rust",
+        name, *more = words
+        return language_requests.judge_run(self.count, ["cargo", name, "--locked", *more], self.folder / "rust",
                                            {**self.surroundings, **others})
 
     def program(self, **others):

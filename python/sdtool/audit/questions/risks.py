@@ -182,6 +182,9 @@ class Risks:
     def __init__(self, context: Context, options: RiskOptions) -> None:
         self._context, self._options = context, options
         self._on = frozenset(options.rules)
+        # What Windows gives is told of what any usual rule would find, whichever others are asked for.
+        self._usual = self._on.union(DEFAULT_RULES if _GIVEN in self._on else ())
+        self._are_fewer = self._usual > self._on
         self._most_slight = ORDER.index(options.severity)
         self._defaults = Defaults(options.trust, options.accounts, options.of_classes)
         self._abilities = Abilities(self._on, options.trust, options.named_types)
@@ -248,25 +251,25 @@ class Risks:
         if found is None:
             if len(self._known) > 50_000:
                 self._known.clear()
-            found = self._known[sid, kind] = self._wanted_of(sid, kind)
+            found = self._known[sid, kind] = self._wanted_of(sid, kind, self._on)
         return found
 
-    def _wanted_of(self, sid: str, kind: str) -> _Wanted:
-        """What of a trustee's rights is a finding."""
+    def _wanted_of(self, sid: str, kind: str, rules: FrozenSet[str]) -> _Wanted:
+        """What of a trustee's rights is a finding by some rules."""
         if self._options.trust.has(sid):
             return _NOTHING_WANTED
         who = sids.everybody_class(sid)
         rule = rights.RULE_OF.get(kind, "")
         if rule:
-            is_wanted = rule in self._on and (who or not _is_quiet(sid, kind))
+            is_wanted = rule in rules and (who or not _is_quiet(sid, kind))
             return _Wanted(rule, rights.FULL[kind]) if is_wanted else _NOTHING_WANTED
-        read = rights.WORDS["read"][kind] if who and "readable" in self._on else 0
+        read = rights.WORDS["read"][kind] if who and "readable" in rules else 0
         risks = tuple(risk for risk in RISKS_OF.get(who, ()) if risk != "anonymous" or sid == sids.ANONYMOUS)
         changing = rights.risk_of(kind, risks)
-        below = changing if "children-change" in self._on else 0
-        if who and RULE_OF[who] in self._on:
+        below = changing if "children-change" in rules else 0
+        if who and RULE_OF[who] in rules:
             return _Wanted(RULE_OF[who], changing, read, below)
-        if "takeover" not in self._on or not who and _is_quiet(sid, kind):
+        if "takeover" not in rules or not who and _is_quiet(sid, kind):
             return _Wanted("", 0, read, below)
         return _Wanted("takeover", rights.risk_of(kind, ("takeover",)), read, below)
 
@@ -293,17 +296,21 @@ class Risks:
         is_denied = any(ace.kind in DENIES for ace in descriptor.aces)
         kept: List[int] = []
         given: Dict[str, _Wanted] = {}
+        are_fewer = self._are_fewer and not is_directory
         filing: Set[str] = set()
         for number, ace in enumerate(descriptor.aces, 1):
             if ace.kind in ALLOWS:
                 sid = as_owner(ace.sid, descriptor)
                 wanted = self._wanted(sid, kind) if sid else _NOTHING_WANTED
-                if sid and self._concerns(ace, sid, wanted, kind):
+                usual = self._wanted_of(sid, kind, self._usual) if sid and are_fewer else wanted
+                is_asked = bool(sid) and self._concerns(ace, sid, wanted, kind)
+                if is_asked or sid and are_fewer and self._concerns(ace, sid, usual, kind):
                     is_told = number in place.handed_on and not (
                         place.classes and self._abilities.needs_class(ace, place.classes))
                     if is_told or sid in place.makers or self._defaults.excuse(ace, kind, place):
-                        given.update({sid: wanted} if ace.decides and not is_directory else {})
+                        given.update({sid: usual} if ace.decides and not is_directory else {})
                         continue
+                if is_asked:
                     if ace.decides:
                         asked[sid] = wanted
                         if ace.flags & OBJECT_INHERIT and mapped(ace.mask, kind) & wanted.mask:
@@ -320,7 +327,8 @@ class Risks:
             case = case._replace(whole=self._view(views, descriptor, kind, range(1, len(descriptor.aces) + 1)))
         for sid in given:
             case.whole.ask(sid)
-        return self._asked(views, descriptor, kind, case, kept) if asked or below or case.owner else case
+        is_more = asked or below or case.owner or given and are_fewer
+        return self._asked(views, descriptor, kind, case, kept) if is_more else case
 
     @staticmethod
     def _view(views: _Views, descriptor: Descriptor, kind: str, numbers: Sequence[int]) -> _View:
@@ -335,7 +343,7 @@ class Risks:
         children: List[_View] = []
         if len(kept) < len(descriptor.aces) or kind in WITHOUT_MAPPING:
             own = self._view(views, descriptor, kind, kept)
-        for sid in (*case.here, *case.below, *filter(None, (case.owner,))):
+        for sid in (*case.here, *case.below, *(case.given if self._are_fewer else ()), *filter(None, (case.owner,))):
             own.ask(sid)
         if case.below:
             handed_on = [number for number in kept if _is_handed_on(descriptor.aces[number - 1], kind)]
@@ -390,7 +398,8 @@ class Risks:
                 yield from self._of_got(sid, wanted, own, kind, case.place, about, is_adding)
             yield from self._of_below(case, descriptor.aces, kind, where)
             for sid, wanted in case.given.items():
-                known = case.own.got(sid, wanted.mask) if sid in case.here else Got(0, ())
+                is_known = sid in case.here or self._are_fewer
+                known = case.own.got(sid, wanted.mask) if is_known else Got(0, ())
                 got = _without(case.whole.got(sid, wanted.mask), known)
                 yield from self._of_mask(_GIVEN, sid, got, kind, "", case.whole.why(sid, descriptor.aces))
             yield from self._of_list(descriptor)
