@@ -5,6 +5,7 @@ package sdtool
 // #cgo LDFLAGS: -lsdtool
 // #include <sdtool.h>
 // #include <stdlib.h>
+// enum { token_first = SDTOOL_TOKEN_WORDS(0), token_each = SDTOOL_TOKEN_WORDS(1) - SDTOOL_TOKEN_WORDS(0) };
 import "C"
 
 import "unsafe"
@@ -419,7 +420,7 @@ func edit(bytes string, changes []Change) (string, []uint32, *outcome) {
 type words []C.uint32_t
 
 func tokenRead(sids, entries string) (words, *outcome) {
-	token := make(words, 2+20*atMost(len(entries), C.SDTOOL_MOST_SIDS))
+	token := make(words, C.token_first+C.token_each*atMost(len(entries), C.SDTOOL_MOST_SIDS))
 	told := C.sdtool_token_read(at(sids), size(sids), at(entries), size(entries), &token[0], C.size_t(len(token)))
 	if told.fault != C.SDTOOL_OK {
 		return nil, &told

@@ -137,6 +137,10 @@ namespace Sdtool
         internal const uint SDTOOL_BY_ORDER = 4294967294;
         internal const uint SDTOOL_NO_ACE = 4294967295;
         internal const uint SDTOOL_VERSION = 100;
+        internal const uint SDTOOL_TEXT_SIZE_FIRST = 64;
+        internal const uint SDTOOL_TEXT_SIZE_EACH = 8;
+        internal const uint SDTOOL_TOKEN_WORDS_FIRST = 2;
+        internal const uint SDTOOL_TOKEN_WORDS_EACH = 20;
 
         [StructLayout(LayoutKind.Sequential)]
         internal struct Outcome

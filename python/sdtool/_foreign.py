@@ -283,8 +283,8 @@ def run(words: bytes, data: bytes) -> Tuple[int, bytes, bytes]:
 
 
 def token(sids: bytes, entries: bytes) -> Any:
-    """A token that is read, which is 2 numbers of 32 bits and 20 for each SID; and what it was read from."""
-    size = 2 + 20 * min(len(entries), c.MOST_SIDS)
+    """A token that is read; and what it was read from."""
+    size = c.TOKEN_WORDS_FIRST + c.TOKEN_WORDS_EACH * min(len(entries), c.MOST_SIDS)
     numbers = (ctypes.c_uint32 * size)()
     given = (sids, len(sids), entries, len(entries))
     outcome = _library.sdtool_token_read(*given, numbers, size)

@@ -3,14 +3,13 @@ language share. A program in the language (rust/requests, go/internal/requests) 
 of its own interface.
 """
 import ctypes
-import importlib
+import importlib.util
 import math
 import os
 import pathlib
 import random
 import shutil
 import subprocess
-import sys
 import tempfile
 
 import c_edits
@@ -20,9 +19,10 @@ import compare
 import preload
 from reference.editing import BY_ORDER, END, NOT_ASKED, Match
 
-sys.path.insert(0, str(preload.TOP / "python"))
-os.environ.setdefault("SDTOOL_LIBRARY", preload.LIBRARY)
-header = importlib.import_module("sdtool._header")
+# The package itself would open the library, and fail without one.
+of_header = importlib.util.spec_from_file_location("sdtool_header", preload.TOP / "python/sdtool/_header.py")
+header = importlib.util.module_from_spec(of_header)
+of_header.loader.exec_module(header)
 LIBRARIES = pathlib.Path(preload.LIBRARY).parent
 SECONDS = 3000
 REQUESTS = 4_000   # of each call, so that they are 100,000
@@ -672,7 +672,9 @@ def judge_time(count, program, surroundings):
 
 
 def missing(tools):
-    """What of commands or files is not there, with the package of Debian that has it."""
+    """What of commands or files is not there, with the package of Debian that has it; or that there is no library."""
+    if not os.path.exists(preload.LIBRARY):
+        return f"skipped, there is no {preload.LIBRARY}"
     for tool, package in tools:
         if not (os.path.exists(tool) if "/" in tool else shutil.which(tool)):
             return f"skipped, there is no {tool} (Debian: {package})"

@@ -133,6 +133,10 @@ pub const SDTOOL_AT_END: u32 = 4294967295;
 pub const SDTOOL_BY_ORDER: u32 = 4294967294;
 pub const SDTOOL_NO_ACE: u32 = 4294967295;
 pub const SDTOOL_VERSION: u32 = 100;
+pub const SDTOOL_TEXT_SIZE_FIRST: u32 = 64;
+pub const SDTOOL_TEXT_SIZE_EACH: u32 = 8;
+pub const SDTOOL_TOKEN_WORDS_FIRST: u32 = 2;
+pub const SDTOOL_TOKEN_WORDS_EACH: u32 = 20;
 
 #[repr(C)]
 #[derive(Clone, Copy, Debug)]

@@ -142,7 +142,9 @@ pub(crate) fn from_sddl(sddl: &[u8], domain: &[u8]) -> Result<Vec<u8>, Outcome> 
 
 /// The size that suffices for the text of a descriptor.
 fn text_size(descriptor: &[u8]) -> usize {
-    (8 * descriptor.len().min(sys::SDTOOL_MOST_BYTES as usize) + 64).min(sys::SDTOOL_MOST_TEXT as usize)
+    let bytes = descriptor.len().min(sys::SDTOOL_MOST_BYTES as usize);
+    let size = sys::SDTOOL_TEXT_SIZE_EACH as usize * bytes + sys::SDTOOL_TEXT_SIZE_FIRST as usize;
+    size.min(sys::SDTOOL_MOST_TEXT as usize)
 }
 
 pub(crate) fn to_sddl(descriptor: &[u8], domain: &[u8], numeric: bool) -> Result<String, Outcome> {
@@ -273,7 +275,8 @@ pub(crate) fn edit(descriptor: &[u8], changes: &[RawChange]) -> Result<(Vec<u8>,
 
 /// The numbers that the library has read a token into.
 pub(crate) fn token_read(sids: &[u8], entries: &[u8]) -> Result<Vec<u32>, Outcome> {
-    let mut token = vec![0_u32; 2 + 20 * entries.len().min(sys::SDTOOL_MOST_SIDS as usize)];
+    let words = sys::SDTOOL_TOKEN_WORDS_EACH as usize * entries.len().min(sys::SDTOOL_MOST_SIDS as usize);
+    let mut token = vec![0_u32; sys::SDTOOL_TOKEN_WORDS_FIRST as usize + words];
     let (room, words) = (token.as_mut_ptr(), token.len());
     let outcome = inputs!(sdtool_token_read(sids; entries.as_ptr(), entries.len(), room, words));
     match outcome.fault {
