@@ -2,17 +2,13 @@
 // second access check here.
 import {guidBytes, sidBytes} from "./library.mjs";
 import {everybodyClass, meaningOfSid, tableOf} from "./meanings.mjs";
+import {OWNER_RIGHTS, SYSTEM_SECURITY, MAXIMUM_ALLOWED, GENERIC, DECIDING} from "./well_known.mjs";
 
-const DECIDING = ["A", "D", "OA", "OD"];
 const GRANTING = ["no-dacl", "owner", "privilege", "granted"];
 const OF_ACES = ["granted", "denied"];
 const EVERY_BIT = 0xfeffffff; // but that of the right that no ACE grants
-const SYSTEM_SECURITY = 0x1000000;
-const OF_AN_OWNER = 0xe0000; // to read and change the permissions, and the owner
-const MAXIMUM_ALLOWED = 0x2000000;
-const RESERVED = 0xc000000; // bits that nobody may ask for
-const GENERIC = 0xf0000000;
-const OWNER_RIGHTS = "S-1-3-4";
+const OF_AN_OWNER = 0xe0000;  // to read and change the permissions, and the owner
+const RESERVED = 0xc000000;   // bits that nobody may ask for
 const MEDIUM = "S-1-16-8192"; // the level of an object without a label
 const FIRST_TRUSTEES = 100;
 const MOST_TYPES = 200; // of objects that the page asks about in turn
@@ -265,4 +261,4 @@ export function meaningOf(library, mask, mapping) {
                                     mask;
 }
 
-export {bitsOf, DECIDING, grantedOf, has};
+export {bitsOf, grantedOf, has};

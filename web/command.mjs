@@ -3,9 +3,8 @@ import {wordsOf} from "./lines_view.mjs";
 import {hasOwnMapping, mappingOf, rightsOfKind} from "./meanings.mjs";
 import {posixQuoted} from "./quoting.mjs";
 import {valueIn} from "./tables.mjs";
+import {MAXIMUM_ALLOWED} from "./well_known.mjs";
 import {WORDS} from "./words.mjs";
-
-const MAXIMUM_ALLOWED = 0x2000000;
 
 const domainWords = (state) => (state.domain.trim() ? ["--domain", state.domain.trim()] : []);
 const formWords = (form) => (form === "hex" ? [] : ["--from", form]);

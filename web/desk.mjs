@@ -25,10 +25,10 @@ import {valueIn} from "./tables.mjs";
 import {MOST_SIDS, readToken} from "./tokens.mjs";
 import {usualOf, verdictOf, verdictOfConditions, verdictOfKinds} from "./verdict.mjs";
 import {findingsOf, warningsOf} from "./warnings.mjs";
+import {GENERIC} from "./well_known.mjs";
 
-const MOST_SHOWN = 20_000;   // characters of a descriptor as a whole
-const MOST_OF_KIND = 10_000; // characters of a text that tell of the kind of object
-const GENERIC = 0xf0000000;
+const MOST_SHOWN = 20_000;                       // characters of a descriptor as a whole
+const MOST_OF_KIND = 10_000;                     // characters of a text that tell of the kind of object
 const MOST_TEXTS = 2;                            // that are kept
 const MOST_NAMED = 1000;                         // descriptors of a text in a list
 const MOST_PIECE = 60;                           // characters of a text that is refused, for a sentence
@@ -564,18 +564,19 @@ const belowOf = ({dacl}, kind) => ({areBelowSame: !dacl.some((row) => isBelow(ro
 const isBelow = ({state, one, other}, inherited) =>
     state !== "same" && [one, other].some((ace) => ace && inherited.some((flag) => ace.flags.includes(flag)));
 
-// An edit: NOW is the descriptor so far, or null, and STEPS are those to come. The answer has the descriptor after
-// each, and tells the last one beside that of the text.
-function edit(library, {state: given, now, steps}) {
+// An edit: NOW is the descriptor so far, or null, ORIGINS says where its ACEs come from, and STEPS are those to come.
+// The answer has what each makes, and tells the last descriptor beside that of the text.
+function edit(library, {state: given, now, origins, steps}) {
     return about(library, given, ({state, descriptor, found, model, domain}) => {
         const open = openKind(state, [model]);
         if (open) {
             return open;
         }
-        const {made, last, refused} = edited(library, now ?? descriptor, steps, domain.text);
+        const {made, last: {descriptor: last, origins: from}, refused} =
+            edited(library, {descriptor: now ?? descriptor, origins}, steps, domain.text);
         const after = explained(library, last, domain, state.kind);
         const sides = sidesOf(library, [[descriptor, model], [last, after]], state.kind);
-        const differing = compare(library, sides);
+        const differing = compare(library, sides, from);
         const written = writtenIn(library, after, domain);
         const texts = sides.map((side) => library.toSddl(side.descriptor, domain.option));
         const name = state.name || found.entry.name;

@@ -1,73 +1,28 @@
 // The view that changes a descriptor: its ACEs, owner and inheritance, with the verdict, and who gains and who loses.
-import {has} from "./access.mjs";
 import {linesOf} from "./desk.mjs";
-import {box, button, byId, input, labelled, make, moveByArrows, select, show, someRows} from "./dom.mjs";
-import {inheritedBy, isDirectory, tableOf} from "./meanings.mjs";
-import {maskText} from "./library.mjs";
-import {
-    faultInWords,
-    guidInWords,
-    nameOf,
-    placeInWords,
-    rightsInWords,
-    rightsOf,
-    shortened,
-    sidNamed,
-    whereOf
-} from "./naming.mjs";
-import {
-    aceRights,
-    kindClass,
-    rightBoxes,
-    rightsDiffering,
-    rightsOfAce,
-    rightsSection,
-    who,
-    wordOfKind
-} from "./parts_view.mjs";
-import {knownGuids} from "./schema.mjs";
+import {button, byId, make, moveByArrows, show, someRows} from "./dom.mjs";
+import {aceFields, listOf, sidField} from "./edit_fields.mjs";
+import {inheritedBy, tableOf} from "./meanings.mjs";
+import {faultInWords, guidInWords, nameOf, placeInWords, shortened, whereOf} from "./naming.mjs";
+import {aceRights, kindClass, rightsDiffering, rightsOfAce, rightsSection, who, wordOfKind} from "./parts_view.mjs";
 import {acesIn, sentenceOf} from "./sentences.mjs";
+import {commandsSection, textSection} from "./set_view.mjs";
 import {valueIn} from "./tables.mjs";
 import {showSentence, takeButton, verdictLine} from "./verdict_view.mjs";
 import {commaed, formatted, say, WORDS} from "./words.mjs";
 
 const words = WORDS.edit;
 const LISTS = ["dacl", "sacl"];
-const KINDS = {
-    dacl: ["A", "D"],
-    sacl: ["AU", "ML"]
-};
-const TYPED = {
-    A: "OA",
-    D: "OD",
-    AU: "OU"
-}; // with an object type
 const PROTECTED = {
     dacl: "PD",
     sacl: "PS"
-}; // from what is above
-const PLACES = ["", "OICI", "CI", "OI", "OICIIO", "CIIO", "OIIO"];
-const POLICIES = [[1, "NW"], [2, "NR"], [4, "NX"]]; // of a label
-const MOST_SDDL = 4000;                             // characters of the new text
-const MOST_NAMES = 200;                             // that are offered
-const MILLISECONDS_TO_WAIT = 20;                    // for a pointer
+};                               // from what is above
+const MOST_NAME = 4000;          // characters of the object above
+const MOST_NAMES = 200;          // that are offered
+const MILLISECONDS_TO_WAIT = 20; // for a pointer
 const MOST_WAITS = 50;
 const NEW = "edit-new"; // the row of an ACE that a step adds
 const OF_ROW = /^edit-([ds]acl)-(\d+)$/;
-
-const plainKind = (kind) => Object.keys(TYPED).find((one) => valueIn(TYPED, one) === kind) ?? kind;
-
-// The type of an ACE, which depends on whether it has object types.
-const typedKind = ({kind, object, inherited}) => {
-    const plain = plainKind(kind);
-    return object || inherited ? valueIn(TYPED, plain) ?? plain : plain;
-};
-
-const isAudit = ({kind}) => plainKind(kind) === "AU";
-
-// The GUID that a text names, or the text.
-const guidNamed = (text) =>
-    knownGuids().find(({name}) => name.toLowerCase() === text.trim().toLowerCase())?.guid ?? text.trim();
 
 const isSelect = (target) => Boolean(target.closest?.("select"));
 
@@ -78,8 +33,6 @@ export class EditView {
         this.about = this.result = this.context = null;
         this.chosen = this.draft = null;
         this.said = this.focus = "";
-        this.isOpen = false; // the boxes of rights
-        this.tool = "";
         this.shown = {dacl: [], sacl: []};
         this.isHeld = false;
         // The list that a select opens keeps what comes after a pointer is down.
@@ -151,7 +104,7 @@ export class EditView {
                 verdictLine("edit-", this.undoButtons())),
             make("div", {class: "split"}, make("div", {}, this.acesSection()),
                 make("div", {class: "told"}, rightsSection("edit-gains", words.rights, result, context),
-                    this.commandsSection(), this.textSection())));
+                    commandsSection(result, this.acts.copy), textSection(result, this.acts.copy))));
         const sentence = this.showSentence();
         this.restore(kept, before);
         const said = [
@@ -200,7 +153,7 @@ export class EditView {
                                   part: valueIn(WORDS.parts, list)
                               }),
                                        " ",
-                                       above ? [words.above, " ", make("bdi", {}, shortened(above, MOST_SDDL))] :
+                                       above ? [words.above, " ", make("bdi", {}, shortened(above, MOST_NAME))] :
                                                words.aboveUnknown));
         const none = ["absent", "null"].includes(states.dacl) &&
             make("p", {class: "warning danger"}, words.noList, " ",
@@ -332,7 +285,7 @@ export class EditView {
         return make("tr", {class: "panel"},
             make("td", {colspan: Object.keys(words.columns).length},
                 make("div", {role: "group", "aria-label": say(WORDS.verdict.ace, {numbers: number})},
-                    this.fields(ace, valueIn(KINDS, list), (changeOf) => this.replace(ace, changeOf)),
+                    aceFields(ace, [list], this.context, (changeOf) => this.replace(ace, changeOf)),
                     make("div", {class: "adds"}, act(words.removeThis, () => this.take(list, [number]), "edit-remove"),
                         act(words.up, () => this.move(ace, -1), "edit-up"),
                         act(words.down, () => this.move(ace, 1), "edit-down"),
@@ -372,94 +325,17 @@ export class EditView {
             show(byId("edit-draft"));
             byId("edit-add").focus();
         };
-        const add = () => {
-            const list = ["AU", "ML"].includes(plainKind(this.draft.kind)) ? "sacl" : "dacl";
-            this.step({does: "put", list, ace: {...this.draft}}, words.did.put, NEW);
-        };
+        const add = () => { this.step({does: "put", list: listOf(draft), ace: {...draft}}, words.did.put, NEW); };
         return make("div", {class: "form", role: "group", "aria-label": words.newAce}, make("h4", {}, words.newAce),
-            this.fields(this.draft, LISTS.flatMap((list) => valueIn(KINDS, list)), change),
+            aceFields(draft, LISTS, this.context, change),
             make("div", {class: "adds"}, button(words.put, add, {class: "primary", id: "edit-put"}),
                 button(words.cancel, end, {id: "edit-cancel"})));
     }
 
-    // What an ACE has, each in a field. KINDS are the types that it may have.
-    fields(ace, kinds, change) {
-        const {kind} = this.context;
-        const types = [...new Set([...kinds, plainKind(ace.kind)])].map((one) => [one, valueIn(WORDS.aceKinds, one)]);
-        const isLabel = ace.kind === "ML";
-        return [
-            make("div", {class: "row"},
-                labelled(words.columns.type,
-                    select("edit-kind", types, plainKind(ace.kind),
-                        (value) => change((one) => ({kind: typedKind({...one, kind: value})})))),
-                this.sidField("edit-sid", words.columns.who, ace.sid, (sid) => change(() => ({sid}))),
-                isLabel ? null : setField(ace, kind, change), this.whereField(ace, change)),
-            make("div", {class: "row"},
-                labelled(words.mask,
-                    wholeField("edit-rights", ace.rights ?? maskText(ace.mask),
-                        (text) => change(() => rightsChange(text)), {"aria-describedby": "edit-rights-hint"}),
-                    words.maskHint),
-                this.objectFields(ace, change)),
-            isAudit(ace) ? ["SA", "FA"].map((flag) => flagBox(ace, flag, valueIn(WORDS.audits, flag), change)) : null,
-            make("details",
-                {id: "edit-boxes", open: this.isOpen, ontoggle: ({target}) => { this.isOpen = target.open; }},
-                make("summary", {}, words.boxes),
-                make("div", {class: "boxes"},
-                    rightBoxes("edit-right",
-                        isLabel ? POLICIES.map(([bit, name]) => ({bit, name: valueIn(WORDS.label, name)})) :
-                                  rightsOf(kind),
-                        (bit) => has(ace.mask, bit),
-                        (bit, isSet) => change(({mask}) => maskChange((isSet ? mask | bit : mask & ~bit) >>> 0)))))
-        ];
-    }
-
-    // A field for a SID, or for a name that stands for one.
-    sidField(id, label, sid, take) {
-        const {names} = this.context;
-        const name = sid ? nameOf(sid, names) : "";
-        const value = name && sidNamed(name, names) === sid ? name : sid;
-        return labelled(label,
-            wholeField(
-                id, value, (text) => take(sidNamed(text, names)), {dir: "auto", list: "edit-names", title: sid}));
-    }
-
-    whereField(ace, change) {
-        const {kind} = this.context;
-        const own = ["OI", "CI", "IO"].filter((flag) => ace.flags.includes(flag)).join("");
-        const by = inheritedBy(kind);
-        const isFitting = (place) => (place.match(/../g) ?? []).every((flag) => flag === "IO" || by.includes(flag));
-        const places = [...new Set([...PLACES.filter(isFitting), own])];
-        const take = (place) => change(({flags}) => {
-            const others = flags.filter((flag) => !["OI", "CI", "IO", ...(place === "" ? ["NP"] : [])].includes(flag));
-            return {flags: [...(place.match(/../g) ?? []), ...others]};
-        });
-        return places.length < 2 ? null : [
-            labelled(words.columns.where,
-                select("edit-where", places.map((place) => [place, whereOf(kind, {flags: place.match(/../g) ?? []})]),
-                    own, take)),
-            own === "" ? null : flagBox(ace, "NP", WORDS.where.oneLevel, change)
-        ];
-    }
-
-    objectFields(ace, change) {
-        if (ace.kind === "ML" || !(isDirectory(this.context.kind) || ace.object || ace.inherited)) {
-            return null;
-        }
-        const take = (name) => (text) => change((one) => {
-            const guid = guidNamed(text) || null;
-            return {[name]: guid, kind: typedKind({...one, [name]: guid})};
-        });
-        const field = (name) => labelled(valueIn(words, name),
-            wholeField(
-                `edit-${name}`, ace[name] ?? "", take(name), {list: "guids", "aria-describedby": `edit-${name}-hint`}),
-            ace[name] ? guidInWords(ace[name], name === "object" ? ace.mask : undefined) : words.noType);
-        return ["object", "inherited"].map(field);
-    }
-
     ownerFields() {
         const {names} = this.context;
-        const field = (part) => this.sidField(`edit-${part}`, valueIn(WORDS.parts, part), this.result[part]?.sid ?? "",
-            (sid) => this.step({does: part, sid}, valueIn(words.did, part)));
+        const field = (part) => sidField(`edit-${part}`, valueIn(WORDS.parts, part), this.result[part]?.sid ?? "",
+            names, (sid) => this.step({does: part, sid}, valueIn(words.did, part)));
         const shown = LISTS.flatMap((list) => this.rows(list)).map(({other}) => nameOf(other.sid, names));
         const offered = [...new Set([...shown, ...names.values(), ...Object.values(WORDS.names)])];
         return make("div", {class: "row"}, field("owner"), field("group"),
@@ -483,55 +359,6 @@ export class EditView {
             isProtected      ? act("again", {does: "inherit"}) :
                 hasInherited ? [act("keep", {does: "stop", keeps: true}), act("drop", {does: "stop", keeps: false})] :
                                act("stop", {does: "stop", keeps: true}));
-    }
-
-    textSection() {
-        const {sddl, before} = this.result;
-        const copy = (text, what) => this.acts.copy(text, what, byId("edit-copied"));
-        return make("section", {"aria-labelledby": "edit-text"}, make("h3", {id: "edit-text"}, words.text),
-            make("p", {}, make("code", {class: "whole", id: "edit-sddl"}, shortened(sddl, MOST_SDDL))),
-            make("p", {class: "adds"},
-                button(words.copyNew, () => copy(sddl, words.copyNew), {class: "primary", id: "edit-copy"}),
-                button(words.copyOld, () => copy(before, words.copyOld), {id: "edit-copy-old"})),
-            make("div", {id: "edit-copied", hidden: true}));
-    }
-
-    // The commands that set the descriptor, one at a time, with what each leaves out.
-    commandsSection() {
-        if (this.result.isSame) {
-            return null;
-        }
-        const section = make("section", {id: "edit-commands", "aria-labelledby": "edit-set-it"});
-        this.showCommands(section);
-        return section;
-    }
-
-    showCommands(section) {
-        const {commands} = this.result;
-        const at = Math.max(0, commands.findIndex(({tool}) => tool === this.tool));
-        const {tool, text, leavesOut, notes, why} = commands[at] ?? {why: WORDS.setCommands.none};
-        const choose = (number) => {
-            this.tool = commands[number].tool;
-            this.showCommands(section);
-            byId(`edit-tool-${number}`).focus();
-        };
-        const tools =
-            commands.map((one, number) => button(one.tool, () => choose(number),
-                             {class: "add", id: `edit-tool-${number}`, "aria-pressed": String(number === at)}));
-        const copy = () => this.acts.copy(text, words.copyCommand, byId("edit-copied"));
-        show(section, [
-            make("h3", {id: "edit-set-it"}, words.setIt), tool && make("div", {class: "adds"}, tools),
-            why && make("p", {}, why),
-            text &&
-                [
-                    make("pre", {class: "place"}, text),
-                    make("p", {class: "adds"},
-                        button(words.copyCommand, copy, {class: "primary", id: "edit-copy-command"})),
-                    make("p", {class: "hint"},
-                        leavesOut.length ? say(WORDS.setCommands.leavesOut, {what: commaed(leavesOut)}) : words.setsAll,
-                        " ", notes.join(" "))
-                ]
-        ]);
     }
 
     // Why a step can't be done, with its place. What was typed stays.
@@ -582,23 +409,6 @@ function rowOf(list, number) {
 const partRow = (list) => make("tr", {class: "part"},
     make("th", {scope: "rowgroup", colspan: Object.keys(words.columns).length}, valueIn(WORDS.parts, list)));
 
-const maskChange = (mask) => ({mask, rights: undefined});
-
-// What somebody typed: a number, or names, which the library reads.
-const rightsChange = (text) => (/^\s*0x[0-9a-f]{1,8}\s*$/i.test(text) ? maskChange(Number(text)) : {rights: text});
-
-// The sets of rights that have a name, and the one of an ACE.
-function setField({mask, rights}, kind, change) {
-    const sets = valueIn(WORDS.masks, kind).map(([bits, name]) => [String(bits), name]);
-    const value = rights ?? String(mask);
-    const own = sets.some(([bits]) => bits === value) ? [] : [[value, rights ?? commaed(rightsInWords(kind, mask))]];
-    return labelled(words.columns.can,
-        select("edit-set", [...sets, ...own], value, (bits) => change(() => maskChange(Number(bits)))));
-}
-
-const flagBox = ({flags}, flag, text, change) => box(`edit-${flag}`, text, flags.includes(flag),
-    (isSet) => change((ace) => ({flags: [...ace.flags.filter((one) => one !== flag), ...(isSet ? [flag] : [])]})));
-
 const aceInWords = (ace, kind, names, state) => [say(WORDS.verdict.ace, {numbers: ace.number}), wordOfKind(ace),
     nameOf(ace.sid, names), commaed(rightsOfAce(ace, kind)), whereOf(kind, ace),
     ...(state === "same" ? [] : [valueIn(WORDS.compare.states, state)])]
@@ -642,12 +452,3 @@ function putFocus(target, {id, typed}) {
         target.value = typed;
     }
 }
-
-// A field whose text is taken as a whole.
-const wholeField = (id, value, take, attributes) => input(id, value, () => {}, {
-    ...attributes,
-    onchange: ({target}) => {
-        target.defaultValue = target.value;
-        take(target.value);
-    }
-});

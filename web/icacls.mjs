@@ -2,6 +2,7 @@
 // so the page says that it was translated; a line with a name or a letter that is not in the tables here stays as it
 // is, and then nothing of the listing is taken.
 
+import {GENERIC} from "./well_known.mjs";
 const ACCOUNTS = new Map(Object.entries({
     "everyone": "WD",
     "creator owner": "CO",
@@ -119,7 +120,6 @@ export function listingIn(text) {
 // What icacls does to a list of ACEs, one operation a line, where that gives exactly another list.
 
 const SIMPLE = ["F", "M", "RX", "R"]; // of which a listing and a grant have the same mask
-const GENERIC = 0xf0000000;
 const LEVELS = new Map([["S-1-16-4096", "L"], ["S-1-16-8192", "M"], ["S-1-16-12288", "H"]]);
 const keyOf = ({flags}) => flags.join("");
 const textOf =

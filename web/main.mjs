@@ -432,7 +432,7 @@ class Page {
             inherit: [{state, made}, showInherit],
             compare: [{state, other}, showCompare],
             edit: [
-                {state, now: this.editing.now, steps: [...this.editing.waiting]},
+                {state, now: this.editing.now, origins: this.editing.origins, steps: [...this.editing.waiting]},
                 (...given) => this.editView.show(...given)
             ],
         };

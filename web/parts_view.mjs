@@ -14,6 +14,7 @@ import {
 } from "./naming.mjs";
 import {MOST_TEXT} from "./state.mjs";
 import {valueIn} from "./tables.mjs";
+import {ALLOWS, DENIES} from "./well_known.mjs";
 import {commaed, formatted, say, WORDS} from "./words.mjs";
 
 const LARGE = 20_000; // characters; a longer text is kept beside its field
@@ -68,13 +69,10 @@ export function pagesBar(name, {page, rows, count}, go) {
         move(words.next, page + 1, `${name}-next`), move(words.last, last, `${name}-last`));
 }
 
-const DENY = ["D", "OD"];
-const ALLOW = ["A", "OA"];
-
-export const kindClass = (kind) => (ALLOW.includes(kind) ? "allow" :
-        DENY.includes(kind)                              ? "deny" :
-        kind === "ML"                                    ? "label" :
-                                                           "audit");
+export const kindClass = (kind) => (ALLOWS.includes(kind) ? "allow" :
+        DENIES.includes(kind)                             ? "deny" :
+        kind === "ML"                                     ? "label" :
+                                                            "audit");
 
 // A SID: its name, and the exact text beside it.
 export function who(sid, alias, names) {

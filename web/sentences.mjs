@@ -3,10 +3,10 @@ import {has} from "./access.mjs";
 import {doing as ofWord, everybodyClass, isPluralName, tableOf} from "./meanings.mjs";
 import {faultInWords, nameOf, placeInWords, refusedKind, rightsInWords, shortened, visible} from "./naming.mjs";
 import {valueIn} from "./tables.mjs";
+import {DELETE, WRITE_DAC, WRITE_OWNER} from "./well_known.mjs";
 import {say, WORDS} from "./words.mjs";
 
 const words = WORDS.verdict;
-const [DELETE, WRITE_DAC, WRITE_OWNER] = [0x10000, 0x40000, 0x80000];
 const MOST_NUMBERS = 5; // ACEs in a sentence
 const MOST_PIECE = 40;  // characters of a text that is refused
 const ADMINISTRATORS = /^S-1-5-32-544$|^S-1-5-21-[\d-]+-(?:500|512|518|519)$/;

@@ -6,6 +6,7 @@ import {isDirectory, tableOf} from "./meanings.mjs";
 import {hasHidden, isBroken, posixQuoted, powershellQuoted} from "./quoting.mjs";
 import {guidNames} from "./schema.mjs";
 import {valueIn} from "./tables.mjs";
+import {ALLOWS} from "./well_known.mjs";
 import {COMMANDS, HINTS} from "./windows.mjs";
 import {say, WORDS} from "./words.mjs";
 
@@ -218,7 +219,7 @@ function grantOf(before, after) {
         }
         added.splice(at, 1);
     }
-    if (added.length !== 1 || !["A", "OA"].includes(added[0].kind)) {
+    if (added.length !== 1 || !ALLOWS.includes(added[0].kind)) {
         return null;
     }
     const [{flags, mask, object, inherited, sid}] = added;

@@ -21,14 +21,9 @@ import {
     tableOf
 } from "./meanings.mjs";
 import {caseOf} from "./risks.mjs";
+import {EVERYONE, OWNER_RIGHTS, DELETE, WRITE_DAC, WRITE_OWNER, TAKE_OVER, ALLOWS, DENIES} from "./well_known.mjs";
 
-const EVERYONE = "S-1-1-0";
-const OWNER_RIGHTS = "S-1-3-4";
-const [DELETE, WRITE_DAC, WRITE_OWNER] = [0x10000, 0x40000, 0x80000];
-const TAKE_OVER = WRITE_DAC | WRITE_OWNER;
 const GENERIC_ALL = 0x10000000;
-const ALLOWS = ["A", "OA"];
-const DENIES = ["D", "OD"];
 const GRAVE = ["high", "medium"];
 const CLASSES = ["anyone", "logged-on", "application"]; // those of everybody, the widest first
 const MOST_ASKED = 1000;                                // ACEs times kinds

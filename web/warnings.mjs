@@ -1,17 +1,15 @@
 // What a reader should look at, each with its reason: {key, level, numbers, ...}. LEVEL is 'danger', 'caution' or
 // 'note'. The words are in words.mjs. What is risky is found by the rules of risks.mjs, which sdtool-audit has too.
 // Whether somebody gets a right is always an answer of check.
-import {DECIDING, has, labelOf, reasonsOf, tokenOf} from "./access.mjs";
+import {has, labelOf, reasonsOf, tokenOf} from "./access.mjs";
 import {risksOfAny} from "./classes.mjs";
 import {guidBytes} from "./library.mjs";
 import {doing, isForNothing, relativeOf} from "./meanings.mjs";
 import {risksOf} from "./risks.mjs";
 import {valueIn} from "./tables.mjs";
+import {EVERYONE, OWNER_RIGHTS, SYNCHRONIZE, DECIDING} from "./well_known.mjs";
 
-const SYNCHRONIZE = 0x100000;
 const PROTECTED = 0x1000;
-const EVERYONE = "S-1-1-0";
-const OWNER_RIGHTS = "S-1-3-4";
 const CREATORS = ["S-1-3-0", "S-1-3-1"];
 // With this ACE a list has one for OWNER RIGHTS that grants nothing, so all that is granted is granted by ACEs.
 const NO_OWNER_RULE = {
