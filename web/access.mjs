@@ -18,6 +18,9 @@ export const isBroad = (sid) => everybodyClass(sid) !== null;
 
 const bitsOf = (mask) => Array.from({length: 32}, (_, place) => (1 << place) >>> 0).filter((bit) => (mask & bit) !== 0);
 
+// Numbers, each once.
+export const inOrder = (numbers) => [...new Set(numbers)].sort((one, other) => one - other);
+
 const has = (mask, bit) => (mask & bit) >>> 0 === bit;
 
 // The SIDs of a token that count for each ACE, and those that count only for ACEs that deny.

@@ -145,6 +145,8 @@ const packed = (items) => items.map((item) => JSON.stringify(item)).join("\n");
 
 export const linesOf = (text) => (text ? text.split("\n") : []);
 
+export const itemsOf = (text) => linesOf(text).map((line) => JSON.parse(line));
+
 // A list of a descriptor, with the text of each ACE.
 const packedList = ({state, aces}, texts) =>
     ({state, count: aces.length, aces: packed(aces.map((ace, at) => ({...ace, text: texts[at]})))});

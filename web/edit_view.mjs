@@ -1,6 +1,6 @@
 // The view that changes a descriptor: its ACEs, owner and inheritance, with the verdict, and who gains and who loses.
-import {linesOf} from "./desk.mjs";
-import {button, byId, make, moveByArrows, show, someRows} from "./dom.mjs";
+import {itemsOf} from "./desk.mjs";
+import {button, byId, make, moveByArrows, scrolling, show, someRows, tableHead} from "./dom.mjs";
 import {aceFields, listOf, sidField} from "./edit_fields.mjs";
 import {inheritedBy, tableOf} from "./meanings.mjs";
 import {faultInWords, guidInWords, nameOf, placeInWords, shortened, whereOf} from "./naming.mjs";
@@ -91,7 +91,7 @@ export class EditView {
         const {about} = context.editing;
         const isSame = this.about === about;
         const before = isSame ? LISTS.flatMap((list) => this.rows(list)) : [];
-        const [dacl, sacl] = LISTS.map((list) => linesOf(result[list]).map((line) => JSON.parse(line)));
+        const [dacl, sacl] = LISTS.map((list) => itemsOf(result[list]));
         Object.assign(
             this, {result, context, about, shown: {dacl, sacl}, ...(isSame ? {} : {chosen: null, draft: null})});
         const {refused} = result;
@@ -180,13 +180,10 @@ export class EditView {
             "aria-describedby": "edit-hint",
             onkeydown: (event) => this.key(event)
         },
-            make("thead", {},
-                make("tr", {}, Object.values(words.columns).map((text) => make("th", {scope: "col"}, text)))),
-            body);
+            tableHead(words.columns), body);
         body.querySelector("tr.ace")?.setAttribute("tabindex", "0");
         moveByArrows(table, "tr.ace");
-        return make(
-            "div", {class: "scroll", tabindex: "0", role: "region", "aria-labelledby": "edit-aces"}, table, more);
+        return scrolling({"aria-labelledby": "edit-aces"}, table, more);
     }
 
     // An ACE in a row, with what it was before the steps, or one that is gone. Below the chosen one are its fields.

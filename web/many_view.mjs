@@ -1,8 +1,8 @@
 // Several descriptors of a text: the verdict on all, a table with that on each, those alike together, and what a token
 // gets of each.
 import {answerInWords, faultsOf} from "./ask_view.mjs";
-import {linesOf} from "./desk.mjs";
-import {button, byId, make, show, someRows} from "./dom.mjs";
+import {itemsOf} from "./desk.mjs";
+import {button, byId, make, scrolling, show, someRows, tableHead} from "./dom.mjs";
 import {everybodyClass, hasOwnMapping, mappingOf} from "./meanings.mjs";
 import {faultInWords, shownName} from "./naming.mjs";
 import {sentenceOf} from "./sentences.mjs";
@@ -32,7 +32,7 @@ async function gathered(ask, isOver) {
         if (!got || isOver()) {
             return null;
         }
-        all.rows.push(...linesOf(got.rows).map((text) => JSON.parse(text)));
+        all.rows.push(...itemsOf(got.rows));
         Object.assign(all, {...got, rows: all.rows});
     }
     return all;
@@ -157,16 +157,13 @@ class TableOfMany {
         const body = make("tbody");
         const more = someRows(body, this.groups(), (group) => this.groupRow(group),
             (some) => say(WORDS.grid.more, {count: some}), {step: MOST_ROWS});
-        const columns = Object.values(words.columns).map((text) => make("th", {scope: "col"}, text));
         const about = {"aria-labelledby": `${id}-heading`};
         this.comparePlace = make("span");
         this.showCompare();
         show(byId(id),
             make("section", about, make("h2", {id: `${id}-heading`}, heading),
                 make("p", {class: "adds"}, this.filters(), this.comparePlace),
-                make("div", {class: "scroll", tabindex: "0", role: "region", ...about},
-                    make("table", {class: "many", ...about}, make("thead", {}, make("tr", {}, columns)), body)),
-                more));
+                scrolling(about, make("table", {class: "many", ...about}, tableHead(words.columns), body)), more));
     }
 }
 

@@ -1,7 +1,7 @@
 // What is risky about a descriptor: the rules of windows/, which sdtool-audit has too. Whether somebody gets a right is
 // always an answer of check, about the descriptor or about one without the ACEs that Windows itself gives.
 import {abilitiesOf, classesOf, isHarmless, isOwn, mayGive, partsOf, restOf} from "./abilities.mjs";
-import {grantedOf, reasonsOf, tokenOf, typesBySid, typesFor} from "./access.mjs";
+import {grantedOf, inOrder, reasonsOf, tokenOf, typesBySid, typesFor} from "./access.mjs";
 import {aceText, guidBytes} from "./library.mjs";
 import {
     atRisk,
@@ -149,7 +149,7 @@ class View {
         const aces = reasonsOf(this.library, this.descriptor, token, request)
                          .filter(({bit, isGranted, number}) => isGranted && number !== null && (mask & bit) !== 0)
                          .map(({number}) => this.numbers[number - 1]);
-        return [...new Set(aces)].sort((one, other) => one - other);
+        return inOrder(aces);
     }
 }
 
@@ -373,9 +373,8 @@ function ofList(library, model, options) {
 const answersOf = (view, whole, sid, {own}) => ({
     gives: (right, types) => view.keeps(sid, own, right, types),
     givesAll: (right, types) => whole.gives(sid, own, right, types),
-    numbersOf: (mask,
-        types) => [...new Set(types.flatMap((object) => (types.length > 1 ? whole : view).granting(sid, mask, object)))]
-                      .sort((one, other) => one - other),
+    numbersOf: (mask, types) =>
+        inOrder(types.flatMap((object) => (types.length > 1 ? whole : view).granting(sid, mask, object))),
 });
 
 const keyOf = ({rule, mask, object = ""}) => `${rule} ${mask} ${object}`;

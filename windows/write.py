@@ -427,7 +427,9 @@ def json_value(value, indent):
         return line
     more = indent + "    "
     if isinstance(value, dict):
-        rows = [(f"{json.dumps(key)}: {json_value(item, more)}", item) for key, item in value.items()]
+        # The members of a row share lines.
+        rows = [(f"{json.dumps(key)}: {json_value(item, more)}", None if indent else item)
+                for key, item in value.items()]
         return "{\n" + in_lines(rows, more, 120) + f"\n{indent}}}"
     return "[\n" + in_lines([(json_value(item, more), item) for item in value], more, 120) + f"\n{indent}]"
 
