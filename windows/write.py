@@ -493,6 +493,8 @@ def script_text(tables, schema):
         if name in ("PROTECTING", "DEFAULTS"):
             lines.append(f"/** @type {{{script_type(value)}}} */")
         lines.append(f"export const {name} = {json_value(value, '')};")
+    shown = {name: row["shown"] for rows in schema.rows.values() for name, row in rows.items() if "shown" in row}
+    lines.append(f"export const SHOWN = {json_value(shown, '')};")
     lines.append("// Of each type the end of GUIDs, and then for each GUID with that end its first eight digits and "
                  "its name.")
     lines.append(f"export const TYPES = {json_value({kind: folded_types(schema.rows[kind]) for kind in TYPES}, '')};")

@@ -313,7 +313,8 @@ test("what a command can't set is said beside it", () => {
 test("dsacls adds one grant, and nothing else", () => {
     const user = "bf967aba-0de6-11d0-a285-00aa003049e2";
     const member = "bf9679c0-0de6-11d0-a285-00aa003049e2";
-    const reset = "00299570-246d-11d0-a768-00aa006e0529";
+    const [reset, logon] = ["00299570-246d-11d0-a768-00aa006e0529", "5f202010-79a5-11d0-9020-00c04fc2d4cf"];
+    const unknown = "91d67418-0135-4acc-8d79-c08e857cfbec"; // a right that nothing here tells the shown name of
     const step = (...aces) =>
         rowOf("dsacls", "ds", "CN=x", BEFORE, descriptorOf({dacl: [FULL, ...aces]}))?.text ?? null;
     for (const [ace, expected] of [["A;CI;0x10000000;;;S-1-1-0", "dsacls 'CN=x' /I:T /G 'S-1-1-0:GA'"],
@@ -321,8 +322,11 @@ test("dsacls adds one grant, and nothing else", () => {
              [`OA;CIIO;0x30;${member};${user};S-1-1-0`, "dsacls 'CN=x' /I:S /G 'S-1-1-0:RPWP;member;user'"],
              [`OA;CIIO;0x30;;${user};S-1-1-0`, "dsacls 'CN=x' /I:S /G 'S-1-1-0:RPWP;;user'"],
              [`OA;CI;0x1;${user};;S-1-1-0`, "dsacls 'CN=x' /I:T /G 'S-1-1-0:CC;user'"],
-             // A right by a name that it is not shown by, other flags, a denial, bits without letters.
-             [`OA;;0x100;${reset};;S-1-1-0`, null], ["A;CINP;0x1;;;S-1-1-0", null], ["D;;0x1;;;S-1-1-0", null],
+             [`OA;CIIO;0x100;${reset};${user};S-1-1-0`, "dsacls 'CN=x' /I:S /G 'S-1-1-0:CA;Reset Password;user'"],
+             [`OA;;0x30;${logon};;S-1-1-0`, "dsacls 'CN=x' /G 'S-1-1-0:RPWP;Logon Information'"],
+             [`OA;;0x8;${member};;S-1-1-0`, "dsacls 'CN=x' /G 'S-1-1-0:WS;Add/Remove self as member'"],
+             // A name that isn't known, other flags, a denial, bits without letters.
+             [`OA;;0x100;${unknown};;S-1-1-0`, null], ["A;CINP;0x1;;;S-1-1-0", null], ["D;;0x1;;;S-1-1-0", null],
              ["A;;0x200;;;S-1-1-0", null]]) {
         assert.equal(step(ace), expected, ace);
     }
