@@ -126,7 +126,7 @@ def who(common: Common, words: Sequence[str], groups: Optional[str], most_member
     abilities, paths = _abilities_first(words, common)
     wanted, paths = (None, paths) if abilities else _rights_first(words, common)
     check_files(common, paths, files.named("--groups", groups))
-    common = inquiry.informed(common, paths)
+    common, paths = inquiry.informed(common, paths)
     trust = names.Trust(_sids(trusted, common.context.domain), common.domains)
     known = read_groups(groups, common.context.domain) if groups else None
     common = common.saying(*(f"--groups: {group} is not whole: the file has a range of its members"
@@ -160,7 +160,7 @@ def can(common: Common, token: str, words: Sequence[str], level: Optional[int], 
     """
     wanted, paths = _rights_first(words, common)
     check_files(common, paths, [files.Named("the token", token)])
-    common = inquiry.informed(common, paths)
+    common, paths = inquiry.informed(common, paths)
     holder = read_token(token, common.context.domain, exact)
     if level is not None:
         holder = holder._replace(level=level)
@@ -240,7 +240,7 @@ def ask_risks(common: Common, given: Sequence[str], trusted: Sequence[str], owne
     check_files(common, paths, read)
     for one in read:
         files.require(one)
-    common = inquiry.informed(common, paths)
+    common, paths = inquiry.informed(common, paths)
     domain = common.context.domain
     trust = names.Trust(_sids(trusted, domain), common.domains, root)
     options = risks.RiskOptions(trust, _sids(owners, domain), named, severity=min_severity)
@@ -306,13 +306,13 @@ def diff(common: Common, old: str, new: str, old_root: Optional[str], new_root: 
     """What changed between two lists of the same objects: OLD NEW."""
     paths = paths_of([old, new], common)
     check_files(common, paths)
-    common = inquiry.informed(common, paths)
+    common, paths = inquiry.informed_each(common, paths)
     question = Differences(common.context)
     inquiry.begin_all(common, paths)
     bar = Bar(paths, common.bar)
     with engine_of(question, common.jobs or processors()) as engine:
-        for table, path, root in (("old", old, old_root), ("new", new, new_root)):
-            question.read(table, inquiry.items_of(common, [path], bar), files.root_of(path) if root is None else root)
+        for table, path, word, root in zip(("old", "new"), paths, (old, new), (old_root, new_root)):
+            question.read(table, inquiry.items_of(common, [path], bar), files.root_of(word) if root is None else root)
         try:
             return inquiry.report_of(common, Inquiry(question, f"Changes from {old} to {new}", paths), question, bar,
                                      functools.partial(question.answered, engine))
@@ -329,7 +329,7 @@ def inherit(common: Common, given: Sequence[str], fix: Optional[str]) -> int:
     """Objects whose inherited ACEs are not those that their folder hands on."""
     paths = paths_of(given, common)
     check_files(common, paths, (), files.named("--fix", fix))
-    common = inquiry.informed(common, paths)
+    common, paths = inquiry.informed(common, paths)
     question = Inheritance(common.context)
     inquiry.begin_all(common, paths)
     bar = Bar(paths, common.bar)
@@ -351,7 +351,7 @@ def show(common: Common, given: Sequence[str], name: Optional[str]) -> int:
     """Objects in words."""
     paths = paths_of(given, common)
     check_files(common, paths)
-    common = inquiry.informed(common, paths)
+    common, paths = inquiry.informed(common, paths)
     inquiry.begin_all(common, paths)
     with inquiry.opened(common.out) as file:
         return describing.show(inquiry.items_of(common, paths, Bar(paths, False)), name, common.context, file)

@@ -6,7 +6,7 @@ import itertools
 from typing import Any, Deque, Dict, Iterable, Iterator, List, NamedTuple, Optional, Set, Tuple
 
 from sdtool.audit import pool
-from sdtool.audit.findings import Answer, unknown
+from sdtool.audit.findings import Answer, unread
 from sdtool.audit.library import AnswersFault
 from sdtool.audit.protocols import Question
 from sdtool.audit.sources.items import UNREADABLE, WITHOUT_OWNER, Item
@@ -150,7 +150,7 @@ class Engine:
     def _other(self, item: Item, key: Key) -> Answer:
         """The answer for an object that can't be read, or whose answer isn't among the newest."""
         if item.form == UNREADABLE:
-            return unknown(item.text, item.help)
+            return unread(item.text, item.help)
         # It may have been forgotten in the meantime.
         return self._memory.get(key) or answer_groups(self._question, {key[:2]: [key[2]]})[0][1]
 

@@ -4,13 +4,17 @@ import functools
 import io
 import os
 import sys
-from typing import Any, Callable, Iterable, Iterator, List, NamedTuple, Optional, Sequence, TextIO, Union
+import tempfile
+import time
+from typing import Any, Callable, Iterable, Iterator, List, NamedTuple, Optional, Sequence, TextIO, Tuple, Union
 
-from sdtool.audit import files, pool
+from sdtool.audit import files, pool, stopping
 from sdtool.audit.directory.folders import Folders
 from sdtool.audit.directory.forest import Forest, Told
 from sdtool.audit.engine import Answered, Engine, Held
 from sdtool.audit.findings import Rule
+from sdtool.audit.live.address import is_address
+from sdtool.audit.live.reading import Fact, Reading, Rest, reading_of
 from sdtool.audit.progress import Bar
 from sdtool.audit.protocols import ListQuestion, Question
 from sdtool.audit.reports import outputs
@@ -54,7 +58,73 @@ def opened(out: Optional[str]) -> Iterator[TextIO]:
     sys.stdout.flush()
 
 
-def informed(common: Common, paths: Sequence[str]) -> Common:
+def informed(common: Common, paths: Sequence[str]) -> Tuple[Common, List[str]]:
+    """What the words say, with what sources say themselves, and the sources. Addresses are read now: where there is
+    one, a database with the objects of all sources stands for these."""
+    if not any(map(is_address, paths)):
+        return _informed(common, paths), list(paths)
+    common, path = _gathered(_informed(common, paths), paths)
+    return common, [path]
+
+
+def informed_each(common: Common, paths: Sequence[str]) -> Tuple[Common, List[str]]:
+    """The same, with a database for each address."""
+    common = _informed(common, paths)
+    return common, [_gathered(common, [path])[1] if is_address(path) else path for path in paths]
+
+
+def _gathered(common: Common, paths: Sequence[str]) -> Tuple[Common, str]:
+    """Reads all sources into the database that --into names, or into one for this run. Nothing is read before each
+    server has answered."""
+    access = common.access.known()
+    target = common.into or files.part_of(os.path.join(tempfile.gettempdir(), "sdtool"))
+    is_new = not os.path.exists(target)
+    if is_new:
+        stopping.unfinished.add(target)
+    asking = cache.Asking(target, paths)
+    stopping.close_early(asking.close)
+    bar = Bar(paths, common.bar)
+    try:
+        waiting = asking.waiting()
+        readings = {path: reading_of(path, access, functools.partial(asking.has, path))
+                    for path in waiting if is_address(path)}
+        if common.into:
+            stopping.unfinished.discard(target)
+        for path in waiting:
+            _gather(common, path, readings.get(path), asking, bar)
+        asking.end_all()
+    finally:
+        bar.stop()
+        asking.close()
+    return common._replace(into=None, access=access), target
+
+
+_KEPT_AFTER = 2.0  # seconds
+
+
+def _gather(common: Common, path: str, reading: Optional[Reading], asking: cache.Asking, bar: Bar) -> None:
+    """Keeps the objects of a source: those of a server as they come, and those of a file together."""
+    if reading is None:
+        for item in bar.count(items_of(common, [path], bar)):
+            asking.add(item)
+        asking.end_source(path)
+        return
+    reason, kept = None, time.monotonic()
+    for found in reading.items():
+        if isinstance(found, Rest):
+            reason = found.item.text
+        elif isinstance(found, Fact):
+            asking.add_fact(path, found.kind, found.key, found.value)
+        else:
+            asking.add(found)
+            bar.advance(1)
+        if time.monotonic() > kept + _KEPT_AFTER:
+            asking.keep()
+            kept = time.monotonic()
+    asking.end_source(path, reason)
+
+
+def _informed(common: Common, paths: Sequence[str]) -> Common:
     """What the words say, with what LDIF sources say themselves: the domain and names of SIDs. Words win over sources,
     and two domains leave none. Standard input and pipes can be read only once."""
     if common.options.format not in (None, "ldif"):

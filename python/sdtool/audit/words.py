@@ -10,12 +10,15 @@ import click
 from sdtool.audit import files, library, stopping
 from sdtool.audit.directory.groups import read_names
 from sdtool.audit.directory.machines import Machines
+from sdtool.audit.live.access import Access
+from sdtool.audit.live.address import address_of, is_address
 from sdtool.audit.protocols import Context
 from sdtool.audit.reports import outputs
 from sdtool.audit.reports.shown import say
 from sdtool.audit.sources import reading
 from sdtool.audit.sources.opening import STANDARD_INPUT, OpeningFault
 from sdtool.audit.sources.options import DEFAULT_ATTRIBUTES, SourceOptions
+from sdtool.audit.store import cache
 from sdtool.audit.windows import rights
 from sdtool.audit.windows.names import Names
 
@@ -37,6 +40,7 @@ class Common(NamedTuple):
     reads: Tuple[files.Named, ...]
     accounts: Dict[str, str] = {}  # SIDs of accounts without a fixed number that sources name
     machines: Optional[Machines] = None  # those that sources name
+    access: Access = Access()  # who asks servers, and how
     said: Tuple[str, ...] = ()  # what decides about all answers beside the words, which each report says too
 
     def saying(self, *lines: str) -> "Common":
@@ -83,6 +87,17 @@ _SOURCE_OPTIONS = (
     click.option("--sid-names", metavar="FILE",
                  help="A file with the names of SIDs: CSV, lines of SID and name, or LDIF."),
 )
+_SERVER_OPTIONS = (
+    click.option("--credentials", metavar="FILE",
+                 help="Who asks a server: a file of mode 0600 as smbclient -A has it. Default: Kerberos' ticket."),
+    click.option("--user", metavar="NAME", help="The same by a name, also DOMAIN\\NAME. The password is asked for."),
+    click.option("--timeout", type=click.FloatRange(1, 86_400), default=60, show_default=True, metavar="SECONDS",
+                 help="How long a server may be silent. It is then asked again, twice."),
+    click.option("--requests", type=click.FloatRange(0.01), metavar="N", help="At most so many requests a second."),
+    click.option("--sacl", is_flag=True, help="Reads SACLs too, for which the server asks for a privilege."),
+    click.option("--backup", is_flag=True, help="Opens files as a backup does, which the server logs as such."),
+    click.option("--ca", metavar="FILE", help="The authorities of an ldaps server's certificate."),
+)
 # What a database has kept, so that these options come too late for it.
 _LOST_ON_DATABASES = {"source_format": "--format", "encoding": "--encoding", "delimiter": "--delimiter",
                       "no_quotes": "--no-quotes",
@@ -127,7 +142,7 @@ def with_common(*without: str) -> Callable[[Callable[..., int]], Callable[..., i
             words = {**_UNSAID, **words}
             return command(_common(words), **words)
 
-        for option in reversed([*_SOURCE_OPTIONS,
+        for option in reversed([*_SOURCE_OPTIONS, *_SERVER_OPTIONS,
                                 *(one for name, one in _REPORT_OPTIONS.items() if name not in without)]):
             run = option(run)
         return run
@@ -177,7 +192,10 @@ def _common(given: Dict[str, Any]) -> Common:
     into = given.pop("into")
     files.refuse(reads, [*files.named("--out", out), *files.named("--into", into)])
     names = Names(read_names(sid_names, domain) if sid_names else None)
-    return Common(options, of_sources, Context(domain, names), given.pop("jobs"), form, out, into, bar, domains, reads)
+    access = Access(*(given.pop(name)
+                    for name in ("credentials", "user", "timeout", "requests", "sacl", "backup", "ca")))
+    return Common(options, of_sources, Context(domain, names), given.pop("jobs"), form, out, into, bar, domains, reads,
+                  access=access)
 
 
 def paths_of(given: Sequence[str], common: Common) -> List[str]:
@@ -192,6 +210,11 @@ def paths_of(given: Sequence[str], common: Common) -> List[str]:
     if STANDARD_INPUT in given and sys.stdin is None:
         raise OpeningFault("standard input is closed")
     for path in given:
+        if is_address(path):
+            address_of(path)
+            if common.of_sources:
+                raise OpeningFault(f"{path}: a server isn't read by {', '.join(common.of_sources)}")
+            continue
         if path != STANDARD_INPUT and not os.path.exists(path):
             raise OpeningFault(f"{path}: no such file or folder")
         if common.of_sources and is_database(path):
@@ -208,9 +231,12 @@ def is_database(path: str) -> bool:
 def check_files(common: Common, paths: Sequence[str], read: Sequence[files.Named] = (),
                 written: Sequence[files.Named] = ()) -> None:
     """Refuses words that name a file twice, if that would write over it, and a database that is there."""
+    is_asking = any(map(is_address, paths))
     outputs_ = [*files.named("--out", common.out), *files.named("--into", common.into), *written]
     reads = [*(files.Named(A_SOURCE, path) for path in paths), *common.reads, *read]
     files.refuse(reads, outputs_)
     files.refuse_standard_output(reads)
     if common.into is not None and os.path.lexists(common.into):
-        raise OpeningFault(f"--into {common.into}: the file exists; name a new one")
+        if not is_asking or cache.sources_asked(common.into) != list(paths):
+            raise OpeningFault(f"--into {common.into}: the file exists; name a new one" +
+                               ", or the sources of the run that has begun it" * is_asking)

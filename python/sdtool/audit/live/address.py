@@ -1,0 +1,54 @@
+"""Addresses of servers, which are sources as files are."""
+import re
+from typing import List, NamedTuple
+from urllib.parse import unquote
+
+from sdtool.audit.sources.opening import OpeningFault
+
+_ADDRESS = re.compile(r"(smb|ldaps?|reg|svc)://", re.I)
+_SERVER = re.compile(r"\[[0-9A-Fa-f:.]+(?:%\w+)?\]|[\w.-]+")
+_HELP = ("an address is smb://SERVER/SHARE/FOLDER, ldap://SERVER/BASE??scope?filter, ldaps://.., "
+         "reg://SERVER/HKLM/KEY or svc://SERVER")
+
+
+class Address(NamedTuple):
+    """Where something is asked: path is behind the server's name, query behind the first '?' of a directory."""
+
+    scheme: str
+    server: str
+    path: str
+    query: str
+    text: str  # as it was written
+
+    @property
+    def parts(self) -> List[str]:
+        """The names of the path."""
+        return [part for part in re.split(r"[\\/]", self.path) if part]
+
+
+def is_address(word: str) -> bool:
+    """Whether a source is the address of a server. Nothing else is asked of one."""
+    return _ADDRESS.match(word) is not None
+
+
+def address_of(word: str) -> Address:
+    """An address by its text. One with a user or a password isn't repeated: others would read it."""
+    scheme, _, rest = word.partition("://")
+    scheme = scheme.lower()
+    server, slash, behind = rest.partition("/")
+    if "@" in server or ":" in re.sub(r"\A\[.*\]", "", server) or "@" in rest and not _SERVER.fullmatch(server):
+        raise OpeningFault(f"{scheme}://..: an address has no user, password or port; --user NAME or --credentials "
+                           "FILE says who asks")
+    if not (_SERVER.fullmatch(server) or not server and scheme.startswith("ldap")):
+        raise OpeningFault(f"{scheme}://..: no server's name is behind it; {_HELP}")
+    path, _, query = behind.partition("?") if scheme.startswith("ldap") else (behind, "", "")
+    try:
+        path = unquote(path, errors="strict")
+    except UnicodeDecodeError:
+        raise OpeningFault(f"{word}: what % spells isn't UTF-8") from None
+    address = Address(scheme, server.strip("[]"), path, query, word)
+    if re.search("[\0-\x1f\x7f]", path) or {".", ".."} & set(address.parts) and not scheme.startswith("ldap"):
+        raise OpeningFault(f"{word!r}: a part of the path is no name")
+    if scheme == "svc" and address.parts:
+        raise OpeningFault(f"{word}: nothing is behind the server's name; {_HELP}")
+    return address

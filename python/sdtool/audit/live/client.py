@@ -1,0 +1,240 @@
+"""The process of a client: it logs in, does what it is asked, and says what came of it. See talking.py."""
+import contextlib
+import importlib
+import json
+import os
+import queue
+import socket
+import struct
+import sys
+import threading
+import time
+from typing import Any, List, NamedTuple, Tuple
+
+_ALIVE = 1.0  # seconds between two looks at what has come
+_BYTES_RECEIVED = 128  # where TCP_INFO has it
+_PORTS = {"ldap": 389, "ldaps": 636}
+
+
+class Refusal(Exception):
+    """The server's answer to one request is none."""
+
+    def __init__(self, code: int, reason: str) -> None:
+        super().__init__(reason)
+        self.code, self.reason = code, reason
+
+
+class Login(NamedTuple):
+    """What this client was told: where it asks, as whom, and how."""
+
+    kind: str
+    scheme: str
+    server: str
+    path: str
+    query: str
+    text: str
+    user: str
+    domain: str
+    password: str
+    timeout: float
+    requests: float
+    sacl: bool
+    backup: bool
+    ca: str
+
+    def loadparm(self) -> Any:
+        """The machine's smb.conf, which can't switch signing off."""
+        from samba.param import LoadParm
+        return self._safe(LoadParm())
+
+    def loadparm_of_files(self) -> Any:
+        """The same, as calls about files take it."""
+        from samba.samba3 import param
+        return self._safe(param.get_context())
+
+    @staticmethod
+    def _safe(found: Any) -> Any:
+        with contextlib.suppress(Exception):  # a machine without smb.conf
+            found.load_default()
+        for name, value in (("log level", "0"), ("client signing", "required"), ("client ipc signing", "required"),
+                            ("client ldap sasl wrapping", "seal")):
+            found.set(name, value)
+        return found
+
+    def credentials(self) -> Any:
+        """Who asks. Without a password Kerberos' ticket says it, and no NTLM is tried."""
+        from samba import credentials, gensec
+        found = credentials.Credentials()
+        found.guess(self.loadparm())
+        found.set_smb_signing(credentials.SMB_SIGNING_REQUIRED)
+        found.set_smb_ipc_signing(credentials.SMB_SIGNING_REQUIRED)
+        found.set_gensec_features(found.get_gensec_features() | gensec.FEATURE_SEAL)
+        if not self.password:
+            found.set_kerberos_state(credentials.MUST_USE_KERBEROS)
+            return found
+        found.set_kerberos_state(credentials.AUTO_USE_KERBEROS)
+        if "@" in self.user:
+            found.set_principal(self.user)
+        found.set_username(self.user)
+        if self.domain:
+            found.set_domain(self.domain)
+        found.set_password(self.password)
+        return found
+
+
+_next_request = 0.0
+
+
+def pace(login: Login) -> None:
+    """Waits until the server may be asked once more."""
+    global _next_request
+    if login.requests:
+        now = time.monotonic()
+        _next_request = max(_next_request, now)
+        time.sleep(_next_request - now)
+        _next_request += 1 / login.requests
+
+
+class _Voice:
+    """What this process says, line by line. Threads take turns."""
+
+    def __init__(self, number: int) -> None:
+        self._number = number
+        self._lock = threading.Lock()
+
+    def say(self, *told: Any) -> None:
+        data = json.dumps(told).encode() + b"\n"
+        with self._lock:
+            while data:
+                data = data[os.write(self._number, data):]
+
+
+def _received() -> int:
+    """How many bytes the connections of this process have had so far."""
+    count = 0
+    for name in os.listdir("/proc/self/fd"):
+        with contextlib.suppress(OSError, ValueError, struct.error):
+            with socket.socket(fileno=os.dup(int(name))) as one:
+                info = one.getsockopt(socket.IPPROTO_TCP, socket.TCP_INFO, 256)
+                count += struct.unpack_from("=Q", info, _BYTES_RECEIVED)[0]
+    return count
+
+
+def _say_alive(voice: _Voice) -> None:
+    """Says that answers come, however long one of them takes."""
+    before = 0
+    while True:
+        time.sleep(_ALIVE)
+        found = _received()
+        if found > before:
+            voice.say("alive")
+        before = found
+
+
+def _listen(stream: Any, requests: "queue.Queue[str]") -> None:
+    """Takes requests. Where nobody asks any more, the process ends, whatever it waits for."""
+    for line in stream:
+        requests.put(line)
+    os._exit(0)
+
+
+def serve() -> None:
+    """Serves whoever has begun this process. The libraries have no streams to print to."""
+    voice, nothing = _Voice(os.dup(1)), os.open(os.devnull, os.O_RDWR)
+    for number in (1, 2):
+        os.dup2(nothing, number)
+    login = Login(*json.loads(sys.stdin.readline()))
+    requests: "queue.Queue[str]" = queue.Queue()
+    threading.Thread(target=_listen, args=(sys.stdin, requests), daemon=True).start()
+    threading.Thread(target=_say_alive, args=(voice,), daemon=True).start()
+    try:
+        module = importlib.import_module(f"sdtool.audit.live.{login.kind}_client")
+        session = module.opened(login)
+    except Exception as error:
+        voice.say("closed", *why_closed(login, error))
+        return
+    voice.say("open")
+    while True:
+        action, *arguments = json.loads(requests.get())
+        try:
+            for answer in module.ACTIONS[action](session, *arguments):
+                voice.say("answer", answer)
+            voice.say("end")
+        except Exception as error:
+            code, reason = fault_of(error)
+            if is_of_transport(code):
+                voice.say("lost", reason)
+                return
+            voice.say("refused", code, reason)
+
+
+def fault_of(error: Exception) -> Tuple[int, str]:
+    """The number and the words of a fault: those of NTSTATUS, of Windows or of a directory."""
+    if isinstance(error, Refusal):
+        return error.code, error.reason
+    if len(error.args) >= 2 and isinstance(error.args[0], int):
+        return error.args[0] & 0xffffffff, _plain(str(error.args[1]))
+    return 0, _plain(f"{type(error).__name__}: {error}")
+
+
+def _plain(words: str) -> str:
+    """Words of a library in one line."""
+    return " ".join(words.split())[:300]
+
+
+# Numbers of NTSTATUS that say something of the connection, and nothing of what was asked.
+_TRANSPORT = ("CONNECTION_RESET", "CONNECTION_DISCONNECTED", "CONNECTION_ABORTED", "CONNECTION_INVALID", "IO_TIMEOUT",
+              "PIPE_BROKEN", "PIPE_DISCONNECTED", "NETWORK_NAME_DELETED", "USER_SESSION_DELETED",
+              "VIRTUAL_CIRCUIT_CLOSED", "INVALID_NETWORK_RESPONSE", "INVALID_CONNECTION", "NETWORK_UNREACHABLE",
+              "HOST_UNREACHABLE", "LOCAL_DISCONNECT", "REMOTE_DISCONNECT", "NETWORK_SESSION_EXPIRED",
+              "RPC_PROTOCOL_ERROR", "RPC_CONNECTION_ABORTED", "NO_MEMORY", "INSUFFICIENT_RESOURCES", "INVALID_HANDLE")
+_LOGGED_IN = ("LOGON_FAILURE", "WRONG_PASSWORD", "NO_SUCH_USER", "ACCOUNT_DISABLED", "ACCOUNT_LOCKED_OUT",
+              "ACCOUNT_EXPIRED", "ACCOUNT_RESTRICTION", "PASSWORD_EXPIRED", "PASSWORD_MUST_CHANGE",
+              "LOGON_TYPE_NOT_GRANTED", "INVALID_WORKSTATION", "INVALID_LOGON_HOURS", "TRUSTED_RELATIONSHIP_FAILURE",
+              "NTLM_BLOCKED")
+_NO_TICKET = ("NO_LOGON_SERVERS", "CANT_ACCESS_DOMAIN_INFO", "DOMAIN_CONTROLLER_NOT_FOUND", "INVALID_ACCOUNT_NAME",
+              "INVALID_PARAMETER", "KDC_UNABLE_TO_REFER", "UNSUCCESSFUL", "ACCESS_DENIED", "NO_SUCH_DOMAIN")
+
+
+def _numbers(names: Tuple[str, ...]) -> List[int]:
+    from samba import ntstatus
+    return [getattr(ntstatus, f"NT_STATUS_{name}") for name in names if hasattr(ntstatus, f"NT_STATUS_{name}")]
+
+
+def is_of_transport(code: int) -> bool:
+    """Whether a fault is one of the connection."""
+    return code in _numbers(_TRANSPORT)
+
+
+def why_closed(login: Login, error: Exception) -> Tuple[str, str, bool]:
+    """Why nothing can be asked, what would help, and whether it may pass."""
+    code, words = fault_of(error)
+    if code in _numbers(_LOGGED_IN):
+        return words, "check the name and the password, or take a ticket with kinit", False
+    if code in _numbers(("TIME_DIFFERENCE_AT_DC",)) or "clock" in words.lower() or "skew" in words.lower():
+        return words, "set the clock of this machine", False
+    if code in _numbers(("BAD_NETWORK_NAME",)):
+        return words, f"check the name of the share; smb://{login.server} asks for all shares", False
+    if code in _numbers(("OBJECT_NAME_NOT_FOUND", "OBJECT_PATH_NOT_FOUND", "OBJECT_NAME_INVALID", "NOT_A_DIRECTORY",
+                         "OBJECT_PATH_SYNTAX_BAD")):
+        return words, "check the path behind the share's name", False
+    why = _why_not_reached(login)
+    if why:
+        return why, "check the name of the server, and that this machine reaches it", True
+    if not login.password and code in _numbers(_NO_TICKET):
+        return words, ("without --user or --credentials a ticket of Kerberos says who asks: kinit takes one, and the "
+                       "server has to be named by its full name, not by a number"), False
+    if code in _numbers(("ACCESS_DENIED",)):
+        return words, "ask as a user who may, with --user or --credentials", False
+    return words, "check the server, the name of the user, and the password", is_of_transport(code)
+
+
+def _why_not_reached(login: Login) -> str:
+    """Why a server isn't reached, in words that Samba doesn't have."""
+    try:
+        with socket.create_connection((login.server, _PORTS.get(login.scheme, 445)), min(login.timeout / 3, 10)):
+            return ""
+    except socket.gaierror as error:
+        return f"the name {login.server} isn't known ({error.strerror})"
+    except OSError as error:
+        return f"{login.server} isn't reached ({error.strerror or error})"
