@@ -85,8 +85,11 @@ class Domain:
         self.client = folder / "client.conf"
         self.environment = {**os.environ, "KRB5_CONFIG": str(folder / "krb5.conf"), "SMB_CONF_PATH": str(self.client)}
         self.environment.pop("KRB5CCNAME", None)
+        folder.mkdir(parents=True)
+        # In memory, since each change of the directory waits for the disk some times.
+        _run("mount", "-t", "tmpfs", "tmpfs", str(folder))
         for name in ("run", "etc", "cache", "lock", "samba"):
-            (folder / name).mkdir(parents=True)
+            (folder / name).mkdir()
         self._mount()
         self.configuration.write_text(_CONFIGURATION.format(
             realm=REALM, netbios=NETBIOS, name=HOST.partition(".")[0].upper(), folder=folder, address=ADDRESS,

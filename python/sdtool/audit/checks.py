@@ -209,14 +209,14 @@ class Share(NamedTuple):
     object_type: str
 
 
-def shares_of(got: Got, kind: str, text: str, had: int = 0, asked: int = 0) -> List[Share]:
+def shares_of(got: Got, kind: str, text: str, names: sids.Names, had: int = 0, asked: int = 0) -> List[Share]:
     """What somebody gets of the rights that were asked about, who had some more: those by object type say so."""
     found = []
     if got.mask:
         claimed, words = rights.level_of(got.mask, had or got.mask, asked or got.mask, kind)
         found.append(Share(words, claimed, text, got.mask, ""))
     for object_type, mask in got.by_type:
-        bound = f"only for object type {sids.object_type(object_type)}"
+        bound = f"only for object type {names.object_type(object_type)}"
         text_of_type = f"{bound}; {text}" if text else bound
         found.append(Share(rights.short_text(mask, kind), mask, text_of_type, mask, object_type))
     return found

@@ -8,7 +8,7 @@ import click
 
 import sdtool
 from sdtool.audit import files, inquiry, library, stopping
-from sdtool.audit.directory import forest
+from sdtool.audit.directory import asking, forest
 from sdtool.audit.directory.folders import Folders
 from sdtool.audit.directory.groups import read_groups
 from sdtool.audit.directory.machines import Machines
@@ -17,6 +17,7 @@ from sdtool.audit.engine import engine_of
 from sdtool.audit.findings import SEVERITIES
 from sdtool.audit.inquiry import Inquiry
 from sdtool.audit.library import WordsFault
+from sdtool.audit.live.address import address_of, is_address
 from sdtool.audit.pool import processors
 from sdtool.audit.progress import Bar
 from sdtool.audit.questions import risks
@@ -132,7 +133,8 @@ def who(common: Common, words: Sequence[str], groups: Optional[str], most_member
     common = common.saying(*(f"--groups: {group} is not whole: the file has a range of its members"
                              for group in (known.cut if known else ())))
     if known:
-        named = Names(common.context.names.given, {**common.context.names.of_sources, **known.names})
+        named = Names(common.context.names.given, {**common.context.names.of_sources, **known.names},
+                      common.context.names.types)
         common = common._replace(context=common.context._replace(names=named))
     listed = Listing(known, most_members, trust, all_trustees)
     if wanted is None:
@@ -156,12 +158,19 @@ def can(common: Common, token: str, words: Sequence[str], level: Optional[int], 
 
     TOKEN is a file that 'whoami /all', 'id' or a directory's tokenGroups made, a file with a SID in each line, or SIDs
     with commas between them; '!' before one makes it deny-only. A user's SID brings Everyone and Authenticated Users.
+    Where a source is the address of a server, TOKEN can be an account: NAME@DOMAIN or DOMAIN\\NAME.
     'delete' asks the folder of a file too, whose right to delete what is in it is enough.
     """
     wanted, paths = _rights_first(words, common)
     check_files(common, paths, [files.Named("the token", token)])
+    account = None
+    if asking.is_account(token) and not os.path.isfile(token):
+        common, account = _account_of(common, token, paths)
     common, paths = inquiry.informed(common, paths)
-    holder = read_token(token, common.context.domain, exact)
+    holder = account or read_token(token, common.context.domain, exact)
+    if account:
+        asking.keep(paths, token, account)
+        holder = account._replace(missing="") if exact else account
     if level is not None:
         holder = holder._replace(level=level)
     if principal_self:
@@ -170,10 +179,25 @@ def can(common: Common, token: str, words: Sequence[str], level: Optional[int], 
     in_full = in_words(holder, common.context.names)
     say(f"the token: {in_full}")
     common = common.saying(*holder.notes)
-    named = token if is_spelled(token, holder, common.context.domain) else f"{token} ({in_full})"
+    named = token if not account and is_spelled(token, holder, common.context.domain) else f"{token} ({in_full})"
     title = f"What {named} gets of: {wanted.words}"
     found = _folders(common, paths) if wanted.deletes else None
     return inquiry.ask(common, Inquiry(Can(common.context, holder, wanted), title, paths, places=found))
+
+
+def _account_of(common: Common, name: str, paths: Sequence[str]) -> Tuple[Common, library.Token]:
+    """The token of an account: of the server that the sources are of, or as a database keeps it."""
+    servers = {address.server.casefold(): address for address in map(address_of, filter(is_address, paths))}
+    if len(servers) > 1:
+        raise OpeningFault(f"{name} may have other groups on each server: name sources of one server")
+    for address in servers.values():
+        common = common._replace(access=common.access.known())
+        return common, asking.token_of(name, address, common.access)
+    kept = asking.kept(paths, name)
+    if kept is None:
+        raise OpeningFault(f"{name} is an account, whose server has to be asked: name a source such as ldap://SERVER, "
+                           "or the SIDs of its token")
+    return common, kept
 
 
 def _folders(common: Common, paths: Sequence[str]) -> Optional[Folders]:
@@ -245,7 +269,8 @@ def ask_risks(common: Common, given: Sequence[str], trusted: Sequence[str], owne
     trust = names.Trust(_sids(trusted, domain), common.domains, root)
     options = risks.RiskOptions(trust, _sids(owners, domain), named, severity=min_severity)
     accepted = read_accepted(accept, risks.RULE_NAMES) if accept else None
-    known = forest.Schema(schema, domain) if schema else None
+    known = forest.read_schema(schema, domain) if schema else forest.told_schema(paths, domain)
+    common = common.saying(*(known.faults if known else ()))
     if not common.domains:
         say("the administrators of every domain are trusted: --domain SID trusts those of one domain alone")
     before = _baseline(common, baseline, options, known) if baseline else None

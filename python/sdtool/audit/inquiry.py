@@ -6,15 +6,18 @@ import os
 import sys
 import tempfile
 import time
-from typing import Any, Callable, Iterable, Iterator, List, NamedTuple, Optional, Sequence, TextIO, Tuple, Union
+from typing import Any, Callable, Dict, Iterable, Iterator, List, NamedTuple, Optional, Sequence, TextIO, Tuple, Union
 
 from sdtool.audit import files, pool, stopping
+from sdtool.audit.directory import asking
 from sdtool.audit.directory.folders import Folders
 from sdtool.audit.directory.forest import Forest, Told
 from sdtool.audit.engine import Answered, Engine, Held
 from sdtool.audit.findings import Rule
-from sdtool.audit.live.address import is_address
-from sdtool.audit.live.reading import Fact, Reading, Rest, reading_of
+from sdtool.audit.live.address import address_of, is_address
+from sdtool.audit.live.directory import SAID
+from sdtool.audit.live.reading import Reading, Rest, reading_of
+from sdtool.audit.live.talking import Fact
 from sdtool.audit.progress import Bar
 from sdtool.audit.protocols import ListQuestion, Question
 from sdtool.audit.reports import outputs
@@ -63,14 +66,30 @@ def informed(common: Common, paths: Sequence[str]) -> Tuple[Common, List[str]]:
     one, a database with the objects of all sources stands for these."""
     if not any(map(is_address, paths)):
         return _informed(common, paths), list(paths)
-    common, path = _gathered(_informed(common, paths), paths)
-    return common, [path]
+    common, path = _gathered(common, paths)
+    told = [path, *(one for one in paths if not is_address(one))]
+    common = _informed(common, told, {path: ", ".join(filter(is_address, paths))})
+    return _named(common, path, paths), [path]
+
+
+def _named(common: Common, path: str, paths: Sequence[str]) -> Common:
+    """Asks servers for the names of SIDs that nothing else names."""
+    before = common.context.names
+    found, said = asking.names_of(path, before, common.context.domain, list(map(address_of, filter(is_address, paths))),
+                                  common.access)
+    names = Names(before.given, {**before.of_sources, **found}, before.types)
+    return common.saying(*said)._replace(context=common.context._replace(names=names))
 
 
 def informed_each(common: Common, paths: Sequence[str]) -> Tuple[Common, List[str]]:
     """The same, with a database for each address."""
-    common = _informed(common, paths)
-    return common, [_gathered(common, [path])[1] if is_address(path) else path for path in paths]
+    if any(map(is_address, paths)):
+        common = common._replace(access=common.access.known())
+    found = [_gathered(common, [path])[1] if is_address(path) else path for path in paths]
+    common = _informed(common, found, dict(zip(found, paths)))
+    for database, path in zip(found, paths):
+        common = _named(common, database, [path]) if is_address(path) else common
+    return common, found
 
 
 def _gathered(common: Common, paths: Sequence[str]) -> Tuple[Common, str]:
@@ -124,16 +143,19 @@ def _gather(common: Common, path: str, reading: Optional[Reading], asking: cache
     asking.end_source(path, reason)
 
 
-def _informed(common: Common, paths: Sequence[str]) -> Common:
-    """What the words say, with what LDIF sources say themselves: the domain and names of SIDs. Words win over sources,
-    and two domains leave none. Standard input and pipes can be read only once."""
+def _informed(common: Common, paths: Sequence[str], shown: Optional[Dict[str, str]] = None) -> Common:
+    """What the words say, with what LDIF and directories say themselves: the domain and names of SIDs. Words win over
+    sources, and two domains leave none. Standard input and pipes can be read only once. shown has what stands in words
+    for a database."""
     if common.options.format not in (None, "ldif"):
         return common
-    told = Told(path for path in paths
-                if path != STANDARD_INPUT and files.can_be_read_again(path) and not is_database(path))
+    paths = [path for path in paths if path != STANDARD_INPUT and files.can_be_read_again(path)]
+    told = Told(paths)
+    common = common.saying(*(line for path in paths if is_database(path) for line, _ in cache.facts(path, SAID)))
     if not told.paths:
         return common
-    context, domains, source = common.context, common.domains, ", ".join(told.paths)
+    context, domains = common.context, common.domains
+    source = ", ".join((shown or {}).get(path, path) for path in told.paths)
     if not domains and len(told.heads) == 1:
         domains = tuple(told.heads)
         common = common.saying(f"the domain is {domains[0]}, as {source} says: --domain names another one, and "
@@ -141,7 +163,7 @@ def _informed(common: Common, paths: Sequence[str]) -> Common:
     elif not domains and told.heads:
         common = common.saying(f"{source}: the heads of {len(told.heads):,} domains, {', '.join(sorted(told.heads))}: "
                                "name the one of aliases with --domain")
-    names = Names(context.names.given, told.names)
+    names = Names(context.names.given, told.names, told.types)
     common = common.saying(f"the names of {len(names.of_sources):,} SIDs are those of {source}: those of --sid-names "
                            "and of Windows win")
     context = context._replace(domain=domains[0] if domains else "", names=names)

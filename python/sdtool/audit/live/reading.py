@@ -4,21 +4,14 @@ from typing import Any, Callable, Dict, Iterator, NamedTuple, Optional, Protocol
 
 from sdtool.audit.live.access import Access
 from sdtool.audit.live.address import Address, address_of
+from sdtool.audit.live.directory import DirectorySource
 from sdtool.audit.live.smb import SmbSource
-from sdtool.audit.live.talking import Client, Lost, NeverOpened
+from sdtool.audit.live.talking import Client, Fact, Lost, NeverOpened
 from sdtool.audit.sources.items import Item, unreadable
 from sdtool.audit.sources.opening import OpeningFault
 
 _MOST_LOSSES = 3  # one after the other
 _FIRST_PAUSE = 1.0  # seconds
-
-
-class Fact(NamedTuple):
-    """What a server says beside its objects, which questions need."""
-
-    kind: str
-    key: str
-    value: str
 
 
 class Rest(NamedTuple):
@@ -31,17 +24,21 @@ Found = Union[Item, Fact, Rest]
 
 
 class Source(Protocol):
-    """What asks a server of one kind. items gives each object once: called again with another client, it goes on behind
-    what it gave. skipped gives up the object that is being asked, and gives what stands for it."""
+    """What asks a server of one kind. begin sees whether what is named is there. items gives each object once: called
+    again with another client, it goes on behind what it gave. skipped gives up the object that is being asked, and
+    gives what stands for it."""
 
     client_kind: str
+
+    def begin(self, client: Client) -> None: ...
 
     def items(self, client: Client) -> Iterator[Union[Item, Fact]]: ...
 
     def skipped(self) -> Optional[Item]: ...
 
 
-SOURCES: Dict[str, Callable[[Address, Access, Callable[[str], bool]], Source]] = {"smb": SmbSource}
+SOURCES: Dict[str, Callable[[Address, Access, Callable[[str], bool]], Source]] = {
+    "smb": SmbSource, "ldap": DirectorySource, "ldaps": DirectorySource}
 
 
 class Reading:
@@ -59,8 +56,10 @@ class Reading:
         while True:
             try:
                 self._client = Client(self._source.client_kind, self.address, self._access)
+                self._source.begin(self._client)
                 return
             except (Lost, NeverOpened) as error:
+                self.close()
                 self._losses += 1
                 if self._losses < _MOST_LOSSES and (isinstance(error, Lost) or error.may_pass):
                     self._pause()

@@ -65,6 +65,9 @@ class SmbSource:
             self._works.append(_Work(self._list_shares, lambda reason, advice: self._unknown(
                 f"\\\\{address.server}\\*", f"the shares can't be listed: {reason}", advice)))
 
+    def begin(self, client: Client) -> None:
+        """The client itself has opened the folder."""
+
     def items(self, client: Client) -> Iterator[Item]:
         while self._asked or self._works:
             yield from self._read(client) if self._asked else self._works[-1].act(client)

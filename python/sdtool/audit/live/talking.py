@@ -10,7 +10,7 @@ import select
 import subprocess
 import sys
 import time
-from typing import Any, Iterator, List, NoReturn, Type, TypeVar
+from typing import Any, Iterator, List, NamedTuple, NoReturn, Type, TypeVar
 
 from sdtool.audit import stopping
 from sdtool.audit.live.access import Access
@@ -23,6 +23,14 @@ _CHUNK = 1 << 16
 # What a client calls by itself, which the surroundings would change.
 _ITS_OWN = ("USER", "LOGNAME", "PASSWD", "PASSWD_FD", "PASSWD_FILE")
 _Value = TypeVar("_Value")
+
+
+class Fact(NamedTuple):
+    """What a server says beside its objects, which questions need."""
+
+    kind: str
+    key: str
+    value: str
 
 
 class Lost(Exception):

@@ -103,7 +103,7 @@ class Can:
         if descriptor.dacl != "list" and got.mask:
             text += f"; the DACL is {descriptor.dacl}, so everybody gets everything"
         denied = checks.because(at, self._token, missing, descriptor.aces, "", False)
-        for share in shares_of(got, kind, text, checks.mask(at, self._token), mask):
+        for share in shares_of(got, kind, text, self._context.names, checks.mask(at, self._token), mask):
             because = checks.because(at, self._token, share.claimed, descriptor.aces, share.object_type) + denied
             yield Finding("can", "", share.words, share.text, mask=share.mask,
                           mark=mark_of(because, descriptor.aces, kind, share.mask), because=because)

@@ -443,7 +443,8 @@ class Risks:
             return
         all_had = self._abilities.had(sid, got, where, about.gives, about.gives_all, _is_of_everybody(wanted))
         for had in all_had:
-            bound = f", only for object type {sids.object_type(had.object_type)}" if had.object_type else ""
+            of_type = self._context.names.object_type(had.object_type)
+            bound = f", only for object type {of_type}" if had.object_type else ""
             said = _joined(had.says + bound, below, self._heirs(place, sid, had.object_type))
             of_types = about.why if had.types == (had.object_type,) else about.why_all
             because = tuple(dict.fromkeys(found for one in had.types for found in of_types(had.claimed, one)))
@@ -508,7 +509,7 @@ class Risks:
 
     def _of_mask(self, rule: str, sid: str, got: Got, kind: str, text: str, why: _Why, had: int = 0,
                  asked: int = 0, is_adding: bool = False) -> Iterator[Finding]:
-        for share in shares_of(got, kind, text, had, asked) if rule in self._on else ():
+        for share in shares_of(got, kind, text, self._context.names, had, asked) if rule in self._on else ():
             severity = _OF_ADDING[rule] if is_adding else severity_of(rule, kind, sid)
             # A finding that is too slight is left out later.
             because = why(share.claimed, share.object_type) if ORDER.index(severity) <= self._most_slight else ()

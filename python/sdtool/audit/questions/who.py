@@ -132,7 +132,8 @@ class Who:
     def _of(self, sid: str, token: Token, got: Got, checks: Checks, at: int, trustees: "_Trustees",
             kind: str, text: str, is_listed: bool) -> Iterator[Finding]:
         kept, aces = kept_of(got, self._wanted, kind), trustees.descriptor.aces
-        for share in shares_of(kept, kind, text, checks.mask(at, token), self._wanted.all_of(kind)):
+        names, asked = self._context.names, self._wanted.all_of(kind)
+        for share in shares_of(kept, kind, text, names, checks.mask(at, token), asked):
             because = checks.because(at, token, share.claimed, aces, share.object_type) if is_listed else ()
             yield Finding("who", self._context.names.named(sid), share.words, share.text, sid=sid, mask=share.mask,
                           mark=mark_of(because, aces, kind, share.mask), because=because)

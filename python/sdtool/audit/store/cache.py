@@ -188,6 +188,22 @@ def sources_asked(path: str) -> List[str]:
         return []
 
 
+def add_facts(path: str, kind: str, pairs: Iterable[Tuple[str, str]]) -> None:
+    """Adds what was asked for beside the objects of a database."""
+    with contextlib.suppress(sqlite3.Error), contextlib.closing(sqlite3.connect(path)) as database, database:
+        database.executemany("INSERT INTO facts VALUES ('', ?, ?, ?)",
+                             ((kind, stored(key), stored(value)) for key, value in pairs))
+
+
+def texts(path: str) -> Iterator[Tuple[str, List[str]]]:
+    """The descriptors of a database, some of one form at a time."""
+    with contextlib.closing(_opened(path)) as database:
+        for form, in database.execute("SELECT DISTINCT form FROM descriptors").fetchall():
+            rows = database.execute("SELECT text FROM descriptors WHERE form = ?", (form,))
+            for some in iter(lambda: rows.fetchmany(_BATCH), []):
+                yield form, [restored(text) for text, in some]
+
+
 def facts(path: str, kind: str) -> List[Tuple[str, str]]:
     """What servers have said beside their objects: key and value of this kind."""
     try:
