@@ -76,13 +76,18 @@ os.replace = replace
 """
 # Behind the stub of a driver: it has looked at the output, and does not own it until `go`.
 LOOKED = """
-right_replace = os.replace
-def replace(old, new, **folders):
-    if os.path.basename(new) == 'run.json':
-        open({folder!r} + '/looked', 'w').close()
-        while not os.path.exists({folder!r} + '/go'): time.sleep(0.02)
-    right_replace(old, new, **folders)
-os.replace = replace
+right_link = os.link
+def link(old, new):
+    open({folder!r} + '/looked', 'w').close()
+    while not os.path.exists({folder!r} + '/go'): time.sleep(0.02)
+    right_link(old, new)
+os.link = link
+"""
+# Behind the stub of a driver: the output is on a file system without hard links.
+WITHOUT_LINKS = """
+def link(old, new):
+    raise PermissionError(1, 'no hard links')
+os.link = link
 """
 # Behind the stub of a driver: when it begins to look, another one does too.
 LOOK_TOGETHER = """
@@ -246,7 +251,8 @@ def judge(count, place, what, got, out, answered, named=(), status=None, answers
         status = 3 if named else max([0, *(each[1] for each in wanted.values())])
     is_right = (answers == {name: each[0] for name, each in wanted.items()}
                 and "Traceback" not in got.stderr + got.stdout)
-    is_named = all(any(name in line and "has no answers" in line for line in got.stderr.splitlines()) for name in named)
+    problems = [line for line in got.stderr.splitlines() if "has no answers" in line]
+    is_named = len(problems) == len(named) and all(any(name in line for line in problems) for name in named)
     is_told = all(f"{place.folder}/{file}" in got.stdout for file in answered.values())
     count.add(is_right and is_named and is_told and got.status == status,
               f"{what}: answers {sorted(answers)}, {sorted(answered)} are wanted, named {list(named)}, status "
@@ -563,6 +569,7 @@ def test_other_words_at_once(count, place):
     """Of two drivers with other words that begin at once, one is refused, wherever the other one is held."""
     place.tree({"x": LINE * 20, "y": LINE * 20})
     looked, together = place.behind("has looked", LOOKED), place.behind("look together", LOOK_TOGETHER)
+    without = place.behind("without links", LOOK_TOGETHER + WITHOUT_LINKS)
     wanted = {"convert": {"x": place.wanted(["convert"], "x")[0]}, "explain": {"y": place.wanted(["explain"], "y")[0]}}
     place.hold()
     out = place.out()
@@ -573,13 +580,19 @@ def test_other_words_at_once(count, place):
     second = runs.ended(late)
     count.add((first.status, second.status) == (0, 3) and "has answers of 'sdtool convert'" in second.stderr
               and runs.answers_in(out) == wanted["convert"], f"other words, one is held: {first} and {second}")
-    out = place.out()
-    both = [place.start_run(out, [command], [name], (), {**together, "LATER": later})
-            for command, name, later in (("convert", "x", "0"), ("explain", "y", "1"))]
-    ends = [runs.ended(child) for child in both]
-    right = wanted["convert" if ends[0].status == 0 else "explain"]
-    count.add(sorted(got.status for got in ends) == [0, 3] and runs.answers_in(out) == right,
-              f"other words, both look at once: {sorted(runs.answers_in(out))}: {ends[0]} and {ends[1]}")
+    for what, environment, right in (("", together, ([0, 3], [3, 0])),
+                                     (", without hard links", without, ([0, 3], [3, 0], [3, 3]))):
+        for file in place.folder.glob("looks*"):
+            file.unlink()
+        out = place.out()
+        both = [place.start_run(out, [command], [name], (), {**environment, "LATER": later})
+                for command, name, later in (("convert", "x", "0"), ("explain", "y", "1"))]
+        ends = [runs.ended(child) for child in both]
+        answers = {}
+        for got, command in zip(ends, wanted):
+            answers.update(wanted[command] if got.status == 0 else {})
+        count.add([got.status for got in ends] in right and runs.answers_in(out) == answers,
+                  f"other words, both look at once{what}: {sorted(runs.answers_in(out))}: {ends[0]} and {ends[1]}")
     got = runs.ended(place.start([place.python, "-c", LOOKED_IN_MEMORY], stdout=subprocess.PIPE,
                                  stderr=subprocess.PIPE))
     count.add("0 [3] ['/out/x']" in got.stdout and "a run with other words begins there" in got.stderr,
@@ -803,12 +816,12 @@ from sdtool.distributed.work import Given
 def seconds(blocks):
     given = Given(None, "/x", None, "/out/x", "/out/x", {"size": blocks, "ino": 1})
     wanted = argparse.Namespace(block=1, retries=0, wait=60, slowest=1)
-    work = argparse.Namespace(is_parts=True, write_record=lambda *record: None)
+    work = argparse.Namespace(is_parts=True)
     made, methods = Engine(work, [given], wanted, print), []
     made.begin(made.jobs[0])
     began = time.process_time()
-    while made.fresh:
-        task = made.fresh.popleft()
+    while made.waiting:
+        task = made.waiting.popleft()
         methods.append(task.method)
         made.finished(task, {"start": 0, "end": 1, "bytes": 1})
     assert methods == ["answer"] * blocks + ["compare"] * blocks + ["finish"], methods[-5:]
@@ -838,7 +851,7 @@ def test_killed_worker(count, place):
 # Who may still do a task of which one worker has said that it failed, without a cluster: so it is the same each time.
 HOPES = """
 import argparse, time
-from sdtool.distributed.engine import Engine, Sent, Task, Worker
+from sdtool.distributed.engine import Engine, Sent, Task
 from sdtool.distributed.work import Given
 
 def engine(retries, **others):
@@ -847,33 +860,38 @@ def engine(retries, **others):
     given.__class__.url = "x"
     made = Engine(None, [given], argparse.Namespace(block=9, retries=retries, wait=60, slowest=1), lambda line: None)
     made.unbegun = iter(())
-    made.workers = {"one": Worker("one"), **{name: Worker(name, **has) for name, has in others.items()}}
+    made.workers = {name: {"status": "running", "nthreads": 1, **told} for name, told in {"one": {}, **others}.items()}
+    made.require_ownership = lambda: None
     return made, Task(made.jobs[0], "answer_whole", (), 1)
 
 def is_open(made):
     return made.jobs[0].came is None
 
-def failed(made, task, name="one"):
-    made.take_outcome(task, name, "failed", "it failed")
+def came(made, task, name, what, value):
+    made.take_outcomes(Sent(None, [task]), name, [(what, value)])
     return is_open(made)
 
+def failed(made, task, name="one"):
+    return came(made, task, name, "failed", "it failed")
+
 def hung(made, task, name="one"):
-    made.take_outcome(task, name, "hung", 30)
-    return is_open(made)
+    return came(made, task, name, "hung", 30)
 
 def killed(made, *tasks):
     made.suspect(Sent(None, list(tasks)))
     return is_open(made)
 
-LEFT_OUT = {"unfit_at": time.monotonic(), "delay": 30}
+left_out, silent = engine(0, two={}), engine(0, two={})
+left_out[0].leave_out("two", "it is no good")
+silent[0].stuck.add("two")
 time.sleep(0.01)
 told = {
     "nobody else": failed(*engine(0)),
     "nobody else, a retry": failed(*engine(1)),
     "a fit one": failed(*engine(0, two={})),
-    "one that was left out before": failed(*engine(0, two=LEFT_OUT)),
+    "one that was left out before": failed(*left_out),
     "one that is paused": failed(*engine(0, two={"status": "paused"})),
-    "one that is silent": failed(*engine(0, two={"is_stuck": True})),
+    "one that is silent": failed(*silent),
 }
 made, task = engine(0, two={})
 failed(made, task)
@@ -897,18 +915,18 @@ made.jobs[0].turn = 1
 told["a task of an earlier turn that fails"] = failed(made, task)
 told["a task of an earlier turn whose workers died"] = killed(made, task)
 made, task = engine(0)
-made.later = [Task(made.jobs[0], "answer", (), 1, turn=-1) for _ in range(5000)] + [task]
+made.waiting.extend([*(Task(made.jobs[0], "answer", (), 1, turn=-1) for _ in range(5000)), task])
 told["a task behind many that ended"] = made.next_tasks() == [task]
 made, task = engine(0, two={})
-made.take_outcome(task, "two", "done", {"lines": 1})
+came(made, task, "two", "done", {"lines": 1})
 for what in "failed", "done", "unfit", "anew", "hung":
-    made.work, made.require_ownership = None, lambda: None
-    made.take_outcome(task, "one", what, 30)
+    came(made, task, "one", what, 30)
 killed(made, task)
-told["what comes of a task that was done"] = (made.jobs[0].came, made.later, made.left) == ({"lines": 1}, [], 0)
+told["what comes of a task that was done"] = made.jobs[0].came == {"lines": 1} and not (
+    made.later or made.waiting or made.suspects or made.left)
 made, task = engine(3, two={})
 new, beside = (Task(made.jobs[0], "answer_whole", (), 1) for _ in "12")
-made.fresh.append(new)
+made.waiting.append(new)
 killed(made, task, beside)
 ones = [made.next_tasks() for _ in "12"]
 made.sent["one"] = Sent(None, [task])
@@ -1119,6 +1137,28 @@ def test_adaptive(count, place):
     count.add(most.split() == [b"3"] and "left out" not in got.stderr, f"an adaptive cluster has had {most}: {got}")
 
 
+BAR = "sdtool.distributed: [###                 ] 0 of 2 inputs, 2 of 12 blocks, 0.0 MB/s, workers: 2\n"
+
+
+def test_bar(count, place):
+    """Each ten seconds a line says what is done of all."""
+    place.tree({"x": LINE * 80, "y": LINE * 80})
+    waits = place.patched("waits for a bar", WAITS)
+    address, _ = place.cluster(waits, waits)
+    place.hold()
+    out = place.out()
+    child = place.start_run(out, ["convert"], ["x", "y"], ["--scheduler", address])
+    wait_until(child, lambda: said_by(child).count(BAR) > 1, "two bars")
+    keys = place.asked(address, "print(*(key for keys in client.processing().values() for key in keys), sep='\\n')")
+    names = [key.partition(" ")[2] for key in keys.splitlines() if key.startswith("convert-sdtool-")]
+    right = [f"block {number} of file://{place.folder}/{name}" for name in "xy" for number in range(6)]
+    count.add(len(names) > 1 and set(names) <= set(right), f"names of the tasks that workers have: {names}")
+    place.go()
+    got = runs.ended(child)
+    judge(count, place, "a run that takes long", got, out, {"x": "x", "y": "y"})
+    count.add(got.stderr.count(BAR) > 1, f"a bar each ten seconds: {got}")
+
+
 def test_hanging_calls(count, place):
     """The driver's calls of file systems hang: what hangs is named, and all else is answered."""
     place.tree({"d/a": LINE * 3, "d/hangs/b": LINE, "d/c/b": LINE * 2, "out1/_sdtool/inputs/x": b""})
@@ -1240,6 +1280,11 @@ print(status, fsspec.filesystem("memory").cat_file("/o[1]*/x"))
     got = runs.ended(place.start([place.python, "-c", code], stdout=subprocess.PIPE, stderr=subprocess.PIPE))
     wanted = f"0 {place.wanted(['convert'], 'x')[0]}"
     count.add(wanted in got.stdout, f"--out with a bracket in memory: {got}")
+    code = ("import os\nfrom sdtool import distributed\ndel os.O_PATH\n"
+            "print(distributed.main(['--out', 'mac', 'convert', '--', 'x']))")
+    got = runs.ended(place.start([place.python, "-c", code], stdout=subprocess.PIPE, stderr=subprocess.PIPE))
+    count.add(got.stdout == "2\n" and "need Linux" in got.stderr and not (place.folder / "mac").exists(),
+              f"another system: {got}")
 
 
 GROUPS = {
@@ -1251,7 +1296,7 @@ GROUPS = {
                 test_scheduler_of_dask, test_killed_worker, test_hopes, test_many_parts, test_file_limit,
                 test_deadly_input, test_restart, test_adaptive),
     "lost": (test_hanging, test_hanging_calls, test_long_packed, test_gone_output),
-    "waiting": (test_waiting, test_paused, test_paused_with_task),
+    "waiting": (test_waiting, test_paused, test_paused_with_task, test_bar),
 }
 
 

@@ -46,7 +46,7 @@ wanted = argparse.Namespace(block=64_000_000, retries=0, wait=60, slowest=1)
 made = engine.Engine(work.Work("sdtool-1", ["convert"], "", "", "s3://out", False), taking.inputs, wanted, print)
 for job in made.jobs:
     made.begin(job)
-    made.finished(made.fresh.popleft(), {"lines": 1, "errors": 0, "bytes": 5})
+    made.finished(made.waiting.popleft(), {"lines": 1, "errors": 0, "bytes": 5})
 assert not made.left
 print(len(made.jobs), resource.getrusage(resource.RUSAGE_SELF).ru_maxrss // 1024)
 """

@@ -83,7 +83,7 @@ def is_of_store(fs: Any, told: Dict[str, Any]) -> bool:
 
 
 def has_run(fs: Any, folder: str) -> bool:
-    return Place(fs, folder).words_of_run() is not None
+    return bool(Place(fs, folder).owner())
 
 
 def has_record(fs: Any, path: str) -> bool:
