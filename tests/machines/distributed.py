@@ -499,7 +499,7 @@ class ObjectStore:
             (lent / path.name).symlink_to(path)
         url = started_server(place, Server("http://127.0.0.1:%d",
                                            [sys.executable, "-m", "moto.server", "-p"], "sys", ""))
-        self.environment = {"S3_ENDPOINT": url,
+        self.environment = {"FSSPEC_S3_ENDPOINT_URL": url,
                             "PYTHONPATH": f"{place.modules}:{TOP}/tests/machines/object_store:{lent}"}
         self.ask("fs.client.create_bucket(Bucket='bucket')")
 
