@@ -43,7 +43,7 @@ def test_kinds(place: Place) -> None:
         said = " ".join(f"{one['rights']} {one['text']}" for one in found[name]["findings"])
         place.expect(found[name]["answer"], "found" if right else "unknown", name)
         place.expect((right or "").lower() in said.lower(), True, f"{name}: {said}")
-    place.expect(found["D:\\Data\\Locked"]["text"], "Access is denied", "the reason")
+    place.expect(found["D:\\Data\\Locked"]["reason"], "Access is denied", "the reason")
     ended = place.ask("risks", source)
     place.expect("read as" in ended.stderr + ended.stdout, False, "no kind is a guess")
 

@@ -152,6 +152,7 @@ class Domain:
         finally:
             self._server.terminate()
             self._server.wait(_SECONDS)
+            _run("umount", "-l", str(self.folder))
 
     def _wait(self) -> None:
         """Waits until each service answers."""

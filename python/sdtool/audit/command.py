@@ -107,7 +107,8 @@ def _abilities_first(given: Sequence[str], common: Common) -> Tuple[Tuple[str, .
 @cli.command(short_help="Who gets any of the rights: RIGHT.. SOURCE..")
 @click.argument("words", nargs=-1, metavar="RIGHT.. SOURCE..")
 @click.option("--groups", metavar="FILE",
-              help="Who is in which group: an LDIF, or lines of GROUP,MEMBER,..; groups are then expanded.")
+              help="Who is in which group: an LDIF, lines of GROUP,MEMBER,.., a directory that is a source too, or a "
+              "database with one; groups are then expanded.")
 @click.option("--most-members", default=1000, type=click.IntRange(0), show_default=True, metavar="N",
               help="A group with more "
               "members isn't expanded.")
@@ -126,8 +127,12 @@ def who(common: Common, words: Sequence[str], groups: Optional[str], most_member
     """
     abilities, paths = _abilities_first(words, common)
     wanted, paths = (None, paths) if abilities else _rights_first(words, common)
-    check_files(common, paths, files.named("--groups", groups))
+    asks_groups = groups is not None and is_address(groups)
+    if asks_groups and groups not in paths:
+        raise OpeningFault(f"--groups {groups}: name the directory as a source too")
+    check_files(common, paths, () if asks_groups else files.named("--groups", groups))
     common, paths = inquiry.informed(common, paths)
+    groups = paths[0] if asks_groups else groups
     trust = names.Trust(_sids(trusted, common.context.domain), common.domains)
     known = read_groups(groups, common.context.domain) if groups else None
     common = common.saying(*(f"--groups: {group} is not whole: the file has a range of its members"
@@ -166,10 +171,11 @@ def can(common: Common, token: str, words: Sequence[str], level: Optional[int], 
     account = None
     if asking.is_account(token) and not os.path.isfile(token):
         common, account = _account_of(common, token, paths)
+    is_asked = any(map(is_address, paths))
     common, paths = inquiry.informed(common, paths)
     holder = account or read_token(token, common.context.domain, exact)
     if account:
-        asking.keep(paths, token, account)
+        asking.keep(paths if is_asked else (), token, account)
         holder = account._replace(missing="") if exact else account
     if level is not None:
         holder = holder._replace(level=level)
@@ -235,7 +241,8 @@ def _rule_names(given: str) -> Tuple[str, ...]:
               help="The domain of the forest's own groups, such as Enterprise Admins, if it isn't "
               "one of --domain.")
 @click.option("--schema", metavar="FILE",
-              help="An LDIF of the directory's schema: its classes then say which ACEs are Windows' own.")
+              help="An LDIF of the directory's schema: its classes then say which ACEs are Windows' own. A directory "
+              "that is asked itself tells its schema.")
 @click.option("--rules", metavar="NAME,..",
               help="The rules to use, with commas; with '-' before the first, all but these.")
 @click.option("--accept", metavar="FILE", help="A TOML file with findings that are accepted.")

@@ -17,7 +17,7 @@ from sdtool.audit.store import cache
 from sdtool.audit.windows import names as sids
 from sdtool.audit.windows.names import Names
 
-_ACCOUNT = re.compile(r"[^\\@,/]+\\[^\\@,/]+|[^\\@,/]+@[\w.-]+")
+_ACCOUNT = re.compile(r"[^\\@,/:]+\\[^\\@,/:]+|[^\\@,/:]+@[\w.-]+")
 _FAULTS = (Lost, NeverOpened, Refused)
 # What each logon over a network has, beside what the server says.
 _OF_NETWORK = (sids.EVERYONE, sids.AUTHENTICATED_USERS, "S-1-5-15", "S-1-5-2")
@@ -69,7 +69,7 @@ class _Account:
                                                         for one in some))
         missing = f"{'; '.join(self._missing)}: ask as a user who may, or list the SIDs of the token" \
             if self._missing else ""
-        return with_privileges(token._replace(missing=missing, notes=tuple(self._notes)), privileges)
+        return with_privileges(token._replace(missing=missing, notes=(*self._notes, *self._missing)), privileges)
 
     def _asked(self, what: str, answers: Iterable[str]) -> List[str]:
         """Answers as far as they come."""

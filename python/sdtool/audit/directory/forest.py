@@ -106,7 +106,7 @@ def _explained(items: Sequence[Item], domain: str) -> List[Optional[Descriptor]]
 def has_entries(path: str) -> bool:
     """Whether a file begins as an LDIF of entries, or a directory has filled it."""
     if is_database(path):
-        return bool(cache.facts(path, ENTRY) or cache.facts(path, NAME))
+        return any(next(cache.facts(path, kind), None) for kind in (ENTRY, NAME))
     with contextlib.suppress(OpeningFault):
         first = next((line for line in text_lines(path) if line and not line.startswith("#")), "")
         return first.lower().startswith(("dn:", "version:"))
@@ -203,7 +203,7 @@ def read_schema(path: str, domain: str) -> Schema:
 
 def told_schema(paths: Iterable[str], domain: str) -> Optional[Schema]:
     """The schema that a directory among the sources tells, if one does."""
-    found = (Schema(path, domain) for path in paths if is_database(path) and cache.facts(path, ENTRY))
+    found = (Schema(path, domain) for path in paths if is_database(path))
     return next((one for one in found if one.has_defaults), None)
 
 

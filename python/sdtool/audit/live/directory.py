@@ -66,10 +66,10 @@ class DirectorySource:
         self._label, self._query, self._is_known = address.text, query_of(address), is_known
         self._wants_sacl, self._flags = access.sacl, _OF_OWNERS
         self._given: Set[int] = set()  # hashes of names
-        self._read: Set[str] = set()   # bases below which nothing is left
+        self._begun: Set[str] = set()  # bases
+        self._read: Set[str] = set()   # those below which nothing is left
         self._referrals: Dict[str, None] = {}
         self._asked = ""               # the object that is asked for alone
-        self._has_begun = False
         self._about_server: _Root = {}
         self._bases: List[str] = []
 
@@ -90,9 +90,8 @@ class DirectorySource:
                               "name a base that the directory has" if is_missing else _AS_ANOTHER, False) from error
 
     def items(self, client: Client) -> Iterator[Union[Item, Fact]]:
-        """The objects, once each. After a connection was lost, those that are left are listed, and each is asked for
+        """The objects, once each. Where a connection was lost, those that are left are listed, and each is asked for
         alone."""
-        is_again, self._has_begun = self._has_begun, True
         about, bases = self._about_server, self._bases
         schema = about.get("schemaNamingContext", [""])[0]
         more = [value.decode("utf-8", "replace") for page, _ in _search(client, schema, "one", _OF_SECURITY,
@@ -101,6 +100,8 @@ class DirectorySource:
         attributes = list(dict.fromkeys((*_ABOUT, "nTSecurityDescriptor", *DESCRIPTORS, *more)))
         for base in bases:
             if base not in self._read:
+                is_again = base in self._begun
+                self._begun.add(base)
                 yield from self._below(client, base, attributes, is_again)
                 self._read.add(base)
         if self._query != Query("", "sub", _EACH):

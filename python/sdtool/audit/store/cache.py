@@ -204,14 +204,16 @@ def texts(path: str) -> Iterator[Tuple[str, List[str]]]:
                 yield form, [restored(text) for text, in some]
 
 
-def facts(path: str, kind: str) -> List[Tuple[str, str]]:
+def facts(path: str, kind: str) -> Iterator[Tuple[str, str]]:
     """What servers have said beside their objects: key and value of this kind."""
-    try:
-        with contextlib.closing(_opened(path)) as database:
-            return [(restored(key), restored(value)) for key, value in
-                    database.execute("SELECT key, value FROM facts WHERE kind = ? ORDER BY rowid", (kind,))]
-    except sqlite3.Error:
-        return []
+    with contextlib.closing(_opened(path)) as database:
+        try:
+            has_facts = database.execute("SELECT 1 FROM sqlite_master WHERE name = 'facts'").fetchone()
+        except sqlite3.Error:
+            return  # whoever reads its objects is told that it is damaged
+        for key, value in database.execute("SELECT key, value FROM facts WHERE kind = ? ORDER BY rowid",
+                                           (kind,)) if has_facts else ():
+            yield restored(key), restored(value)
 
 
 @contextlib.contextmanager
