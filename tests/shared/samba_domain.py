@@ -31,7 +31,6 @@ binddns dir = {folder}/bind
 log file = {folder}/log.%m
 interfaces = lo {address}
 bind interfaces only = yes
-dns forwarder = {address}
 server services = {services}
 idmap_ldb:use rfc2307 = yes
 {more}
