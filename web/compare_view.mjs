@@ -1,10 +1,10 @@
 // The fourth view: what differs between two descriptors, and whose rights.
-import {linesOf} from "./desk.mjs";
 import {byId, labelled, make, scrolling, show, showParts, someRows} from "./dom.mjs";
 import {kindQuestion} from "./kind_view.mjs";
 import {maskText} from "./library.mjs";
 import {foundText} from "./look_view.mjs";
 import {faultInWords, whereOf} from "./naming.mjs";
+import {linesOf} from "./packing.mjs";
 import {aceRights, faultBox, kindClass, longField, rightsDiffering, rightsSection, who} from "./parts_view.mjs";
 import {valueIn} from "./tables.mjs";
 import {commaed, say, WORDS} from "./words.mjs";

@@ -1,9 +1,9 @@
 // The view that changes a descriptor: its ACEs, owner and inheritance, with the verdict, and who gains and who loses.
-import {itemsOf} from "./desk.mjs";
 import {button, byId, make, moveByArrows, scrolling, show, someRows, tableHead} from "./dom.mjs";
 import {aceFields, listOf, sidField} from "./edit_fields.mjs";
 import {inheritedBy, tableOf} from "./meanings.mjs";
 import {faultInWords, guidInWords, nameOf, placeInWords, shortened, whereOf} from "./naming.mjs";
+import {itemsOf} from "./packing.mjs";
 import {aceRights, kindClass, rightsDiffering, rightsOfAce, rightsSection, who, wordOfKind} from "./parts_view.mjs";
 import {acesIn, sentenceOf} from "./sentences.mjs";
 import {commandsSection, textSection} from "./set_view.mjs";

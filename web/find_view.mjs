@@ -1,9 +1,9 @@
 // One property, right or class of a directory object, which a field finds by its name: who gets what of it.
 import {bitsOf, inOrder, ownOf, reasonIn} from "./access.mjs";
-import {itemsOf} from "./desk.mjs";
 import {input, labelled, make, show, tableHead} from "./dom.mjs";
 import {isTrusted} from "./meanings.mjs";
 import {rightsInWords} from "./naming.mjs";
+import {itemsOf} from "./packing.mjs";
 import {who} from "./parts_view.mjs";
 import {knownGuids} from "./schema.mjs";
 import {ABILITIES} from "./windows.mjs";

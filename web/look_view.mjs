@@ -1,10 +1,10 @@
 // The first view: who can do what, warnings, and a grid of rights.
 import {bitsOf, cellOf, decidedOf, has, inOrder, ownOf, reasonIn} from "./access.mjs";
-import {itemsOf, linesOf} from "./desk.mjs";
 import {button, byId, make, moveByArrows, scrolling, show, showParts, someRows, tableHead} from "./dom.mjs";
 import {findSection} from "./find_view.mjs";
 import {doing as maskDoing, isDirectory, isTrusted} from "./meanings.mjs";
 import {guidInWords, labelInWords, rightName, rightsInWords, rightsOf, shortened, visible} from "./naming.mjs";
+import {itemsOf, linesOf} from "./packing.mjs";
 import {faultBox, plainName, who} from "./parts_view.mjs";
 import {verbsOf} from "./sentences.mjs";
 import {valueIn} from "./tables.mjs";

@@ -1,11 +1,11 @@
 // Several descriptors of a text: the verdict on all, a table with that on each, those alike together, and what a token
 // gets of each.
 import {answerInWords, faultsOf} from "./ask_view.mjs";
-import {itemsOf} from "./desk.mjs";
 import {button, byId, make, scrolling, show, someRows, tableHead} from "./dom.mjs";
 import {everybodyClass, hasOwnMapping, mappingOf} from "./meanings.mjs";
 import {faultInWords, shownName} from "./naming.mjs";
-import {sentenceOf} from "./sentences.mjs";
+import {itemsOf} from "./packing.mjs";
+import {reasonsOf, sentenceOf} from "./sentences.mjs";
 import {speak} from "./speech.mjs";
 import {valueIn} from "./tables.mjs";
 import {showSentence} from "./verdict_view.mjs";
@@ -234,10 +234,11 @@ export class ManyView {
         const strays =
             this.told.strays.map((name) => ({at: null, name, kind: "", verdict: "unknown", sentence: words.stray}));
         const one = rows[state.chosen];
-        show(byId("one"),
-            one &&
-                say(words.one,
-                    {name: shownName(one.name) || say(words.noName, {number: one.at + 1}), sentence: one.sentence}));
+        show(byId("one"), one && [
+            say(words.one,
+                {name: shownName(one.name) || say(words.noName, {number: one.at + 1}), sentence: one.sentence}),
+            make("small", {}, reasonsOf(one.judged, names, one).join(" "))
+        ]);
         // A table that says the same stays, and keeps the focus.
         if (this.shown[0] !== this.told || this.shown[1] !== names) {
             this.shown = [this.told, names];

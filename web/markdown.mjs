@@ -1,9 +1,9 @@
 // A view as Markdown: the verdict, who has which rights, the ACEs, and what stands out. Nothing of a name becomes
 // markup, a link or the end of a cell.
 import {cellOf, has} from "./access.mjs";
-import {itemsOf} from "./desk.mjs";
 import {alikeRows, stateWord, warningText} from "./look_view.mjs";
 import {faultInWords, guidInWords, labelInWords, nameOf, rightsInWords, rightsOf, visible, whereOf} from "./naming.mjs";
+import {itemsOf} from "./packing.mjs";
 import {wordOfKind} from "./parts_view.mjs";
 import {reasonsOf, sentenceOf} from "./sentences.mjs";
 import {valueIn} from "./tables.mjs";

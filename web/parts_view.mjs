@@ -1,5 +1,4 @@
 // Pieces that several views share: a SID, an ACE, a list of ACEs, a fault.
-import {linesOf} from "./desk.mjs";
 import {area, box, button, make, show, someRows, tooLong} from "./dom.mjs";
 import {maskText} from "./library.mjs";
 import {
@@ -12,6 +11,7 @@ import {
     rightsInWords,
     visible
 } from "./naming.mjs";
+import {linesOf} from "./packing.mjs";
 import {MOST_TEXT} from "./state.mjs";
 import {valueIn} from "./tables.mjs";
 import {ALLOWS, DENIES} from "./well_known.mjs";

@@ -204,8 +204,9 @@ const ofConditions = ({conditions = []}) =>
     (conditions.length ? say(words.conditions, {aces: acesIn(conditions, words.conditionsOne, words.conditionsMany)}) :
                          "");
 
-const ofDenied = ({denied = [], kind}, names) => denied.slice(0, 2).map(
-    ({who, mask, number}) => say(words.except, {who: nameOf(who, names), rights: someRights(kind, mask), number}));
+const ofDenied = ({denied = [], kind}, names) =>
+    denied.slice(0, 2).map(({who, mask, number}) => say(kind ? words.except : words.exceptSome,
+                               {who: nameOf(who, names), rights: kind && someRights(kind, mask), number}));
 
 function ofReader({reader, who = [], verdict}, names) {
     const isSaid = !reader || who.includes(reader) || verdict === "unknown";

@@ -1,10 +1,10 @@
 // What goes to the clipboard: a text, a link or a command.
 import {addressOf} from "./address.mjs";
 import {commandLine, whyNoCommand} from "./command.mjs";
-import {STAND_IN_DOMAIN} from "./desk.mjs";
 import {area, button, byId, make, show} from "./dom.mjs";
 import {markdownOf} from "./markdown.mjs";
 import {freshState} from "./state.mjs";
+import {STAND_IN_DOMAIN} from "./subject.mjs";
 import {formatted, say, WORDS} from "./words.mjs";
 
 const MOST_COPIED = 200_000; // characters that are shown at once of what is copied

@@ -1,8 +1,8 @@
 // The descriptor as it is written, one ACE a line, with its number and a sign. What Windows gives, and what is alike,
 // is folded. A line that is chosen is told in words.
-import {itemsOf, linesOf} from "./desk.mjs";
 import {button, byId, make, moveByArrows, scrolling, show, someRows, tableHead} from "./dom.mjs";
 import {rightsInWords, shortened, whereOf} from "./naming.mjs";
+import {itemsOf, linesOf} from "./packing.mjs";
 import {aceRights, kindClass, who, wordOfKind} from "./parts_view.mjs";
 import {valueIn} from "./tables.mjs";
 import {commaed, say, WORDS} from "./words.mjs";

@@ -336,12 +336,21 @@ export function verdictOfKinds(model, kinds, ask) {
     const [first] = verdicts;
     if (verdicts.every((one) => sameAs(one, first) && one.verdict !== "unknown")) {
         const does = neutral(first, model, first.numbers && verdicts.every(isFullOf));
+        // What else is said holds for each of them.
+        const ofAll = (key) =>
+            (verdicts.every((one) => String(one[key] ?? "") === String(first[key] ?? "")) ? first[key] : undefined);
         return {
             ...first,
             kind: "",
             does,
             trusted: [...new Set(verdicts.flatMap(({trusted = []}) => trusted))],
-            excused: []
+            numbers: ofAll("numbers"),
+            reader: ofAll("reader"),
+            denied: (first.denied ?? [])
+                        .filter(({number}) =>
+                                    verdicts.every(({denied = []}) => denied.some((one) => one.number === number))),
+            excused: (first.excused ?? []).filter((sid) => verdicts.every(({excused = []}) => excused.includes(sid))),
+            more: 0
         };
     }
     const who =

@@ -282,6 +282,7 @@ export const WORDS = {
         by: "By {aces}.",
         byInherited: "By {aces}, inherited.",
         except: "Except that {who} may not {rights} (ACE {number}).",
+        exceptSome: "Except that ACE {number} denies {who} some of it.",
         moreFindings: "{count} more findings below.",
         oneMoreFinding: "1 more finding below.",
         reader: "{who} can read it.",

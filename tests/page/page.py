@@ -24,6 +24,7 @@ import page_report
 import page_safety
 import page_size
 import page_texts
+import page_verdicts
 import preload
 from page_driver import DEBIAN_PYTHON, TOP, Page, Site, each_view
 
@@ -88,6 +89,7 @@ TESTS = [
     page_answers.test_inherit,
     page_answers.test_long_inherit,
     page_answers.test_compare,
+    page_verdicts.test_verdicts,
     page_edits.test_edit_by_keys,
     page_edits.test_take,
     page_edits.test_edit_faults,

@@ -229,7 +229,7 @@ def test_several_verdicts(count, page, _):
     count.add("5 descriptors, this is number 2" in told, f"the other one of two: {told[:200]}")
     page.do("byId('tab-look').click();")
     got = page.do("const one = document.querySelector('tr[data-verdict=named] .open'); one.focus(); one.click(); "
-                  "await until(isIdle); return [byId('one').textContent, byId('chosen').value, "
+                  "await until(isIdle); return [byId('one').firstChild.textContent, byId('chosen').value, "
                   "document.activeElement === one];")
     sentence = "C:\\Ann: Account 1105 can modify this folder, beside administrators"
     count.add(got == [sentence, "4", True], f"one of them: {got}")
@@ -456,6 +456,7 @@ def test_address(count, page, _):
     before, text = page.do(here), "O:BAD:(A;;FA;;;BU)(A;;FR;;;WD)"
     acts = [
         "await see(given[0]);",
+        "pasteOver(given[0]);",
         "byId('example-ds').click();",
         "put('text', ''); pasteInto('text', given[0].padEnd(30_000)); await until(isIdle); byId('text-clear').click();",
         "put('kind', 'key'); put('domain', 'S-1-5-21-1-2-3'); put('names', 'S-1-1-0 All');",

@@ -172,6 +172,39 @@ def judge_example(count, row, got):
         count.add(got["verdict"] in {"act", "look"}, f"{found} of {what}")
 
 
+# What is shown first of each text, after what is chosen for it.
+SHOWN = """
+const found = [];
+for (const {text, kind, classes = '', domain = ''} of given[0]) {
+    if (kind && byId('kind').value !== kind) put('kind', kind);
+    if (byId('domain').value !== domain) put('domain', domain);
+    await see(text);
+    if (classes) {
+        put('classes', classes);
+        await until(isIdle);
+    }
+    found.push([byId('first').dataset.verdict, byId('sentence').lastChild.textContent,
+                byId('sentence-why').textContent]);
+}
+return found;
+"""
+
+
+def test_verdicts(count, page, _):
+    """What the page itself shows first: the rows above, those that choose no kind before the others, and each example.
+    """
+    page.open()
+    examples = risk_rows.rows()
+    known = [(state if isinstance(state, dict) else {"text": state}, *wanted) for state, *wanted in ROWS]
+    known.sort(key=lambda row: "kind" in row[0])
+    shown = page.do(SHOWN, [row[0] for row in known] + [state_of(row) for row in examples])
+    for (state, *wanted), got in zip(known, shown):
+        count.add(got[:2] == wanted, f"{state}: the page shows {got}, not {wanted}")
+    for row, (verdict, sentence, reasons) in zip(examples, shown[len(known):]):
+        key = "nobody" if sentence.startswith("Nobody gets in") else ""
+        judge_example(count, row, {"verdict": verdict, "sentence": sentence, "reasons": reasons, "key": key})
+
+
 def judge_bare(count, row, own, got):
     """Where nothing tells the kind nothing is graver. The two attributes are told by their names, and what broad groups
     may do to a share is less grave."""

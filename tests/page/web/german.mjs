@@ -107,6 +107,7 @@ export const GERMAN = {
     "ACE {number}": "ACE {number}",
     "By {aces}.": "Durch {aces}.",
     "By {aces}, inherited.": "Durch {aces}, geerbt.",
+    "Except that ACE {number} denies {who} some of it.": "ACE {number} verweigert {who} etwas davon.",
     "Except that {who} may not {rights} (ACE {number}).": "Nur {who} nicht: {rights} (ACE {number}).",
     "{count} more findings below.": "{count} weitere Befunde unten.",
     "1 more finding below.": "1 weiterer Befund unten.",

@@ -9,6 +9,7 @@ import {existsSync, readSync} from "node:fs";
 import {getPriority} from "node:os";
 
 import {questionOf} from "../../../web/desk.mjs";
+import {markdownOf} from "../../../web/markdown.mjs";
 import {freshState} from "../../../web/state.mjs";
 import {REPORT} from "../../../web/windows.mjs";
 import {PIECES} from "./hostile.mjs";
@@ -30,6 +31,18 @@ const MOST_FOR_EACH = 2.6;
 const DOUBLINGS = 4;
 const TRIES = 5; // of which the shortest time counts
 const ENCODER = new TextEncoder();
+const GRANT = {
+    kind: "A",
+    flags: [],
+    mask: 0x10,
+    sid: "WD",
+    object: null,
+    inherited: null
+};
+const STEPS = [
+    {does: "put", list: "dacl", ace: GRANT}, {does: "sort", list: "dacl"}, {does: "take", list: "dacl", numbers: [1]},
+    {does: "stop", list: "dacl", keeps: true}
+];
 const itemsOf = (text) => text.split(",");
 const stateOf = (text) => ({...freshState(), text, kind: "ds", isKindChosen: true});
 
@@ -49,6 +62,12 @@ function readersOf(library) {
         "a comparison": (text) =>
             questionOf(library, "compare", {state: stateOf(text), other: {text: "D:", form: "auto"}}),
         "a new object": (text) => questionOf(library, "inherit", {state: stateOf(text), made: freshState().made}),
+        "an edit": (text) =>
+            questionOf(library, "edit", {state: stateOf(text), now: null, origins: null, steps: STEPS}),
+        "a view as Markdown": (text) => {
+            const result = questionOf(library, "look", stateOf(text));
+            return result.judged && markdownOf(result, {kind: "ds", names: new Map(), isCommon: true});
+        },
     };
     const read = (call) => (text) => {
         try {
@@ -104,6 +123,10 @@ const CONSTRUCTS = [
     ["Name SID\n---- ---\n", "a    S-1-5-21-#\n", ""],
     ["SID : S-1-5-21-1\nName : x\n", "  y#\n", "\n"],
     ["", "SID : S-1-5-21-#\nName : x\n\n", ""],
+    ["", "dn: CN=a#\ncn:: QW5u\nobjectSid:: AQUAAAAAAAUVAAAAAQAAAAIAAAADAAAA6QMAAA==\n\n", ""],
+    ["Name;ObjectSID\n", "\"a#\";S-1-5-21-#\n", ""],
+    ["dn: CN=a\ncn: a\nobjectSid:: AQUAAAAAAAUVAAAA\n", " AQAA\n", "\n"],
+    ["", "S-1-5-21-1-2-3-# \"a\"\"b\"\n", ""],
     ["", "S-1-5-21-#,", "S-1-1-0"],
     ["", "a\\b# Alias S-1-5-32-# Enabled group\n", ""],
     ["", "\"a\\b\",\"Alias\",\"S-1-5-21-#\",\"Enabled group\"\n", ""],
