@@ -199,11 +199,11 @@ export class EditView {
         const cells = [
             make("th", {scope: "row"}, number),
             make("td", {"data-label": columns.type}, make("span", {class: "badge"}, wordOfKind(ace))),
-            make("td", {"data-label": columns.who}, who(ace.sid, ace.alias, names)),
+            make("td", {"data-label": columns.who}, who(ace.sid, ace.alias, names),
+                changed && make("div", {class: "change"}, changed)),
             make("td", {"data-label": columns.can}, aceRights(ace, kind)),
             make("td", {"data-label": columns.where}, whereOf(kind, ace),
-                ace.flags.includes("ID") ? make("span", {class: "tag"}, WORDS.origin.inherited) : null),
-            make("td", {"data-label": columns.state}, changed)
+                ace.flags.includes("ID") ? make("span", {class: "tag"}, WORDS.origin.inherited) : null)
         ];
         if (!other) {
             return make("tr", {class: `removed compared ${kindClass(ace.kind)}`}, cells, make("td"));

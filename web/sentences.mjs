@@ -104,10 +104,16 @@ function doesInWords(judged) {
     return say(valueIn(words.does, does), {...verbsOf(who), these, rights, reach: reachInWords(judged)});
 }
 
+// The words for what is in an object too, where they aren't the usual ones.
+const REACHES = {
+    here: "allHere",
+    says: "allSays"
+};
+
 function reachInWords(judged) {
     const {reach = "here", does} = judged;
-    const isHere = reach === "all" && doing(judged)[0] === "here";
-    return does ? "" : isHere ? words.reach.allHere : valueIn(words.reach, reach);
+    const ofAll = reach === "all" ? valueIn(REACHES, doing(judged)[0]) : undefined;
+    return does ? "" : valueIn(words.reach, ofAll ?? reach);
 }
 
 const whoInWords = (sids, names) => together(sids.map((sid) => nameOf(sid, names)));

@@ -206,6 +206,7 @@ export const WORDS = {
             here: "",
             all: " and everything in it",
             allHere: " and in everything in it",
+            allSays: ", here and in everything in it",
             below: ", not the object itself"
         },
         and: "{first} and {second}",
@@ -751,7 +752,7 @@ export const WORDS = {
         inOrder: "in the order of Windows",
         disorder: "ACE {number} of {part} is not in the order of Windows.",
         hint: "Arrows choose an ACE, Enter changes it, Del takes it away, Alt with an arrow moves it. Ctrl+Z undoes.",
-        columns: {number: "No.", type: "Type", who: "Who", can: "Can", where: "Where", state: "Change", remove: ""},
+        columns: {number: "No.", type: "Type", who: "Who", can: "Can", where: "Where", remove: ""},
         was: "was {what}",
         remove: "Take ACE {number} away",
         removeThis: "Take away",

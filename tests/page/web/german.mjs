@@ -56,6 +56,7 @@ export const GERMAN = {
     "what is made in {these}": "was in {these} entsteht",
     " and everything in it": " und alles darin",
     " and in everything in it": " und in allem darin",
+    ", here and in everything in it": ", hier und in allem darin",
     ", not the object itself": ", nicht das Objekt selbst",
     "{first} and {second}": "{first} und {second}",
     "{first} and {count} others": "{first} und {count} andere",
