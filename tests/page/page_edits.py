@@ -374,7 +374,8 @@ def test_edit_by_keys(count, page, _):
     count.add(got["focus"] == "edit-sid", f"Enter leads to {got['focus']}")
     got = press(page, "Control+a", *"everyone", "Enter")
     text = ALL.replace("(D;;LC;;;BU)", "(D;;LC;;;WD)")
-    count.add([got["sddl"], got["focus"]] == [text, "edit-sid"], f"another trustee: {got}")
+    is_one = got["aces"] == ["changed", "same", "same", "same", "same"]
+    count.add([got["sddl"], got["focus"], is_one] == [text, "edit-sid", True], f"another trustee: {got}")
     # A field of a text has an undo of its own.
     got = press(page, "x", "Control+z")
     count.add(got["sddl"] == text, f"Ctrl+Z in a field: {got}")
@@ -462,7 +463,7 @@ def test_edit_shown(count, page, _):
     page.open()
     page.do("put('names', given[0]); put('kind', 'folder'); byId('tab-edit').click(); await see(given[1]);",
             f"{sid} {LONG}\nS-1-5-32-545 {HOSTILE}",
-            f"{LONG} O:{sid}D:AI(A;OICIID;FA;;;{sid})(A;;FR;;;BU)(AU;SA;FA;;;WD)")
+            f"{LONG} O:{sid}D:AI(A;OICIID;FA;;;{sid})(A;;FR;;;BU)(A;;FA;;;WD)(AU;SA;FA;;;WD)")
     try:
         for width in (320, 1280):
             page.browser.size(width, 800)
