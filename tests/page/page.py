@@ -67,6 +67,8 @@ def make_pictures(page, given):
     for width, theme, name in ((1280, "light", ""), (1280, "dark", "-dark"), (390, "light", "-phone")):
         page.browser.size(width, 900)
         for view in each_view(page):
+            if view == "edit":
+                page.do("byId('edit-take').click(); await until(isIdle); await pause(500);")
             page.do(
                 "byId('more-options').open = false; document.documentElement.dataset.theme = given[0]; "
                 "scrollTo(0, 0); await pause(100);",
