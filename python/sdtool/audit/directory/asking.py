@@ -93,13 +93,15 @@ class _Account:
             scheme = "ldaps" if self._address.scheme == "ldaps" else "ldap"
             with _opened("ldap", Address(scheme, name, "", "", f"{scheme}://{name}"), self._access) as directory:
                 [about] = directory.ask("root")
-                [[[entry], _]] = directory.ask("search", f"<SID={sid}>", "base", "", ["tokenGroups"], 0)
-                found = [sid_of_value(bytes_of(value)) for value in entry[1].get("tokenGroups", [])]
+                pieces = [piece for some, _ in directory.ask("search", f"<SID={sid}>", "base", "", ["tokenGroups"], 0)
+                          for piece in some]
+                found = [sid_of_value(bytes_of(value)) for _, values, _ in pieces
+                         for value in values.get("tokenGroups", [])]
                 if not found:
                     self._missing.append(f"{name} shows no groups of the account")
                 if sid.endswith(_ADMINISTRATOR) and "".join(about.get("vendorName", [])).startswith("Samba"):
                     self._notes.append(_ROOT_OF_SAMBA)
-        except (*_FAULTS, ValueError) as error:
+        except (*_FAULTS, LookupError, TypeError, ValueError) as error:
             self._missing.append(f"its directory couldn't be asked for its groups ({error})")
         return [one for one in found if name == server_name or not one.startswith(_BUILT_IN)]
 

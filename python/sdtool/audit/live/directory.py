@@ -5,7 +5,7 @@ from urllib.parse import unquote
 from sdtool._windows import DESCRIPTORS
 from sdtool.audit.live.access import Access
 from sdtool.audit.live.address import Address
-from sdtool.audit.live.talking import Client, Fact, NeverOpened, Refused
+from sdtool.audit.live.talking import Client, Fact, NeverOpened, Refused, bytes_of, value_of
 from sdtool.audit.sources import ldif
 from sdtool.audit.sources.items import Item, unreadable
 from sdtool.audit.sources.opening import OpeningFault
@@ -48,13 +48,19 @@ def query_of(address: Address) -> Query:
 def _search(client: Client, base: str, scope: str, pattern: str, attributes: Sequence[str],
             flags: int = 0) -> Iterator[Tuple[List[ldif.Entry], List[str]]]:
     """The entries and the referrals of each page."""
-    for entries, referrals in client.ask("search", base, scope, pattern, list(attributes), flags):
-        yield [_entry(*one) for one in entries], referrals
-
-
-def _entry(name: str, values: Dict[str, List[str]]) -> ldif.Entry:
-    attributes = {title.lower(): list(map(bytes.fromhex, found)) for title, found in values.items()}
-    return ldif.Entry(0, name, attributes, titles={title.lower(): title for title in values})
+    held: Dict[str, List[bytes]] = {}
+    titles: Dict[str, str] = {}
+    for answer in client.ask("search", base, scope, pattern, list(attributes), flags):
+        entries = []
+        for piece in value_of(list, value_of(list, answer)[0]):
+            name, values, is_last = value_of(str, piece[0]), value_of(dict, piece[1]), value_of(bool, piece[2])
+            for title, found in values.items():
+                held.setdefault(title.lower(), []).extend(map(bytes_of, found))
+                titles[title.lower()] = title
+            if is_last:
+                entries.append(ldif.Entry(0, name, held, titles=titles))
+                held, titles = {}, {}
+        yield entries, [value_of(str, one) for one in answer[1]]
 
 
 class DirectorySource:

@@ -1,17 +1,20 @@
-"""Asks a directory by LDAP: the side that is a process of its own. An entry is its name, and the values of its
-attributes in hex."""
+"""Asks a directory by LDAP: the side that is a process of its own. A piece of an entry is its name, values of its
+attributes in hex, and whether the entry ends with it."""
 import contextlib
+import os
+import re
 from typing import Any, Callable, Dict, Iterator, List, NamedTuple, Tuple
 
 import ldb
 import samba
+from samba import ntstatus
 from samba.dcerpc import nbt
 from samba.net import Net
-from samba.ntstatus import NT_STATUS_CONNECTION_DISCONNECTED
 
 from sdtool.audit.live.client import Login, Refusal, pace
 
 _PAGE = 500
+_MOST = 1 << 20  # digits in one answer, but for the last value
 _SCOPES = {"base": ldb.SCOPE_BASE, "one": ldb.SCOPE_ONELEVEL, "sub": ldb.SCOPE_SUBTREE}
 _SYSTEM = "/etc/ssl/certs/ca-certificates.crt"
 _ROOT = ("defaultNamingContext", "rootDomainNamingContext", "schemaNamingContext", "configurationNamingContext",
@@ -38,27 +41,31 @@ class Session(NamedTuple):
         except ldb.LdbError as error:
             if error.args[0] in _ANSWERS:
                 raise
-            raise Refusal(NT_STATUS_CONNECTION_DISCONNECTED, str(error.args[1])) from error
+            raise Refusal(ntstatus.NT_STATUS_CONNECTION_DISCONNECTED, str(error.args[1])) from error
 
 
 def opened(login: Login) -> Session:
     """A connection: what is sent is signed and sealed, or in TLS, where the password alone can be shown."""
     parameters, credentials = login.loadparm(), login.credentials()
     if login.scheme == "ldaps":
-        if not credentials.get_password():
+        if not login.password:
             raise Refusal(0, "ldaps:// needs a password (--credentials or --user); with a ticket of Kerberos ask "
                           "ldap://, which is sealed too")
+        authorities = os.path.abspath(login.ca or _SYSTEM)
+        if not os.path.isfile(authorities):
+            raise Refusal(0, f"--ca {authorities}: no such file")
         parameters.set("tls verify peer", "ca_and_name")
-        parameters.set("tls cafile", login.ca or _SYSTEM)
-        credentials.set_bind_dn(_user_of(credentials))
+        parameters.set("tls cafile", authorities)
+        credentials.set_bind_dn(f"{login.domain}\\{login.user}" if login.domain else login.user)
     address = f"{login.scheme}://{login.server or controller_of(login)}"
-    return Session(login, samba.Ldb(address, lp=parameters, credentials=credentials))
-
-
-def _user_of(credentials: Any) -> str:
-    """The user as a simple bind takes it."""
-    name, domain = credentials.get_username(), credentials.get_domain()
-    return str(name) if "@" in name or not domain else f"{domain}\\{name}"
+    try:
+        return Session(login, samba.Ldb(address, lp=parameters, credentials=credentials))
+    except ldb.LdbError as error:
+        found = re.search(r"NT_STATUS_\w+", str(error.args[1]))
+        status = found[0] if found else ""
+        if error.args[0] == ldb.ERR_INVALID_CREDENTIALS:
+            status = "NT_STATUS_LOGON_FAILURE"
+        raise Refusal(getattr(ntstatus, status, 0), str(error.args[1])) from error
 
 
 def controller_of(login: Login, domain: str = "") -> str:
@@ -98,15 +105,37 @@ def _entry(session: Session, message: Any) -> Entry:
     return _name_of(message), attributes
 
 
+def _pieces(name: str, attributes: Dict[str, List[str]]) -> Iterator[List[Any]]:
+    """An entry in pieces that answers have place for."""
+    part: Dict[str, List[str]] = {}
+    size = 0
+    for title, values in attributes.items():
+        for value in values:
+            part.setdefault(title, []).append(value)
+            size += len(value)
+            if size > _MOST:
+                yield [name, part, False]
+                part, size = {}, 0
+    yield [name, part, True]
+
+
 def search(session: Session, base: str, scope: str, pattern: str, attributes: List[str],
            flags: int) -> Iterator[List[Any]]:
-    """The entries of all pages: lists of them, and of the referrals that came with them."""
+    """The entries of all pages in pieces: lists of these, and of the referrals that came with them."""
     cookie = ""
     while True:
         paged = [f"paged_results:1:{_PAGE}{cookie and f':{cookie}'}"] if scope != "base" else []
         found = session.search(base, _SCOPES[scope], pattern, attributes, *paged,
                                *([f"sd_flags:1:{flags}"] if flags else []))
-        yield [[_entry(session, message) for message in found.msgs], [str(one) for one in found.referals]]
+        some: List[Any] = []
+        size = 0
+        for piece in (piece for message in found.msgs for piece in _pieces(*_entry(session, message))):
+            some.append(piece)
+            size += sum(len(value) for values in piece[1].values() for value in values)
+            if size > _MOST:
+                yield [some, []]
+                some, size = [], 0
+        yield [some, [str(one) for one in found.referals]]
         told = [str(one).split(":") for one in found.controls if str(one).startswith("paged_results:")]
         cookie = told[0][2] if told and len(told[0]) > 2 else ""
         if not cookie:
