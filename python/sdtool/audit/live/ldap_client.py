@@ -61,7 +61,8 @@ def opened(login: Login) -> Session:
     try:
         return Session(login, samba.Ldb(address, lp=parameters, credentials=credentials))
     except ldb.LdbError as error:
-        found = re.search(r"NT_STATUS_\w+", str(error.args[1]))
+        # A name of a server that isn't known is no name of an object.
+        found = re.search(r"NT_STATUS_(?!OBJECT)\w+", str(error.args[1]))
         status = found[0] if found else ""
         if error.args[0] == ldb.ERR_INVALID_CREDENTIALS:
             status = "NT_STATUS_LOGON_FAILURE"
