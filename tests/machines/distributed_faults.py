@@ -117,6 +117,17 @@ type(memory).pipe_file = pipe_file
 status = distributed.main(["--out", "memory://out", "convert", "--", "memory://in/x"])
 print(status, others, [name for name in memory.find("/out") if "_sdtool" not in name])
 """
+# A worker of a run that has lost the output, though its folder is there.
+LOST = """
+import contextlib, os
+from sdtool.distributed import work
+lost = work.Work("sdtool-1", ["convert"], "", "", "lost", False)
+os.makedirs(lost.mine)
+open("lost/_sdtool/run.json", "w").write('{"run": "another", "words": ["convert"]}')
+with contextlib.suppress(work.Unfit), lost.written(f"{lost.place.root}/x") as file:
+    file.write(b"answers")
+print(os.listdir("lost"), os.listdir(lost.mine))
+"""
 # A run that another one takes over while its workers write nothing.
 LOST_IN_MEMORY = """
 import threading
@@ -560,6 +571,8 @@ def test_two_at_once(count, place):
         count.add([got.status for got in ends] == [3, 0] and joined == place.wanted(["convert"], "x")[0],
                   f"two at once, {options}: {sorted(answers)}: {ends[0]} and {ends[1]}")
         count.add("another run has taken it over" in ends[0].stderr, f"the first of two at once, {options}: {ends[0]}")
+    got = runs.ended(place.start([place.python, "-c", LOST], stdout=subprocess.PIPE, stderr=subprocess.PIPE))
+    count.add(got.stdout == "['_sdtool'] []\n", f"what a worker writes when its run has lost the output: {got}")
     got = runs.ended(place.start([place.python, "-c", LOST_IN_MEMORY], stdout=subprocess.PIPE, stderr=subprocess.PIPE))
     is_right = "[3]" in got.stdout and "another run has taken it over" in got.stderr
     count.add(is_right, f"a run that another one takes over while it writes nothing: {got}")

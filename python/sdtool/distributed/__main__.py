@@ -48,11 +48,11 @@ def take_over(work: Work) -> None:
     has its folder only when it has owned the output. So the folders that are there while this one owns it are its own
     and those of earlier runs, also where several begin at once."""
     place, fs, record = work.place, work.place.fs, f"{work.place.ours}/run.json"
-    claim = f"{place.ours}/{uuid.uuid4().hex}"
+    claim, told = f"{place.ours}/{uuid.uuid4().hex}", json.dumps({"run": work.run, "words": work.words}).encode()
     if place.renames:
         fs.makedirs(place.ours, exist_ok=True)
     try:
-        fs.pipe_file(claim, json.dumps({"run": work.run, "words": work.words}).encode())
+        fs.pipe_file(claim, told)
         if not (place.is_local and is_linked(claim, record) and place.owner()):
             for path, _ in files_of(fs, place.ours, UNFINISHED):
                 if place.owner(path).get("words", work.words) != work.words:
@@ -62,11 +62,11 @@ def take_over(work: Work) -> None:
             place.move(claim, record)
             fs.makedirs(work.mine, exist_ok=True)
         else:
-            fs.pipe_file(record, fs.cat_file(claim))
+            fs.pipe_file(record, told)
     finally:
         with contextlib.suppress(FileNotFoundError):
             fs.rm_file(claim)
-    folders = [told["name"].rstrip("/") for told in entries(fs, place.ours) if told["type"] == "directory"]
+    folders = [each["name"].rstrip("/") for each in entries(fs, place.ours) if each["type"] == "directory"]
     work.require_ownership()
     for folder in [place.ours, *folders]:
         if folder == place.ours or RUN.fullmatch(os.path.basename(folder)) and folder != work.mine:
