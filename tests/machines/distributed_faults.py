@@ -307,9 +307,10 @@ def test_files_that_go(count, place):
         out = place.out()
         got = place.run(out, ["convert"], given)
         answers = {name: data for name, data in runs.answers_in(out).items() if "comes and goes" not in name}
-        named = [line for line in got.stderr.splitlines() if "has no answers" in line and "comes and goes" not in line]
-        judge(count, place, f"files that go, {given}", got, out, right, status=got.status, answers=answers)
-        count.add(got.status in (0, 3) and not named, f"files that go, {given}: {named}: {got}")
+        said = "".join(line for line in got.stderr.splitlines(True) if "comes and goes" not in line)
+        judge(count, place, f"files that go, {given}", got._replace(stderr=said), out, right, status=got.status,
+              answers=answers)
+        count.add(got.status in (0, 3), f"files that go, {given}: {got}")
     for other in others:
         end(other)
 
