@@ -51,7 +51,7 @@ namespace Sdtool
                     group = block.Copy(Sid.DataOf(group)),
                     sacl = new Native.NewAcl { state = (uint)sacl.State },
                     dacl = new Native.NewAcl { state = (uint)dacl.State },
-                    control = (ushort)control,
+                    control = checked((ushort)control),
                     resourceManager = resourceManager
                 };
                 return Laid(parts, block.Copy(sacl), block.Copy(dacl));

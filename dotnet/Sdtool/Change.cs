@@ -168,7 +168,7 @@ namespace Sdtool
         /// <summary>The ACL becomes absent, null, or a list without ACEs.</summary>
         public static Change State(Part acl, AclState state)
         {
-            return new Change(new Native.Change { kind = Native.SDTOOL_STATE, part = (uint)acl, state = (byte)state });
+            return new Change(new Native.Change { kind = Native.SDTOOL_STATE, part = (uint)acl, state = checked((byte)state) });
         }
 
         /// <summary>The owner becomes a SID, or with null there is none.</summary>

@@ -1,6 +1,6 @@
 """Random requests, hostile ones too, with the answers that calls of the library by ctypes give; and what the tests of a
-language share. A program in the language (rust/requests, go/internal/requests) answers the same requests by the values
-of its own interface.
+language share. A program in the language (rust/requests, go/internal/requests, tests/dotnet/cs, tests/library/requests)
+answers the same requests by the values of its own interface.
 """
 import ctypes
 import importlib.util
@@ -29,8 +29,12 @@ REQUESTS = 4_000   # of each call, so that they are 100,000
 AT_ONCE = 2_000    # requests for which descriptors and texts are made anew
 THREADS = 8
 MOST_OF_C = 1.3    # times that a check may take, and an empty call
+# A descriptor and the SID of a token, whose check is timed.
+TIMED = ("01000480140000002400000000000000300000000102000000000005200000002002000001010000000000051200000002001c00"
+         "0100000000001400ff011f00010100000000000100000000", "010100000000000100000000")
 MAPPINGS, KINDS, MOST_SIDS = 3, 2, 1_024
 MANY_CHANGES = (16_384, 16_385)  # as many as there may be, and one more
+MANY_DESCRIPTORS = (1_024, 1_025, 2_048)  # as languages give to one call, and more
 OPTIONS = (header.HAS_LEVEL, header.SECURITY, header.TAKE_OWNERSHIP)
 WORDS = ([], ["convert"], ["explain"], ["convert", "--to", "hex"], ["--help"], ["convert", "--from", "sddl"],
          ["nothing"], ["explain", "--numeric"], ["convert", "--domain", "S-1-5-21-1-2-3"], ["convert", "--to\0hex"],
@@ -166,6 +170,7 @@ class Inputs:
         self.descriptors += [bytes.fromhex(c_library.change_bytes(one.hex(), chance))
                              for one in chance.sample(self.descriptors, 200) if one]
         self.descriptors = [one for one in self.descriptors if len(one) < 3_000] + [b"", bytes(20)]
+        self.small = [one for one in self.descriptors if len(one) < 100]
         self.large = [bytes.fromhex(c_library.TOO_MANY_BYTES), next(iter(compare.large_descriptors()))]
         texts = [maker.sddl_line().decode("latin-1") for _ in range(500)]
         texts += [c_library.change_text(chance.choice(texts), chance) for _ in range(200)]
@@ -448,6 +453,8 @@ class Requests:
     def check_many(self):
         words, judge = self.question()
         all_data = [self.inputs.descriptor() for _ in range(self.inputs.one((0, 1, 2, 9)))]
+        if self.inputs.is_once():
+            all_data = self.chance.choices(self.inputs.small, k=self.inputs.one(MANY_DESCRIPTORS))
 
         def ask():
             asked, request = judge()
@@ -637,33 +644,43 @@ def judge_run(count, words, folder, surroundings, given=None):
     return said
 
 
-def judge_requests(count, program, number_of_each, checks_aces_first, surroundings=None, threads=1, seed=1):
-    """Each request has the answer of the library."""
-    chance = random.Random(seed)
+def judge_requests(count, program, number_of_each, checks_aces_first, surroundings=None, threads=1, seed=1, jobs=JOBS,
+                   form=str):
+    """Each request has the answer of the library, in the form that the language gives it."""
+    chance, words = random.Random(seed), program if isinstance(program, list) else [program]
     for first in range(0, number_of_each, AT_ONCE):
         some = min(AT_ONCE, number_of_each - first)
-        lines, right = made(chance, JOBS, some, checks_aces_first)
-        said, status = ran([program, threads], None, surroundings or {}, "".join(line + "\n" for line in lines))
+        lines, right = made(chance, jobs, some, checks_aces_first)
+        right = list(map(form, right))
+        said, status = ran([*words, threads], None, surroundings or {}, "".join(line + "\n" for line in lines))
         found = said.split("\n")[:-1]
         count.add(status == 0 and len(found) == len(right), f"{program}: status {status}, {said[-2000:]}")
         for line, one, other in zip(lines, found, right):
             count.add(one == other, f"{line[:600]}: {one[:600]}, not {other[:600]}")
 
 
+def times(words, surroundings):
+    """Nanoseconds of a check and of a call that does nothing, by a program."""
+    return list(map(float, ran([*words, *TIMED], None, surroundings)[0].split()))
+
+
+def program_in_c(folder):
+    """The program that says what both take in C."""
+    program = pathlib.Path(folder, "check_times")
+    subprocess.run([c_library.COMPILER, "-O2", f"-I{preload.TOP / 'include'}",
+                    str(preload.TOP / "tests/library/c/check_times.c"), "-o", str(program), f"-L{LIBRARIES}",
+                    "-lsdtool"], check=True)
+    return [program]
+
+
 def judge_time(count, program, surroundings):
     """A check takes at most so many times what it takes in C, and an empty call."""
-    given = ("01000480140000002400000000000000300000000102000000000005200000002002000001010000000000051200000002001c00"
-             "0100000000001400ff011f00010100000000000100000000", "010100000000000100000000")
     with tempfile.TemporaryDirectory() as folder:
-        in_c_program = pathlib.Path(folder, "check_times")
-        subprocess.run([c_library.COMPILER, "-O2", f"-I{preload.TOP / 'include'}",
-                        str(preload.TOP / "tests/library/c/check_times.c"), "-o", str(in_c_program), f"-L{LIBRARIES}",
-                        "-lsdtool"], check=True)
+        words = program_in_c(folder)
         check = own = empty = math.inf
         for _ in range(10):  # a machine may be busy
-            (in_c, _), (taken, called) = [map(float, ran([path, *words, *given], None, surroundings)[0].split())
-                                          for path, words in ((in_c_program, []), (program, ["time"]))]
-            check, own, empty = min(check, in_c), min(own, taken), min(empty, called)
+            (taken_in_c, _), (taken, called) = times(words, surroundings), times([program, "time"], surroundings)
+            check, own, empty = min(check, taken_in_c), min(own, taken), min(empty, called)
             if own <= MOST_OF_C * check + empty:
                 break
     said = f"a check takes {own:.0f} ns, in C {check:.0f} ns, and an empty call {empty:.0f} ns"
