@@ -67,23 +67,33 @@ function ConvertTo-SdtoolMask {
     return [uint32] ($number -band [long] [uint32]::MaxValue)
 }
 
-# Who asks, and for what. The dictionary is what a command was called with.
+# Who asks, and for what. The dictionary is what the caller, a command, was called with.
 function Get-SdtoolChecker {
     [CmdletBinding()]
     [OutputType('Sdtool.Checker')]
     param(
         [Parameter(Mandatory = $true)]
-        [System.Collections.Generic.Dictionary[string, object]] $Given
+        [System.Collections.Generic.Dictionary[string, object]] $Given,
+
+        [AllowNull()]
+        [Sdtool.Sid] $DomainSid,
+
+        [Parameter(Mandatory = $true)]
+        [System.Management.Automation.PSCmdlet] $Caller
     )
-    $domainSid = Get-SdtoolSid -Text $Given['Domain']
-    $mapping = [Sdtool.Mapping]::File
-    if ($Given.ContainsKey('Mapping')) {
-        $mapping = $Given['Mapping']
+    try {
+        $mapping = [Sdtool.Mapping]::File
+        if ($Given.ContainsKey('Mapping')) {
+            $mapping = $Given['Mapping']
+        }
+        $mask = ConvertTo-SdtoolMask -Right $Given['Right']
+        $principal = Get-SdtoolSid -Text $Given['PrincipalSelf'] -DomainSid $DomainSid
+        $token = Get-SdtoolToken -Given $Given -DomainSid $DomainSid
+        return [Sdtool.Checker]::new($token, $mask, $false, $mapping, $Given['ObjectType'], $principal)
     }
-    $mask = ConvertTo-SdtoolMask -Right $Given['Right']
-    $principal = Get-SdtoolSid -Text $Given['PrincipalSelf'] -DomainSid $domainSid
-    $token = Get-SdtoolToken -Given $Given -DomainSid $domainSid
-    return [Sdtool.Checker]::new($token, $mask, $false, $mapping, $Given['ObjectType'], $principal)
+    catch {
+        $Caller.ThrowTerminatingError((ConvertTo-SdtoolErrorRecord -ErrorRecord $_))
+    }
 }
 
 function Get-SdtoolToken {
@@ -130,6 +140,26 @@ function Get-SdtoolSid {
     )
     if ($Text) {
         return [Sdtool.Sid]::new($Text, $DomainSid)
+    }
+}
+
+# The same of a command's domain.
+function Get-SdtoolDomain {
+    [CmdletBinding()]
+    [OutputType('Sdtool.Sid')]
+    param(
+        [AllowNull()]
+        [AllowEmptyString()]
+        [string] $Domain,
+
+        [Parameter(Mandatory = $true)]
+        [System.Management.Automation.PSCmdlet] $Caller
+    )
+    try {
+        return Get-SdtoolSid -Text $Domain
+    }
+    catch {
+        $Caller.ThrowTerminatingError((ConvertTo-SdtoolErrorRecord -ErrorRecord $_ -Target $Domain))
     }
 }
 
@@ -181,12 +211,7 @@ function ConvertFrom-Sddl {
         [string] $Domain
     )
     begin {
-        try {
-            $domainSid = Get-SdtoolSid -Text $Domain
-        }
-        catch {
-            $PSCmdlet.ThrowTerminatingError((ConvertTo-SdtoolErrorRecord -ErrorRecord $_ -Target $Domain))
-        }
+        $domainSid = Get-SdtoolDomain -Domain $Domain -Caller $PSCmdlet
     }
     process {
         try {
@@ -225,12 +250,7 @@ function ConvertTo-Sddl {
         [switch] $Numeric
     )
     begin {
-        try {
-            $domainSid = Get-SdtoolSid -Text $Domain
-        }
-        catch {
-            $PSCmdlet.ThrowTerminatingError((ConvertTo-SdtoolErrorRecord -ErrorRecord $_ -Target $Domain))
-        }
+        $domainSid = Get-SdtoolDomain -Domain $Domain -Caller $PSCmdlet
     }
     process {
         try {
@@ -314,13 +334,8 @@ function Test-SddlAccess {
     )
     begin {
         $answers = [System.Collections.Generic.List[bool]]::new()
-        try {
-            $domainSid = Get-SdtoolSid -Text $Domain
-            $checker = Get-SdtoolChecker -Given $PSBoundParameters
-        }
-        catch {
-            $PSCmdlet.ThrowTerminatingError((ConvertTo-SdtoolErrorRecord -ErrorRecord $_))
-        }
+        $domainSid = Get-SdtoolDomain -Domain $Domain -Caller $PSCmdlet
+        $checker = Get-SdtoolChecker -Given $PSBoundParameters -DomainSid $domainSid -Caller $PSCmdlet
     }
     process {
         try {
@@ -416,13 +431,8 @@ function Get-SddlAccess {
         [string] $Domain
     )
     begin {
-        try {
-            $domainSid = Get-SdtoolSid -Text $Domain
-            $checker = Get-SdtoolChecker -Given $PSBoundParameters
-        }
-        catch {
-            $PSCmdlet.ThrowTerminatingError((ConvertTo-SdtoolErrorRecord -ErrorRecord $_))
-        }
+        $domainSid = Get-SdtoolDomain -Domain $Domain -Caller $PSCmdlet
+        $checker = Get-SdtoolChecker -Given $PSBoundParameters -DomainSid $domainSid -Caller $PSCmdlet
     }
     process {
         try {
@@ -474,12 +484,7 @@ function Edit-Sddl {
         [string] $Domain
     )
     begin {
-        try {
-            $domainSid = Get-SdtoolSid -Text $Domain
-        }
-        catch {
-            $PSCmdlet.ThrowTerminatingError((ConvertTo-SdtoolErrorRecord -ErrorRecord $_ -Target $Domain))
-        }
+        $domainSid = Get-SdtoolDomain -Domain $Domain -Caller $PSCmdlet
     }
     process {
         try {

@@ -488,16 +488,20 @@ static PyObject *version(PyObject *module, PyObject *nothing)
     return answer;
 }
 
-static PyObject *fault_text(PyObject *module, PyObject *argument)
-{
-    struct state *state = state_of(module);
-    uint32_t fault;
-    PyObject *answer;
-    if (state == NULL || !number(argument, UINT32_MAX, &fault))
-        return NULL;
-    ASK(answer, state->library.fault_text(fault, output, size), 0, as_text, NOTHING);
-    return answer;
-}
+/* A call that gives the text of a number. */
+#define TEXT_OF_NUMBER(NAME)                                                                                           \
+    static PyObject *NAME(PyObject *module, PyObject *given)                                                           \
+    {                                                                                                                  \
+        struct state *state = state_of(module);                                                                        \
+        uint32_t found;                                                                                                \
+        PyObject *answer;                                                                                              \
+        if (state == NULL || !number(given, UINT32_MAX, &found))                                                       \
+            return NULL;                                                                                               \
+        ASK(answer, state->library.NAME(found, output, size), 0, as_text, NOTHING);                                    \
+        return answer;                                                                                                 \
+    }
+TEXT_OF_NUMBER(fault_text)
+TEXT_OF_NUMBER(flags_to_text)
 
 static PyObject *normalize(PyObject *module, PyObject *argument)
 {
@@ -714,17 +718,6 @@ static PyObject *rights_to_text(PyObject *module, PyObject *const *given, Py_ssi
     if (state == NULL || !number(given[0], UINT32_MAX, &mask))
         return NULL;
     ASK(answer, state->library.rights_to_text(mask, given[1] == Py_True, output, size), 0, as_text, NOTHING);
-    return answer;
-}
-
-static PyObject *flags_to_text(PyObject *module, PyObject *given)
-{
-    struct state *state = state_of(module);
-    uint32_t flags;
-    PyObject *answer;
-    if (state == NULL || !number(given, UINT32_MAX, &flags))
-        return NULL;
-    ASK(answer, state->library.flags_to_text(flags, output, size), 0, as_text, NOTHING);
     return answer;
 }
 
