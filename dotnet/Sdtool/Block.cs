@@ -51,11 +51,21 @@ namespace Sdtool
                     group = block.Copy(Sid.DataOf(group)),
                     sacl = new Native.NewAcl { state = (uint)sacl.State },
                     dacl = new Native.NewAcl { state = (uint)dacl.State },
-                    control = checked((ushort)control),
+                    control = Word(control, "flags"),
                     resourceManager = resourceManager
                 };
                 return Laid(parts, block.Copy(sacl), block.Copy(dacl));
             }
+        }
+
+        /// <summary>A control word, which has 16 bits.</summary>
+        internal static ushort Word(ControlFlags flags, string name)
+        {
+            if ((uint)flags > ushort.MaxValue)
+            {
+                throw new ArgumentOutOfRangeException(name);
+            }
+            return (ushort)flags;
         }
 
         /// <summary>The bytes of an ACE of these fields.</summary>

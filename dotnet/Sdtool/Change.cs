@@ -168,7 +168,11 @@ namespace Sdtool
         /// <summary>The ACL becomes absent, null, or a list without ACEs.</summary>
         public static Change State(Part acl, AclState state)
         {
-            return new Change(new Native.Change { kind = Native.SDTOOL_STATE, part = (uint)acl, state = checked((byte)state) });
+            if (state < AclState.Absent || state > AclState.List)
+            {
+                throw new ArgumentOutOfRangeException(nameof(state));
+            }
+            return new Change(new Native.Change { kind = Native.SDTOOL_STATE, part = (uint)acl, state = (byte)state });
         }
 
         /// <summary>The owner becomes a SID, or with null there is none.</summary>
@@ -189,8 +193,8 @@ namespace Sdtool
             return new Change(new Native.Change
             {
                 kind = Native.SDTOOL_CONTROL,
-                setControl = checked((ushort)set),
-                clearControl = checked((ushort)clear)
+                setControl = Block.Word(set, nameof(set)),
+                clearControl = Block.Word(clear, nameof(clear))
             });
         }
 

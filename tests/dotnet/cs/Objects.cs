@@ -158,6 +158,10 @@ internal static class Objects
         Refuses<ArgumentOutOfRangeException>("an offset below 0", () => new Sid(sid.GetBinaryForm(), -1));
         Refuses<ArgumentOutOfRangeException>("an offset too high", () => new SecurityDescriptor(new byte[20], 21));
         Refuses<ArgumentOutOfRangeException>("a place below 0", () => Change.Take(Part.SystemAcl, -1));
+        Refuses<ArgumentOutOfRangeException>("no state", () => Change.State(Part.DiscretionaryAcl, (AclState)256));
+        Refuses<ArgumentOutOfRangeException>("no control word", () => Change.Control(0, (ControlFlags)0x10000));
+        Refuses<ArgumentOutOfRangeException>("no control word of a descriptor", () =>
+            new SecurityDescriptor((ControlFlags)0x10000, null, null, Acl.Absent, Acl.Null));
         Refuses<ArgumentOutOfRangeException>("a privilege that is a level",
                                              () => new Token(new[] { sid }, null, null, (Privileges)1));
         Refuses<ArgumentFaultException>("no privilege", () =>
