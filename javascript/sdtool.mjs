@@ -1260,7 +1260,7 @@ class Sdtool {
         const sacl = this.#room + STRUCTS, dacl = sacl + size;
         const words = addAll(addAll(list(), places, 0, 8), numbers);
         this.#call("sdtool_derive_origins", words, sacl, MOST_DERIVED_ACES, dacl, MOST_DERIVED_ACES);
-        this.#judge();
+        this.#judge(inputs[0]);
         const told = listOf(this.#origins(sacl, ORIGINS_SACL_COUNT_AT), this.#origins(dacl, ORIGINS_DACL_COUNT_AT));
         // The call that finds the ACEs takes the room.
         const parts = this.#parts(inputs[0]), creators = lengthOf(inputs[1]) > 0 ? this.#parts(inputs[1]) : null;

@@ -207,7 +207,7 @@ def test_abi(count, folder):
         changed = HEADER.replace(old, new)
         count.add(changed != HEADER, f"the header has no {old}")
         printed, status = ran(["abidiff", ours, linked(f"changed{number}", changed, names)])
-        count.add(status & ABI_CHANGE and re.search(r"[1-9] functions? with", printed),
+        count.add(status & ABI_CHANGE and re.search(r"[1-9]\d* functions? with", printed),
                   f"abidiff misses {new}: {printed}")
     names.write_text(symbols.replace("sdtool_edit;", ""), encoding="utf-8")
     printed, status = ran(["abidiff", ours, linked("lacking", HEADER, names)])

@@ -645,13 +645,13 @@ def judge_run(count, words, folder, surroundings, given=None):
 
 
 def judge_requests(count, program, number_of_each, checks_aces_first, surroundings=None, threads=1, seed=1, jobs=JOBS,
-                   form=str):
+                   form=lambda line, answer: answer):
     """Each request has the answer of the library, in the form that the language gives it."""
     chance, words = random.Random(seed), program if isinstance(program, list) else [program]
     for first in range(0, number_of_each, AT_ONCE):
         some = min(AT_ONCE, number_of_each - first)
         lines, right = made(chance, jobs, some, checks_aces_first)
-        right = list(map(form, right))
+        right = list(map(form, lines, right))
         said, status = ran([*words, threads], None, surroundings or {}, "".join(line + "\n" for line in lines))
         found = said.split("\n")[:-1]
         count.add(status == 0 and len(found) == len(right), f"{program}: status {status}, {said[-2000:]}")

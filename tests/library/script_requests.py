@@ -4,10 +4,12 @@
   ctypes      the same through the package by ctypes, and from eight threads
   javascript  the same through javascript/sdtool.mjs and the module that make wasm built
 
-Both refuse an argument in words of their own, so only that they do is compared.
+Both refuse an argument in words of their own, so only that they do is compared. Of a text that does not begin as an ACE
+they say no place.
 """
 import os
 import pathlib
+import re
 import shutil
 import sys
 import tempfile
@@ -19,11 +21,16 @@ PROGRAMS = preload.TOP / "tests/library/requests"
 WASM = preload.TOP / "out/systems/wasm/sdtool.wasm"
 PYTHON = preload.TOP / "python"
 JOBS = [job for job in language_requests.JOBS if job != "version"]  # neither has the version as a number
+PLACE = re.compile(r"(! 20 shape 0 0 0 0) \S+ (.*), at byte .*")
 ARGUMENT = f"! {language_requests.header.ARGUMENT} "
 
 
-def form(answer):
-    return ARGUMENT.strip() if answer.startswith(ARGUMENT) else answer
+def form(line, answer):
+    if answer.startswith(ARGUMENT):
+        return ARGUMENT.strip()
+    if re.match("ace-text (?!28)", line):
+        return PLACE.sub(r"\1 - \2", answer)
+    return answer
 
 
 def in_python(folder, with_extension):

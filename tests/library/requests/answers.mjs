@@ -31,7 +31,7 @@ class Words {
     #at = 1;
     given = null;
 
-    constructor(line) { this.#words = line.split(" "); }
+    constructor(line) { this.#words = line.split(" ").filter((word) => word !== ""); }
 
     get job() { return this.#words[0]; }
 
@@ -165,7 +165,7 @@ const ofOrigins = (origins) =>
 function ofFault(fault, {given, job}) {
     if (fault instanceof ArgumentFault) return "! 70";
     const {place, argument, entry} = fault;
-    let where = "-", sentence = `${fault.line}: ${fault.meaning}`;
+    let where = "-", sentence = `${argument === "changes" ? "changes: " : ""}${fault.line}: ${fault.meaning}`;
     if (place !== null && !WITHOUT_PLACE.includes(job)) {
         const isText = given !== null, offset = isText ? bytesBefore(given, place.offset) : place.offset;
         const size = isText ? bytesBefore(given, place.offset + place.size) - offset : place.size;

@@ -16,6 +16,7 @@ FIELDS = (None, "kind", "flags", "rights", "object type", "inherited object type
 REASONS = ("nothing", "label", "no-dacl", "owner", "privilege", "granted", "denied")
 PLACES = {0xffff_ffff: "end", 0xffff_fffe: "order"}
 OPTIONS = ((2, "security"), (4, "take-ownership"))
+HALF = "\ud800"  # no text of a word
 HAS_LEVEL, CHANGES, CALLS, ROUNDS = 1, 16, 2_000, 50
 WITHOUT_PLACE = ("sid-text", "rights", "flags", "guid-text")  # the text of a field is the place of its fault
 
@@ -32,7 +33,7 @@ class Words:
     """The words of a request, taken one after the other, and what of them is a text."""
 
     def __init__(self, line):
-        self.words = iter(line.split(" "))
+        self.words = iter(line.split())
         self.given = None
 
     def word(self):
@@ -149,7 +150,7 @@ def of_fault(fault, words, job=""):
     if isinstance(fault, sdtool.ArgumentFault):
         return "! 70"
     place, where, text = fault.place, "-", words.given
-    sentence = f"{fault.line}: {fault.meaning}"
+    sentence = f"{'changes: ' if fault.argument == 'changes' else ''}{fault.line}: {fault.meaning}"
     if place is not None and job not in WITHOUT_PLACE:
         offset, size = place.offset, place.size
         if text is not None:
@@ -229,7 +230,7 @@ class Answers:
     @staticmethod
     def ace_text(words):
         text = words.text()
-        return of_ace(sdtool.Ace.from_sddl(text, domain=words.sid_or_none()))
+        return of_ace(sdtool.Ace.from_bytes(sdtool.ace_from_text(text, domain=words.sid_or_none())))
 
     @staticmethod
     def ace(words):
@@ -300,7 +301,7 @@ class Answers:
 
     @staticmethod
     def run(words):
-        spelled = [words.text() for _ in range(words.number())]
+        spelled = [HALF if "\0" in word else word for word in [words.text() for _ in range(words.number())]]
         ended = sdtool.run(spelled, words.bytes())
         return f"{ended.status} {shown(ended.output)} {shown(ended.message.encode())}"
 
