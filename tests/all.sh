@@ -194,7 +194,7 @@ if "${MAKE:-make}" --no-print-directory program; then
         take_systems
         build_page
         build_extension
-        start_lane c_library c_objects fault_places fault_words c_neighbours c_comparisons c_stacks c_reasons \
+        start_lane c_library c_objects c_columns fault_places fault_words c_neighbours c_comparisons c_stacks c_reasons \
             c_origins c_edits c_texts c_install c_examples instructions bench_run
         start_lane python_calls python_objects python_plain python_lies python_wheels page_growth
         start_lane dotnet_requests dotnet_loading dotnet_package script_requests

@@ -28,16 +28,18 @@ HEAD = "`make figures` writes this file from include/sdtool.h"
 READ_ONCE = {"sdtool_check": "sdtool_check_with serves", "sdtool_reasons": "sdtool_reasons_with serves"}
 IN_PYTHON = {**READ_ONCE, "sdtool_describe": "_places.py says it"}
 NO_NUMBER = {"sdtool_version_number": "sdtool_version serves"}
+NO_COLUMNS = dict.fromkeys(("sdtool_convert_many", "sdtool_convert_many_large"), "it has no columns")
 WASM = "systems/c/wasm.c"
 OF_STRUCT = {"uint8_t": "B", "uint16_t": "H", "uint32_t": "I"}  # letters of the struct module
 CALLERS: Dict[str, Tuple[str, str, Dict[str, str]]] = {
-    "Rust": ("rust/sdtool/src/calls.rs", r"\b{name}\b", READ_ONCE),
-    "Go": ("go/*.go", r"\bC\.{name}\b", READ_ONCE),
-    ".NET": ("dotnet/Sdtool/[!N]*.cs", r"\bCalls\.{camel}\b", READ_ONCE),
-    "Python by ctypes": ("python/sdtool/_foreign.py", r"\b{name}\b", {**IN_PYTHON, **NO_NUMBER}),
-    "Python in C": ("python/sdtool/_native.c", r"\bEACH\({short}\)", IN_PYTHON),
-    "JavaScript": ("javascript/sdtool.mjs", r'"{name}"', NO_NUMBER),
-    "WebAssembly": (WASM, r"\bEXPORT\({name}\)", {}),
+    "Rust": ("rust/sdtool/src/calls.rs", r"\b{name}\b", {**READ_ONCE, **NO_COLUMNS}),
+    "Go": ("go/*.go", r"\bC\.{name}\b", {**READ_ONCE, **NO_COLUMNS}),
+    ".NET": ("dotnet/Sdtool/[!N]*.cs", r"\bCalls\.{camel}\b", {**READ_ONCE, **NO_COLUMNS}),
+    "Python by ctypes": ("python/sdtool/_foreign.py", r"\b{name}\b",
+                         {**IN_PYTHON, **NO_NUMBER, **NO_COLUMNS}),
+    "Python in C": ("python/sdtool/_native.c", r"\bEACH\({short}\)", {**IN_PYTHON, **NO_COLUMNS}),
+    "JavaScript": ("javascript/sdtool.mjs", r'"{name}"', {**NO_NUMBER, **NO_COLUMNS}),
+    "WebAssembly": (WASM, r"\bEXPORT\({name}\)", NO_COLUMNS),
 }
 # The names of other numbers in Python, and its tables of words: what is in front of a word, and words of other names.
 NAMED_IN_PYTHON = {"_OWNER": "SET_OWNER", "_GROUP": "SET_GROUP", "_CHANGES": "ARGUMENT_CHANGES",
@@ -249,7 +251,7 @@ OF_CTYPES = {"uint8_t": "c_uint8", "uint16_t": "c_uint16", "uint32_t": "c_uint32
 USERS_IN_PYTHON = ("python/sdtool/_foreign.py", "tests/library/*.py", "tests/dotnet/*.py")
 PYTHON = """\
 # {head}.
-from ctypes import POINTER, Structure, c_bool, c_char_p, c_size_t, c_uint8, c_uint16, c_uint32, c_void_p
+from ctypes import POINTER, Structure, c_bool, c_char_p, c_size_t, c_uint8, c_uint16, c_uint32, c_uint64, c_void_p
 from typing import Any, Sequence, Tuple
 
 # Those that are asked for.
@@ -374,11 +376,17 @@ def shown(members: List[Member]) -> str:
 
 
 def judge_wasm(count: preload.Count, header: Header) -> None:
-    """The structs of WASM that are not the header's are the same with 32 bits, and the others have none wider."""
+    """The structs of WASM that are not the header's are the same with 32 bits, and the others have none wider. It needs
+    none that only functions take which it leaves out."""
+    left_out = CALLERS["WebAssembly"][2]
+    used, unused = ({one.type.base for name, function in header.functions.items() if (name in left_out) == is_left_out
+                     for one in function.arguments} for is_left_out in (False, True))
     ours = {struct[len("sdtool_"):] for struct in header.structs}
     found = {name: members for item, name, members in items_of(preload.TOP / WASM, ours.__contains__)
              if item["kind"] == "RecordDecl" and members}
     for struct, members in header.structs.items():
+        if struct in unused - used:
+            continue
         name = struct[len("sdtool_"):]
         right = [Member(one.name, narrow(one.type, set(found))) for one in members]
         count.add(found.get(name, members) == right, f"{WASM}: struct {name} is {shown(found.get(name, []))}")

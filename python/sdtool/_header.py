@@ -1,5 +1,5 @@
 # `make figures` writes this file from include/sdtool.h.
-from ctypes import POINTER, Structure, c_bool, c_char_p, c_size_t, c_uint8, c_uint16, c_uint32, c_void_p
+from ctypes import POINTER, Structure, c_bool, c_char_p, c_size_t, c_uint8, c_uint16, c_uint32, c_uint64, c_void_p
 from typing import Any, Sequence, Tuple
 
 # Those that are asked for.
@@ -93,6 +93,16 @@ class Bytes(Structure):
     _fields_ = [("bytes", c_char_p), ("size", c_size_t)]
 
 
+class Conversion(Structure):
+    _fields_ = [("data", Bytes), ("offsets", POINTER(c_uint32)), ("offset_count", c_size_t), ("domain", Bytes),
+                ("begin", c_size_t), ("kind", c_uint32), ("options", c_uint32)]
+
+
+class LargeConversion(Structure):
+    _fields_ = [("data", Bytes), ("offsets", POINTER(c_uint64)), ("offset_count", c_size_t), ("domain", Bytes),
+                ("begin", c_size_t), ("kind", c_uint32), ("options", c_uint32)]
+
+
 class Reason(Structure):
     _fields_ = [("kind", c_uint16), ("place", c_uint16)]
 
@@ -161,6 +171,9 @@ CALLS: Tuple[Tuple[str, Sequence[Any], Any], ...] = (
     ("guid_to_text", (*IN, *OUT), Outcome),
     ("check_many", (POINTER(Bytes), c_size_t, *IN, *IN, *IN, *IN, POINTER(Request), POINTER(Verdict),
                     c_size_t), Outcome),
+    ("convert_many", (POINTER(Conversion), *OUT, POINTER(c_uint32), c_size_t, POINTER(Outcome), c_size_t), Outcome),
+    ("convert_many_large", (POINTER(LargeConversion), *OUT, POINTER(c_uint64), c_size_t, POINTER(Outcome),
+                            c_size_t), Outcome),
     ("token_read", (*IN, *IN, POINTER(c_uint32), c_size_t), Outcome),
     ("check_with", (*IN, POINTER(c_uint32), c_size_t, *IN, *IN, POINTER(Request)), Verdict),
     ("reasons", (*IN, *IN, *IN, *IN, *IN, POINTER(Asker), POINTER(Reason)), Outcome),
