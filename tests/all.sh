@@ -200,7 +200,8 @@ if "${MAKE:-make}" --no-print-directory program; then
         start_lane dotnet_requests dotnet_loading dotnet_package script_requests
         start_lane audit audit_sources audit_directory audit_reports audit_stopping audit_reasons audit_inherited \
             audit_package
-        start_lane audit_forms hostile_lists audit_terminal audit_growth risk_rows abilities severities many_types
+        start_lane audit_forms hostile_lists audit_terminal audit_growth risk_rows abilities severities many_types \
+            collector directory_source
         start_lane distributed distributed_faults distributed_scale rust go
         start_lane page page_commands page_kinds page_questions page_verdicts page_units "risk_rows --page" lowering systems
     else
