@@ -125,6 +125,8 @@ namespace Sdtool
                 case Native.SDTOOL_ARGUMENT_ACE: return "ace";
                 case Native.SDTOOL_ARGUMENT_FLAGS: return "aceFlags";
                 case Native.SDTOOL_ARGUMENT_GUID: return "guid";
+                case Native.SDTOOL_ARGUMENT_OFFSETS: return "offsets";
+                case Native.SDTOOL_ARGUMENT_CONVERSION: return "conversion";
                 default: return null;
             }
         }
