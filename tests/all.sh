@@ -185,7 +185,7 @@ start_library
 count rt ci
 count tests/run run_rows --reference
 if "${MAKE:-make}" --no-print-directory program; then
-    # Nine lanes, none much longer than the others. What starts a browser or another system's programs is in one, so that
+    # Ten lanes, none much longer than the others. What starts a browser or another system's programs is in one, so that
     # no two of these wait for each other.
     start_lane compare
     start_lane run_rows "run_rows --one-byte" refused_allocations tables neighbours run_examples door_examples \
@@ -201,7 +201,8 @@ if "${MAKE:-make}" --no-print-directory program; then
         start_lane audit audit_sources audit_directory audit_reports audit_stopping audit_reasons audit_inherited \
             audit_package
         start_lane audit_forms hostile_lists audit_terminal audit_growth risk_rows abilities severities many_types \
-            collector directory_source
+            collector
+        start_lane live_clients live_shares directory_source
         start_lane distributed distributed_faults distributed_scale rust go
         start_lane page page_commands page_kinds page_questions page_verdicts page_units "risk_rows --page" lowering systems
     else

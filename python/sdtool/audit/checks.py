@@ -7,6 +7,7 @@ from sdtool.audit.findings import NO_MARK, Answer, Because, Mark, answer_of, unk
 from sdtool.audit.library import (ALLOWS, DENIES, INHERITED, MOST_SIDS, OTHERS, Ace, AnswersFault, Decided, Descriptor,
                                   Got, Reasons, Refusal, Token, granted, granted_by_each, layouts, mapped, text_of)
 from sdtool.audit.masks import MAPPINGS
+from sdtool.audit.shares import Limit
 from sdtool.audit.sources.items import BY_PATH, UNTOLD, WITHOUT_OWNER
 from sdtool.audit.windows import names as sids
 from sdtool.audit.windows import rights
@@ -70,8 +71,10 @@ class Checks:
     """Checks of many descriptors, asked together: a token that many need in one run, and the other tokens one by
     one."""
 
-    def __init__(self, form: str, texts: Sequence[str], kind: str, mask: int, domain: str) -> None:
+    def __init__(self, form: str, texts: Sequence[str], kind: str, mask: int, domain: str,
+                 limit: Optional[Limit] = None) -> None:
         self._form, self._texts, self._kind, self._mask, self._domain = form, texts, kind, mask, domain
+        self._limit = limit
         self._asked: Dict[Tuple[Token, str], Dict[int, Optional[int]]] = {}
         self._reasons = Reasons(form, texts, kind, domain)
         self._types: Dict[int, ObjectTypes] = {}
@@ -134,7 +137,11 @@ class Checks:
     def mask(self, at: int, token: Token, object_type: str = "") -> int:
         found = self._asked[token, object_type][at]
         assert found is not None
-        return found
+        return found & self._limit.mask(token) if self._limit else found
+
+    def taken(self, at: int, token: Token, mask: int) -> int:
+        """The rights of a mask that the object gives, and the share takes away by which it is reached."""
+        return (self._asked[token, ""][at] or 0) & mask & ~self._limit.mask(token) if self._limit else 0
 
     def got(self, at: int, token: Token, mask: int) -> Got:
         """What a token gets of some rights."""

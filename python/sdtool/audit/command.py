@@ -32,6 +32,7 @@ from sdtool.audit.reports.baseline import Baseline, read_report
 from sdtool.audit.reports.shown import say
 from sdtool.audit.sources.items import WITHOUT_OWNER
 from sdtool.audit.sources.opening import STANDARD_INPUT, OpeningFault
+from sdtool.audit.sources.places import through_of
 from sdtool.audit.store import cache
 from sdtool.audit.windows import names, rights
 from sdtool.audit.windows.names import Names
@@ -67,7 +68,7 @@ def cli() -> None:
     RIGHT is change, write, delete, permissions, owner, read, another word of 'sdtool-audit rights', a name of SDDL or a
     mask. SOURCE is a file, a folder, a file that --into made, or '-': CSV, JSON, XML, YAML, what Get-Acl, icacls,
     secedit, reg, sc, wevtutil, ldapsearch, smbcacls, samba-tool or getfattr wrote, or lines of SDDL, hex or base64, in
-    any encoding, compressed or not.
+    any encoding, compressed or not; or the address of a server: smb://SERVER/SHARE, reg://SERVER/HKLM, svc://SERVER.
 
     An object that can't be read is in every report as unknown, with the reason.
 
@@ -320,7 +321,7 @@ def _forest(common: Common, paths: Sequence[str], trust: names.Trust) -> Optiona
             continue
         items = inquiry.items_of(common, [path], Bar([path], False), True)
         first = next((item for item in items if item.form and item.kind not in rights.RULE_OF), None)
-        if first is not None and first.place not in ("", WITHOUT_OWNER):
+        if first is not None and through_of(first.place)[0] not in ("", WITHOUT_OWNER):
             found = found or forest.Forest(common.context.domain, trust, common.machines or Machines())
             found.read(inquiry.items_of(common, [path], Bar([path], False), True))
     return found

@@ -10,6 +10,7 @@ from sdtool.audit.findings import Answer, unread
 from sdtool.audit.library import AnswersFault
 from sdtool.audit.protocols import Question
 from sdtool.audit.sources.items import UNREADABLE, WITHOUT_OWNER, Item
+from sdtool.audit.sources.places import SHARE
 
 CHUNK = 4_000          # objects that are answered together
 _AHEAD = 3             # chunks under way for each worker
@@ -46,7 +47,8 @@ def answer_groups(question: Question, groups: Dict[Tuple[str, str], List[str]]) 
     return found
 
 
-# What a question asks of the places of objects: nothing, whether their sources have owners, or all.
+# What a question asks of the places of objects: nothing, whether their sources have owners and of which share they are,
+# or all.
 NO_PLACES, OWNERS, ALL_PLACES = "", "owners", "all"
 
 
@@ -55,7 +57,7 @@ def _keys(items: List[Item], asks: str) -> List[Key]:
     if not asks or not any(item.place for item in items):
         return [(item[3], item[5], item[4]) for item in items]
     return [(item[3], item[5] + _PLACE + item.place if item.place
-             and (asks == ALL_PLACES or item.place == WITHOUT_OWNER)
+             and (asks == ALL_PLACES or item.place == WITHOUT_OWNER or item.place.startswith(SHARE))
              else item[5], item[4]) for item in items]
 
 

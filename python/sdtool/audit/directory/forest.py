@@ -15,7 +15,7 @@ from sdtool.audit.live.directory import ENTRY, NAME
 from sdtool.audit.sources import ldif
 from sdtool.audit.sources.items import UNREADABLE, WITHOUT_OWNER, Item
 from sdtool.audit.sources.opening import OpeningFault
-from sdtool.audit.sources.places import Place, place_of
+from sdtool.audit.sources.places import Place, place_of, through_of
 from sdtool.audit.sources.reading import is_database
 from sdtool.audit.sources.samba import Unknown
 from sdtool.audit.store import cache
@@ -73,7 +73,7 @@ class Forest:
         for batch in _batches(items):
             for item, found in zip(batch, _explained(batch, self._domain)):
                 yield (item._replace(place=self._place(item, found).text())
-                       if item.place not in ("", WITHOUT_OWNER) else item)
+                       if through_of(item.place)[0] not in ("", WITHOUT_OWNER) else item)
 
     def _place(self, item: Item, found: Optional[Descriptor]) -> Place:
         name, place = item.name.casefold(), place_of(item.place)

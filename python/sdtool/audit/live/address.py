@@ -11,6 +11,10 @@ _HELP = ("an address is smb://SERVER/SHARE/FOLDER, ldap://SERVER/BASE??scope?fil
          "reg://SERVER/HKLM/KEY or svc://SERVER")
 
 
+_HIVES = {"hklm": "HKLM", "hkey_local_machine": "HKLM", "hku": "HKU", "hkey_users": "HKU", "hkcr": "HKCR",
+          "hkey_classes_root": "HKCR", "hkcc": "HKCC", "hkey_current_config": "HKCC"}
+
+
 class Address(NamedTuple):
     """Where something is asked: path is behind the server's name, query behind the first '?' of a directory."""
 
@@ -49,6 +53,15 @@ def address_of(word: str) -> Address:
     address = Address(scheme, server.strip("[]"), path, query, word)
     if re.search("[\0-\x1f\x7f]", path) or {".", ".."} & set(address.parts) and not scheme.startswith("ldap"):
         raise OpeningFault(f"{word!r}: a part of the path is no name")
+    if scheme == "reg" and address.parts:
+        hive_of(address.parts[0])
     if scheme == "svc" and address.parts:
         raise OpeningFault(f"{word}: nothing is behind the server's name; {_HELP}")
     return address
+
+
+def hive_of(word: str) -> str:
+    """The short name of a hive of the registry."""
+    if word.lower() not in _HIVES:
+        raise OpeningFault(f"{word!r} is no hive of a registry: these are {', '.join(sorted(set(_HIVES.values())))}")
+    return _HIVES[word.lower()]

@@ -9,11 +9,15 @@ import struct
 import sys
 import threading
 import time
-from typing import Any, List, NamedTuple, Tuple
+from typing import Any, Callable, Iterator, List, NamedTuple, Tuple
 
 _ALIVE = 1.0  # seconds between two looks at what has come
 _BYTES_RECEIVED = 128  # where TCP_INFO has it
 _PORTS = {"ldap": 389, "ldaps": 636}
+
+
+READ_CONTROL = 0x20000
+_WITHOUT_SACL, _WITH_SACL = (7, READ_CONTROL), (15, READ_CONTROL | 0x01000000)
 
 
 class Refusal(Exception):
@@ -41,6 +45,11 @@ class Login(NamedTuple):
     sacl: bool
     backup: bool
     ca: str
+
+    @property
+    def wanted(self) -> Tuple[int, int]:
+        """Which parts of descriptors are asked for, and the rights that this takes."""
+        return _WITH_SACL if self.sacl else _WITHOUT_SACL
 
     def loadparm(self) -> Any:
         """The machine's smb.conf, which can't switch signing off."""
@@ -93,6 +102,39 @@ def pace(login: Login) -> None:
         _next_request = max(_next_request, now)
         time.sleep(_next_request - now)
         _next_request += 1 / login.requests
+
+
+_MOST_BYTES = 1 << 22
+
+
+def rpc(login: Login, interface: Any) -> Any:
+    """A pipe of a server to one of its services. The packets are signed, and so is what carries them."""
+    found = interface(f"ncacn_np:{login.server}[sign]", login.loadparm(), login.credentials())
+    found.request_timeout = max(1, int(login.timeout))
+    return found
+
+
+def growing(ask: Callable[[int], Any], size: int, too_small: Tuple[int, ...]) -> Any:
+    """The answer to a call that takes a size, which grows until it suffices."""
+    while True:
+        try:
+            return ask(size)
+        except Exception as error:
+            if fault_of(error)[0] not in too_small or size >= _MOST_BYTES:
+                raise
+            size *= 4
+
+
+def each_descriptor(paths: List[str], ask: Callable[[str], bytes]) -> Iterator[Any]:
+    """The descriptor of each path in hex, or a number and words."""
+    for path in paths:
+        try:
+            yield ask(path).hex()
+        except Exception as error:
+            code, reason = fault_of(error)
+            if is_of_transport(code):
+                raise
+            yield [code, reason]
 
 
 class _Voice:
@@ -149,6 +191,7 @@ def serve() -> None:
     threading.Thread(target=_say_alive, args=(voice,), daemon=True).start()
     try:
         module = importlib.import_module(f"sdtool.audit.live.{login.kind}_client")
+        voice.say("begun")
         session = module.opened(login)
     except Exception as error:
         voice.say("closed", *why_closed(login, error))
@@ -182,49 +225,47 @@ def _plain(words: str) -> str:
     return " ".join(words.split())[:300]
 
 
-# Numbers of NTSTATUS that say something of the connection, and nothing of what was asked.
-_TRANSPORT = ("CONNECTION_RESET", "CONNECTION_DISCONNECTED", "CONNECTION_ABORTED", "CONNECTION_INVALID", "IO_TIMEOUT",
-              "PIPE_BROKEN", "PIPE_DISCONNECTED", "NETWORK_NAME_DELETED", "USER_SESSION_DELETED",
-              "VIRTUAL_CIRCUIT_CLOSED", "INVALID_NETWORK_RESPONSE", "INVALID_CONNECTION", "NETWORK_UNREACHABLE",
-              "HOST_UNREACHABLE", "LOCAL_DISCONNECT", "REMOTE_DISCONNECT", "NETWORK_SESSION_EXPIRED",
-              "RPC_PROTOCOL_ERROR", "RPC_CONNECTION_ABORTED", "NO_MEMORY", "INSUFFICIENT_RESOURCES", "INVALID_HANDLE")
-_LOGGED_IN = ("LOGON_FAILURE", "WRONG_PASSWORD", "NO_SUCH_USER", "ACCOUNT_DISABLED", "ACCOUNT_LOCKED_OUT",
-              "ACCOUNT_EXPIRED", "ACCOUNT_RESTRICTION", "PASSWORD_EXPIRED", "PASSWORD_MUST_CHANGE",
-              "LOGON_TYPE_NOT_GRANTED", "INVALID_WORKSTATION", "INVALID_LOGON_HOURS", "TRUSTED_RELATIONSHIP_FAILURE",
-              "NTLM_BLOCKED")
-_NO_TICKET = ("NO_LOGON_SERVERS", "CANT_ACCESS_DOMAIN_INFO", "DOMAIN_CONTROLLER_NOT_FOUND", "INVALID_ACCOUNT_NAME",
-              "INVALID_PARAMETER", "KDC_UNABLE_TO_REFER", "UNSUCCESSFUL", "ACCESS_DENIED", "NO_SUCH_DOMAIN")
-
-
-def _numbers(names: Tuple[str, ...]) -> List[int]:
-    from samba import ntstatus
-    return [getattr(ntstatus, f"NT_STATUS_{name}") for name in names if hasattr(ntstatus, f"NT_STATUS_{name}")]
+# Numbers of NTSTATUS, by MS-ERREF 2.3.1. Those that say something of the connection, or of the memory of either side,
+# and nothing of what was asked:
+_TRANSPORT = frozenset((
+    0xc000020d, 0xc000020c, 0xc0000241, 0xc000023a, 0xc00000b5, 0xc000014b, 0xc00000b0, 0xc00000c9, 0xc0000203,
+    0xc00000d6, 0xc00000c3, 0xc0000140, 0xc000023c, 0xc000023d, 0xc000013b, 0xc000013c, 0xc000035c, 0xc002001d,
+    0xc0000017, 0xc000009a, 0xc0000008))
+# those of an account or a password that may not log in, of a ticket that isn't there, and of a path that isn't:
+_LOGGED_IN = frozenset((
+    0xc000006d, 0xc000006a, 0xc0000064, 0xc0000072, 0xc0000234, 0xc0000193, 0xc000006e, 0xc0000071, 0xc0000224,
+    0xc000015b, 0xc0000070, 0xc000006f, 0xc000018d, 0xc0000418))
+_NO_TICKET = frozenset((
+    0xc000005e, 0xc00000da, 0xc0000233, 0xc0000062, 0xc000000d, 0xc00002fc, 0xc0000001, 0xc0000022, 0xc00000df))
+_NO_PATH = frozenset((
+    0xc0000034, 0xc000003a, 0xc0000033, 0xc0000103, 0xc000003b))
+_OTHER_TIME, _NO_SHARE, _DENIED = 0xc0000133, 0xc00000cc, 0xc0000022
+_NO_KEY = (2, 3)  # of Windows
 
 
 def is_of_transport(code: int) -> bool:
     """Whether a fault is one of the connection."""
-    return code in _numbers(_TRANSPORT)
+    return code in _TRANSPORT
 
 
 def why_closed(login: Login, error: Exception) -> Tuple[str, str, bool]:
     """Why nothing can be asked, what would help, and whether it may pass."""
     code, words = fault_of(error)
-    if code in _numbers(_LOGGED_IN):
+    if code in _LOGGED_IN:
         return words, "check the name and the password, or take a ticket with kinit", False
-    if code in _numbers(("TIME_DIFFERENCE_AT_DC",)) or "clock" in words.lower() or "skew" in words.lower():
+    if code == _OTHER_TIME or "clock" in words.lower() or "skew" in words.lower():
         return words, "set the clock of this machine", False
-    if code in _numbers(("BAD_NETWORK_NAME",)):
+    if code == _NO_SHARE:
         return words, f"check the name of the share; smb://{login.server} asks for all shares", False
-    if code in _numbers(("OBJECT_NAME_NOT_FOUND", "OBJECT_PATH_NOT_FOUND", "OBJECT_NAME_INVALID", "NOT_A_DIRECTORY",
-                         "OBJECT_PATH_SYNTAX_BAD")):
-        return words, "check the path behind the share's name", False
+    if code in _NO_PATH or login.scheme == "reg" and code in _NO_KEY:
+        return words, f"check the path {login.path}", False
     why = _why_not_reached(login)
     if why:
         return why, "check the name of the server, and that this machine reaches it", True
-    if not login.password and code in _numbers(_NO_TICKET):
+    if not login.password and code in _NO_TICKET:
         return words, ("without --user or --credentials a ticket of Kerberos says who asks: kinit takes one, and the "
                        "server has to be named by its full name, not by a number"), False
-    if code in _numbers(("ACCESS_DENIED",)):
+    if code == _DENIED:
         return words, "ask as a user who may, with --user or --credentials", False
     return words, "check the server, the name of the user, and the password", is_of_transport(code)
 

@@ -5,6 +5,8 @@ from typing import Any, Callable, Dict, Iterator, NamedTuple, Optional, Protocol
 from sdtool.audit.live.access import Access
 from sdtool.audit.live.address import Address, address_of
 from sdtool.audit.live.directory import DirectorySource
+from sdtool.audit.live.registry import RegistrySource
+from sdtool.audit.live.services import ServicesSource
 from sdtool.audit.live.smb import SmbSource
 from sdtool.audit.live.talking import Client, Fact, Lost, NeverOpened
 from sdtool.audit.sources.items import Item, unreadable
@@ -38,7 +40,7 @@ class Source(Protocol):
 
 
 SOURCES: Dict[str, Callable[[Address, Access, Callable[[str], bool]], Source]] = {
-    "smb": SmbSource, "ldap": DirectorySource, "ldaps": DirectorySource}
+    "smb": SmbSource, "reg": RegistrySource, "svc": ServicesSource, "ldap": DirectorySource, "ldaps": DirectorySource}
 
 
 class Reading:
@@ -92,7 +94,7 @@ class Reading:
                         return
                     lost = self._source.skipped() if self._losses == _MOST_LOSSES - 1 else None
                     if lost is not None:
-                        yield lost
+                        yield lost._replace(text=f"{lost.text}: {error}")
                     self._pause()
         finally:
             self.close()

@@ -1,5 +1,6 @@
 """What a client does that asks about files and shares. Nothing is opened but to read permissions, and nothing that a
 reparse point leads to."""
+import contextlib
 from typing import Any, Callable, Dict, Iterator, List
 
 from samba import NTSTATUSError
@@ -7,10 +8,9 @@ from samba.dcerpc import srvsvc
 from samba.ndr import ndr_pack
 from samba.samba3 import libsmb_samba_internal as libsmb
 
-from sdtool.audit.live.client import Login, Refusal, fault_of, is_of_transport, pace
+from sdtool.audit.live.client import Login, Refusal, each_descriptor, fault_of, pace, rpc
 
-_READ_ATTRIBUTES, _READ_CONTROL, _SYSTEM_SECURITY = 0x80, 0x20000, 0x01000000
-_OWNER_GROUP_DACL, _SACL = 7, 8
+_READ_ATTRIBUTES = 0x80
 _EVERY_SHARING, _OPEN = 7, 1
 _IS_FOLDER, _BACKUP_INTENT, _REPARSE_POINT = 0x1, 0x4000, 0x200000  # how something is opened
 _NO_FOLDER = 0xc0000103  # of NTSTATUS
@@ -18,6 +18,7 @@ _OBJECT_TYPE, _INHERITED_TYPE = 1, 2
 _OBJECT_ACES = (5, 6, 7, 8, 11, 12, 15, 16)
 _MOST_ENTRIES = 500  # in one answer
 _TYPE_OF_SHARE = 0xffff
+_UNIX = 0x800  # of what a server says that it is
 
 
 class Session:
@@ -26,7 +27,7 @@ class Session:
     def __init__(self, login: Login) -> None:
         self.login = login
         self._credentials = login.credentials()
-        self._files, self._rpc = login.loadparm_of_files(), login.loadparm()
+        self._files = login.loadparm_of_files()
         self._shares: Dict[str, Any] = {}
         self._service: Any = None
 
@@ -36,16 +37,27 @@ class Session:
             self._shares.pop(name, None)
             pace(self.login)
             found = libsmb.Conn(self.login.server, name, lp=self._files, creds=self._credentials)
-            found.settimeout(max(1, int(self.login.timeout * 1000)))
+            found.settimeout(int(self.login.timeout * 900))  # so that it can say itself that there was no answer
             self._shares[name] = found
         return self._shares[name]
 
     def service(self) -> Any:
         """The service that knows of shares."""
         if self._service is None:
-            self._service = srvsvc.srvsvc(f"ncacn_np:{self.login.server}[sign]", self._rpc, self._credentials)
+            self._service = rpc(self.login, srvsvc.srvsvc)
         pace(self.login)
         return self._service
+
+
+@contextlib.contextmanager
+def sure(connection: Any) -> Iterator[None]:
+    """A fault that is met here is the server's answer: behind one of the connection nothing is answered any more. Where
+    a packet's signature is wrong, Samba says access denied."""
+    try:
+        yield
+    except NTSTATUSError:
+        connection.echo()
+        raise
 
 
 def opened(login: Login) -> Session:
@@ -78,12 +90,13 @@ def shares(session: Session) -> Iterator[List[Any]]:
         yield [str(one.name), int(one.type) & _TYPE_OF_SHARE]
 
 
-def share_descriptor(session: Session, share: str) -> Iterator[str]:
-    """The descriptor of a share."""
+def share_descriptor(session: Session, share: str) -> Iterator[List[Any]]:
+    """The descriptor of a share, and whether the server is one of Samba."""
     found = session.service().NetShareGetInfo(f"\\\\{session.login.server}", share, 502)
     if found.sd_buf.sd is None:
         raise Refusal(0, "the server answers without the share's descriptor, as it does who isn't an administrator")
-    yield _bytes(found.sd_buf.sd).hex()
+    kind = session.service().NetSrvGetInfo(f"\\\\{session.login.server}", 101).server_type
+    yield [_bytes(found.sd_buf.sd).hex(), bool(kind & _UNIX)]
 
 
 def is_folder(session: Session, share: str, path: str) -> Iterator[bool]:
@@ -102,9 +115,13 @@ def entries(session: Session, share: str, path: str) -> Iterator[List[Any]]:
     """What is in a folder: names, each with its attributes. An empty list is asked for again by another connection,
     since behind a damaged answer it means nothing."""
     pace(session.login)
-    found = session.share(share).list(path, "*", libsmb.FILE_ATTRIBUTE_ALL_MASK)
-    if not found:
-        found = session.share(share, True).list(path, "*", libsmb.FILE_ATTRIBUTE_ALL_MASK)
+    found: List[Dict[str, Any]] = []
+    for is_new in (False, True):
+        connection = session.share(share, is_new)
+        with sure(connection):
+            found = found or connection.list(path, "*", libsmb.FILE_ATTRIBUTE_ALL_MASK)
+        if found:
+            break
     found.reverse()
     while found:
         part = [found.pop() for _ in range(min(len(found), _MOST_ENTRIES))]
@@ -113,25 +130,19 @@ def entries(session: Session, share: str, path: str) -> Iterator[List[Any]]:
 
 def descriptors(session: Session, share: str, paths: List[str]) -> Iterator[Any]:
     """The descriptor of each path, or a number and words."""
-    for path in paths:
-        try:
-            yield _descriptor(session, session.share(share), path)
-        except Exception as error:
-            code, words = fault_of(error)
-            if is_of_transport(code):
-                raise
-            yield [code, words]
+    asked, mask = session.login.wanted
 
+    def descriptor(path: str) -> bytes:
+        connection = session.share(share)
+        with sure(connection):
+            handle = _handle(session, connection, path, mask)
+            try:
+                found = connection.get_sd(handle, asked)
+            finally:
+                connection.close(handle)
+        return _bytes(found)
 
-def _descriptor(session: Session, share: Any, path: str) -> str:
-    asked, mask = _OWNER_GROUP_DACL, _READ_CONTROL
-    if session.login.sacl:
-        asked, mask = asked | _SACL, mask | _SYSTEM_SECURITY
-    handle = _handle(session, share, path, mask)
-    try:
-        return _bytes(share.get_sd(handle, asked)).hex()
-    finally:
-        share.close(handle)
+    return each_descriptor(paths, descriptor)
 
 
 def _bytes(found: Any) -> bytes:

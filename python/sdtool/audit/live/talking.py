@@ -20,6 +20,7 @@ _BEGIN = ("import json, sys; sys.path[:] = json.loads(sys.stdin.readline()); "
           "from sdtool.audit.live.client import serve; serve()")
 _MOST_LINE = 1 << 24  # bytes of an answer
 _CHUNK = 1 << 16
+_PATIENCE = 600.0  # seconds in which a process begins, on a machine with other work
 # What a client calls by itself, which the surroundings would change.
 _ITS_OWN = ("USER", "LOGNAME", "PASSWD", "PASSWD_FD", "PASSWD_FILE")
 _Value = TypeVar("_Value")
@@ -88,7 +89,9 @@ class Client:
             assert who is not None
             self._send([kind, *address, *who[:2], who.password.reveal(), access.timeout, access.requests or 0,
                         access.sacl, access.backup, access.ca or ""])
-            tag, *told = self._answer()
+            tag, *told = self._answer(_PATIENCE)
+            if tag == "begun":
+                tag, *told = self._answer()
             if tag == "closed" and len(told) == 3:
                 raise NeverOpened(value_of(str, told[0]), value_of(str, told[1]), bool(told[2]))
             if tag != "open":
@@ -141,10 +144,10 @@ class Client:
             except OSError:
                 self._ended()
 
-    def _answer(self) -> List[Any]:
+    def _answer(self, patience: float = 0) -> List[Any]:
         """The next line that isn't only a sign of life."""
         while True:
-            line = self._line()
+            line = self._line(patience or self._timeout)
             try:
                 found = json.loads(line)
             except ValueError:
@@ -154,10 +157,10 @@ class Client:
             if found != ["alive"]:
                 return found
 
-    def _line(self) -> bytes:
+    def _line(self, patience: float) -> bytes:
         parts: List[bytes] = []
         size = 0
-        end = time.monotonic() + self._timeout
+        end = time.monotonic() + patience
         while b"\n" not in self._held:
             parts.append(self._held)
             size += len(self._held)
@@ -175,7 +178,7 @@ class Client:
         poll = select.poll()
         poll.register(number, event)
         if not poll.poll(max(0.0, end - time.monotonic()) * 1000):
-            raise Lost(f"the server gave no answer in {self._timeout:g} seconds")
+            raise Lost(f"there was no answer in {self._timeout:g} seconds")
 
     def _ended(self) -> NoReturn:
         self._process.wait()

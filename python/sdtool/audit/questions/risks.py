@@ -14,6 +14,7 @@ from sdtool.audit.library import (ALLOWS, CONTAINER_INHERIT, DENIES, INHERIT_ONL
                                   mapped_below, spelled)
 from sdtool.audit.masks import WITHOUT_MAPPING
 from sdtool.audit.protocols import Context
+from sdtool.audit.shares import Limit, Limits
 from sdtool.audit.sources.places import Place, known_place
 from sdtool.audit.windows import names as sids
 from sdtool.audit.windows import rights
@@ -112,11 +113,11 @@ def _kept(right: int, types: Sequence[str]) -> bool:
 class _Views:
     """The descriptors of one call: as they are, or changed."""
 
-    def __init__(self, form: str, texts: Sequence[str], kind: str, domain: str) -> None:
+    def __init__(self, form: str, texts: Sequence[str], kind: str, domain: str, limit: Limit) -> None:
         mask = rights.EVERYTHING[kind]
-        self._plain = Checks(form, texts, kind, mask, domain)
+        self._plain = Checks(form, texts, kind, mask, domain, limit)
         self._texts: List[str] = []
-        self._changed = Checks("sddl", self._texts, kind, mask, "")
+        self._changed = Checks("sddl", self._texts, kind, mask, "", limit)
 
     def plain(self, at: int, aces: Sequence[Ace]) -> _View:
         """A descriptor with the ACEs that decide about it."""
@@ -185,12 +186,17 @@ class Risks:
         self._most_slight = ORDER.index(options.severity)
         self._defaults = Defaults(options.trust, options.accounts, options.of_classes)
         self._abilities = Abilities(self._on, options.trust, options.named_types)
+        self._limits = Limits(context.domain, self._is_asked_about)
         self._known: Dict[Tuple[str, str], _Wanted] = {}
+
+    def _is_asked_about(self, sid: str) -> bool:
+        return not self._options.trust.has(sid)
 
     def answer(self, form: str, kind: str, texts: Sequence[str], place: str = "") -> List[Answer]:
         descriptors = explained(form, texts, self._context.domain)
         answers: List[Optional[Answer]] = [None] * len(texts)
-        views = _Views(form, texts, kind, self._context.domain)
+        place, limit = self._limits.of(place)
+        views = _Views(form, texts, kind, self._context.domain, limit)
         where = known_place(place, kind)
         cases: Dict[int, List[_Case]] = {}
         for at, descriptor in enumerate(descriptors):
@@ -209,7 +215,7 @@ class Risks:
             descriptor = descriptors[at]
             assert isinstance(descriptor, Descriptor)
             answers[at] = next(filter(None, map(_too_many, of_object)), None) or \
-                self._answer(self._found(of_object, descriptor, kind), descriptor, kind)
+                self._answer(self._through(limit, self._found(of_object, descriptor, kind), kind), descriptor, kind)
         return complete(answers)
 
     def _places(self, descriptor: Descriptor, kind: str, place: Place) -> Iterable[Tuple[Place, Sequence[Group]]]:
@@ -230,6 +236,19 @@ class Risks:
             return self._findings(cases[0], descriptor, kind, here(cases[0].place))
         return of_any((group, self._findings(case, descriptor, kind, as_one_of(group, case.place)))
                       for case in cases for group in case.groups)
+
+    def _through(self, limit: Limit, findings: Iterable[Finding], kind: str) -> Iterator[Finding]:
+        """Findings with what is said of the share. Without a DACL its own permissions alone say who gets what."""
+        for one in findings:
+            token = trustee_token(one.sid)
+            if one.rule in _WITHOUT_DACL and limit.name:
+                mask = rights.FULL[kind] & limit.mask(token)
+                words = rights.short_text(mask, kind)
+                one = one._replace(rights=words, mask=mask, because=(Because(0, NO_DACL, words),))
+                if not mask:
+                    continue
+            said = limit.said(token, one.mask, self._context.names.named) if one.sid else ""
+            yield one._replace(text=_joined(one.text, said)) if said else one
 
     def _answer(self, findings: Iterable[Finding], descriptor: Descriptor, kind: str) -> Answer:
         """The answer of findings, each with its ACEs. Those that are too slight are left out."""
@@ -364,7 +383,7 @@ class Risks:
         # left.
         if descriptor.dacl != "list":
             everything = rights.short_text(rights.FULL[kind], kind)
-            yield from self._of("no-dacl" if descriptor.dacl == "absent" else "null-dacl", sids.EVERYONE, everything,
+            yield from self._of(_WITHOUT_DACL[descriptor.dacl != "absent"], sids.EVERYONE, everything,
                                 because=(Because(0, NO_DACL, everything),))
         else:
             if not descriptor.aces:
@@ -525,6 +544,7 @@ class Risks:
 
 
 _OWNER, _GIVEN = "foreign-owner", "given-by-windows"
+_WITHOUT_DACL = ("no-dacl", "null-dacl")
 
 
 def severity_of(rule: str, kind: str, sid: str) -> str:

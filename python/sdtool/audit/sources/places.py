@@ -1,4 +1,5 @@
 """What a source says of the place of a directory object, and the text of it that an object carries."""
+import re
 from typing import NamedTuple, Tuple
 
 from sdtool._windows import DEFAULTS, PROTECTING
@@ -6,7 +7,7 @@ from sdtool.audit.sources.items import WITHOUT_OWNER
 
 _PART = "\1"  # between the parts of a place; no name of a class has it
 _ABOVE = "\2"  # before what is above an object
-_SHARE = "\3"  # before what the share of an object is
+SHARE = "\3"  # before what the share of an object is
 _PROTECTING, _PROTECTED = PROTECTING
 
 
@@ -58,15 +59,16 @@ class Through(NamedTuple):
     name: str = ""
     form: str = ""
     told: str = ""  # the descriptor, or the reason
+    samba: str = ""  # whether the server is one of Samba
 
     def text(self) -> str:
         """The text of the place of an object of the share."""
-        return _SHARE.join(["", *(one.replace(_SHARE, " ").replace(_ABOVE, " ") for one in self)])
+        return SHARE.join(["", *(re.sub("[\1-\3\ud800-\udfff]", " ", one) for one in self)])
 
 
 def through_of(text: str) -> Tuple[str, Through]:
     """The text of a place without its share, and that."""
-    place, *parts = text.split(_SHARE)
+    place, *parts = text.split(SHARE)
     return place, Through(*parts)
 
 

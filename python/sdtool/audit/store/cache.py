@@ -140,6 +140,7 @@ class Asking(_Writer):
         query("UPDATE asking SET reason = NULL")
         self._sources = {restored(name): number for number, name in query("SELECT id, name FROM sources")}
         self._objects, = query("SELECT count(*) FROM objects").fetchone()
+        self._before, = query("SELECT coalesce(max(id), 0) FROM objects").fetchone()
         self._descriptors, = query("SELECT coalesce(max(id), 0) FROM descriptors").fetchone()
 
     def waiting(self) -> List[str]:
@@ -148,9 +149,10 @@ class Asking(_Writer):
                 self._database.execute("SELECT source FROM asking WHERE NOT is_whole ORDER BY id").fetchall()]
 
     def has(self, source: str, name: str) -> bool:
-        """Whether an object is there already."""
-        return self._database.execute("SELECT 1 FROM objects WHERE name = ? AND source = ?",
-                                      (stored(name), self._source(source))).fetchone() is not None
+        """Whether an earlier run has read an object."""
+        return bool(self._before) and self._database.execute(
+            "SELECT 1 FROM objects WHERE name = ? AND source = ? AND id <= ?",
+            (stored(name), self._source(source), self._before)).fetchone() is not None
 
     def add_fact(self, source: str, kind: str, key: str, value: str) -> None:
         self._database.execute("INSERT INTO facts VALUES (?, ?, ?, ?)",
