@@ -6,7 +6,7 @@
  * nothing that they allocate is left when they return. Do not call them from a signal handler. A process that a thread
  * forked may call them if it may call malloc, as with glibc.
  *
- * sdtool_run needs at most 56 KiB of stack, each other call at most 12 KiB, whatever its input is.
+ * sdtool_run needs at most 56 KiB of stack, each other call at most 14 KiB, whatever its input is.
  *
  * How this header grows: the shared library's name has a number, libsdtool.so.0. Under one number no struct and no
  * function of this header changes, no number gets another meaning, and none is taken away; a version that needs such a
