@@ -5,8 +5,8 @@ Puts the page together: one file, PAGE, of web/page.html, web/page.css, the ES m
 that of the library, and the file MODULE (sdtool.wasm), compressed and in base64. Debian's esbuild bundles and minifies
 the modules. The script is no module, since browsers refuse modules in workers of a page from a disk; so it has no
 import.meta. What the page never calls of the module is left out by binaryen's wasm-metadce. Then binaryen's wasm-opt
-keeps one of functions that are alike, joins blocks, writes shorter instructions, lets functions share locals, and takes
-out what sets a local or branches in vain. The page's policy allows this script and this style alone, by their hashes.
+keeps one of functions that are alike, joins blocks, lets functions share locals, and takes out what sets a local or
+branches in vain. The page's policy allows this script and this style alone, by their hashes.
 """
 import argparse
 import base64
@@ -78,7 +78,7 @@ def reduced(module):
         words = ["wasm-metadce", *FEATURES, "module.wasm", "--graph-file=graph.json", "-o", "reduced.wasm"]
         subprocess.run(words, cwd=folder, check=True, stdout=subprocess.DEVNULL)
         passes = ["--duplicate-function-elimination", "--remove-unused-brs", "--merge-blocks"]
-        passes += ["--optimize-instructions", "--rse", "--vacuum", "--coalesce-locals", "--reorder-locals"]
+        passes += ["--rse", "--vacuum", "--coalesce-locals", "--reorder-locals"]
         words = ["wasm-opt", *FEATURES, *passes, "reduced.wasm", "-o", "packed.wasm"]
         subprocess.run(words, cwd=folder, check=True)
         return (folder / "packed.wasm").read_bytes()
