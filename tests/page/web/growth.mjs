@@ -9,7 +9,6 @@ import {existsSync, readSync} from "node:fs";
 import {getPriority} from "node:os";
 
 import {questionOf} from "../../../web/desk.mjs";
-import {markdownOf} from "../../../web/markdown.mjs";
 import {freshState} from "../../../web/state.mjs";
 import {REPORT} from "../../../web/windows.mjs";
 import {PIECES} from "./hostile.mjs";
@@ -31,18 +30,6 @@ const MOST_FOR_EACH = 2.6;
 const DOUBLINGS = 4;
 const TRIES = 5; // of which the shortest time counts
 const ENCODER = new TextEncoder();
-const GRANT = {
-    kind: "A",
-    flags: [],
-    mask: 0x10,
-    sid: "WD",
-    object: null,
-    inherited: null
-};
-const STEPS = [
-    {does: "put", list: "dacl", ace: GRANT}, {does: "sort", list: "dacl"}, {does: "take", list: "dacl", numbers: [1]},
-    {does: "stop", list: "dacl", keeps: true}
-];
 const itemsOf = (text) => text.split(",");
 const stateOf = (text) => ({...freshState(), text, kind: "ds", isKindChosen: true});
 
@@ -62,12 +49,6 @@ function readersOf(library) {
         "a comparison": (text) =>
             questionOf(library, "compare", {state: stateOf(text), other: {text: "D:", form: "auto"}}),
         "a new object": (text) => questionOf(library, "inherit", {state: stateOf(text), made: freshState().made}),
-        "an edit": (text) =>
-            questionOf(library, "edit", {state: stateOf(text), now: null, origins: null, steps: STEPS}),
-        "a view as Markdown": (text) => {
-            const result = questionOf(library, "look", stateOf(text));
-            return result.judged && markdownOf(result, {kind: "ds", names: new Map(), isCommon: true});
-        },
     };
     const read = (call) => (text) => {
         try {
