@@ -202,7 +202,8 @@ if "${MAKE:-make}" --no-print-directory program; then
             audit_package
         start_lane audit_forms hostile_lists audit_terminal audit_growth risk_rows abilities severities many_types \
             collector
-        start_lane live_clients live_shares directory_source
+        start_lane live_clients live_shares directory_source "live_directory --only test_whole --only test_export \
+            --only test_truth --only test_tokens --only test_refused --only test_sealed --only test_sacl"
         start_lane distributed distributed_faults distributed_scale rust go
         start_lane page page_commands page_kinds page_questions page_verdicts page_units "risk_rows --page" lowering systems
     else
