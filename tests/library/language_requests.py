@@ -18,6 +18,7 @@ import c_objects
 import compare
 import preload
 from reference.editing import BY_ORDER, END, NOT_ASKED, Match
+from reference.parts import LABEL_TYPE
 
 # The package itself would open the library, and fail without one.
 of_header = importlib.util.spec_from_file_location("sdtool_header", preload.TOP / "python/sdtool/_header.py")
@@ -33,6 +34,7 @@ MOST_OF_C = 1.3    # times that a check may take, and an empty call
 TIMED = ("01000480140000002400000000000000300000000102000000000005200000002002000001010000000000051200000002001c00"
          "0100000000001400ff011f00010100000000000100000000", "010100000000000100000000")
 MAPPINGS, KINDS, MOST_SIDS = 3, 2, 1_024
+LEVELS = (4096, 8192, 12288, 16384)
 MANY_CHANGES = (16_384, 16_385)  # as many as there may be, and one more
 MANY_DESCRIPTORS = (1_024, 1_025, 2_048)  # as languages give to one call, and more
 OPTIONS = (header.HAS_LEVEL, header.SECURITY, header.TAKE_OWNERSHIP)
@@ -159,6 +161,15 @@ def verdict_of(verdict):
     return f"{verdict.granted} {verdict.mask}"
 
 
+def labelled(chance):
+    """A descriptor with a label behind other ACEs."""
+    found = c_edits.random_descriptor(chance)
+    label = c_edits.Ace(LABEL_TYPE, chance.choice((0, 0, 3, 8)), chance.choice((1, 2, 4, 7)), None, None,
+                        c_edits.Sid(16, (chance.choice(LEVELS),)))
+    others = found.sacl.aces[:2] if found.sacl else ()
+    return found._replace(sacl=c_edits.Acl((*others, label)), control=found.control | 0x10)
+
+
 class Inputs:
     """Descriptors, texts and SIDs, of which many are nearly right."""
 
@@ -167,6 +178,7 @@ class Inputs:
         self.chance = chance
         self.descriptors = [chance.choice(maker.kinds)().data for _ in range(300)]
         self.descriptors += [c_edits.binary.layout(c_edits.random_descriptor(chance)) for _ in range(300)]
+        self.descriptors += [c_edits.binary.layout(labelled(chance)) for _ in range(150)]
         self.descriptors += [bytes.fromhex(c_library.change_bytes(one.hex(), chance))
                              for one in chance.sample(self.descriptors, 200) if one]
         self.descriptors = [one for one in self.descriptors if len(one) < 3_000] + [b"", bytes(20)]
