@@ -332,6 +332,9 @@ test("dsacls adds one grant, and nothing else", () => {
     }
     assert.equal(step("A;;0x1;;;S-1-1-0", "A;;0x2;;;S-1-1-0"), null);
     assert.equal(rowOf("dsacls", "ds", "CN=x", AFTER, BEFORE), undefined);
+    // It can't stop an object from inheriting.
+    const stopped = descriptorOf({flags: "P", dacl: [FULL, "A;;0x1;;;S-1-1-0"]});
+    assert.equal(rowOf("dsacls", "ds", "CN=x", BEFORE, stopped), undefined);
 });
 
 // icacls by Windows' documentation: what an operation makes of a list. Letters and masks are those of its help and of
