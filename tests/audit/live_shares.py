@@ -1,24 +1,18 @@
 """Tests what sdtool-audit asks a file server by smb://, reg:// and svc://. The server is a Samba domain of the test's
-own, with users, nested groups, and shares that take rights away; a proxy before it cuts, delays, hangs and damages. The
-truth is what a user may really do: opens with one right each, as six users
-on 500 files. It needs root, the library, and the packages that CONTRIBUTING lists for servers; else a line says what is
-missing.
+own, with users, nested groups, and shares that take rights away. The truth is what a user may really do: opens with one
+right each, as six users on 500 files. It needs root, the library, and the packages that CONTRIBUTING lists for servers;
+else a line says what is missing.
 """
 import concurrent.futures
 import contextlib
 import json
 import os
 import pathlib
-import pty
 import random
-import select
 import shutil
-import socket
 import subprocess
 import sys
 import tempfile
-import threading
-import time
 from typing import Any, Dict, Iterator, List, NamedTuple, Optional, Sequence
 
 import audit
@@ -34,7 +28,6 @@ RIGHTS = {0x1: "0x1", 0x2: "0x2", 0x20: "0x20", 0x100: "0x100", 0x10000: "delete
           0x40000: "0x40000", 0x80000: "0x80000"}
 SHARES = ("free", "tight", "shut", "odd")
 SEED = 97
-LARGE = 20_000  # files
 
 
 class World(NamedTuple):
@@ -274,122 +267,6 @@ def opened(place: World, user: str, share: str, paths: Sequence[str]) -> Dict[st
     return {path: mask for path, mask in json.loads(done.stdout).items()}
 
 
-class Proxy:
-    """Stands before the server at an address of its own, and does to each of the first connections what its fault says:
-    cuts, hangs, changes a byte or leaves one out, so many bytes after the server's first one."""
-
-    def __init__(self, fault: str, at: int, connections: int) -> None:
-        self._fault, self._at, self._left = fault, at, connections
-        self.server = samba_domain.ADDRESS.rpartition(".")[0] + ".77"
-        self._listening = socket.create_server((self.server, 445))
-        threading.Thread(target=self._accept, daemon=True).start()
-
-    def _accept(self) -> None:
-        with contextlib.suppress(OSError):
-            while True:
-                client = self._listening.accept()[0]
-                server = socket.create_connection((samba_domain.ADDRESS, 445))
-                is_faulty, self._left = self._left > 0, self._left - 1
-                threading.Thread(target=self._copy, args=(client, server, False), daemon=True).start()
-                threading.Thread(target=self._copy, args=(server, client, is_faulty), daemon=True).start()
-
-    def _copy(self, one: socket.socket, other: socket.socket, is_faulty: bool) -> None:
-        count = 0
-        with contextlib.suppress(OSError):
-            while True:
-                data = one.recv(65536)
-                before, count = count, count + len(data)
-                if is_faulty and self._fault == "delay":
-                    time.sleep(0.01)
-                elif is_faulty and before <= self._at < count:
-                    at = self._at - before
-                    if self._fault == "cut":
-                        break
-                    if self._fault == "hang":
-                        time.sleep(600)
-                    change = bytes([data[at] ^ 0xff]) if self._fault == "damage" else b""
-                    data = data[:at] + change + data[at + 1:]
-                if not data:
-                    break
-                other.sendall(data)
-        for stream in (one, other):
-            with contextlib.suppress(OSError):
-                stream.shutdown(socket.SHUT_RDWR)
-
-    def close(self) -> None:
-        self._listening.close()
-
-
-def test_faults(place: World) -> None:
-    """Whatever happens on the way, each object is there with its answer, or is unknown and the status is 3."""
-    def objects(server: str) -> audit.Ended:
-        return place.ask("can", "WD", "0x1", f"smb://{server}/free", "--to", "jsonl", "--timeout", "4")
-
-    def answers(ended: audit.Ended, server: str) -> Dict[str, str]:
-        return {one["name"].replace(server, "SERVER", 1): one["answer"] for one in ended.objects}
-
-    whole = answers(objects(samba_domain.ADDRESS), samba_domain.ADDRESS)
-    place.expect(len(whole), FILES // 2 + FILES // 50 + 2, "objects without a fault")
-    for fault, at, connections in (("delay", 0, 9), ("cut", 20_000, 1), ("cut", 60_000, 2), ("damage", 9_000, 2),
-                                   ("damage", 30_000, 1), ("short", 20_000, 3), ("short", 40_000, 1),
-                                   ("hang", 30_000, 1),
-                                   ("cut", 30_000, 99), ("hang", 30_000, 99)):
-        proxy = Proxy(fault, at, connections)
-        try:
-            ended = objects(proxy.server)
-        finally:
-            proxy.close()
-        got = answers(ended, proxy.server) if ended.stdout else {}
-        wrong = [name for name, answer in got.items() if answer != "unknown" and whole.get(name) != answer]
-        is_whole = set(whole) <= set(got) and ended.status == 1
-        says_so = ended.status == 3 and "unknown" in got.values() or ended.status == 2 and bool(ended.stderr)
-        place.count.add(not wrong and (is_whole or says_so), f"{fault} at {at}, {connections} times: {ended} {wrong}")
-        if connections == 1:
-            place.count.add(is_whole, f"{fault} at {at}, once, loses {len(set(whole) - set(got))} objects: {ended}")
-
-
-PLAIN = """
-import json, sys, time
-sys.path[:] = json.loads(sys.argv[1])
-import preload
-import live_shares
-one = live_shares.connection(*sys.argv[2:])
-began, count, folders = time.monotonic(), 0, [""]
-while folders:
-    folder = folders.pop()
-    for entry in one.list(folder, "*", 0x7fff):
-        path = folder + chr(92) * bool(folder) + entry["name"]
-        one.get_acl(path, 7, 0x20000)
-        count += 1
-        if entry["attrib"] & 16:
-            folders.append(path)
-print(count, time.monotonic() - began)
-"""
-
-
-def test_speed(place: World) -> None:
-    """A share is read at 0.8 of what a loop of `list` and `get_acl` takes, at the best of three tries."""
-    top = place.folder / "odd/speed"
-    top.mkdir()
-    top.chmod(0o777)
-    for at in range(LARGE):
-        if not at % 1000:
-            (top / f"s{at // 1000}").mkdir()
-        (top / f"s{at // 1000}/file {at}.txt").touch()
-    tries = []
-    for _ in range(3):
-        done = subprocess.run([place.python, "-c", PLAIN, json.dumps(sys.path), samba_domain.HOST, "odd",
-                               samba_domain.NETBIOS, samba_domain.ADMINISTRATOR, samba_domain.PASSWORD],
-                              stdout=subprocess.PIPE, text=True, check=True, env=place.environment())
-        count, plain = done.stdout.split()
-        began = time.monotonic()
-        ended = place.ask("show", f"smb://{samba_domain.HOST}/odd/speed", "--name", "nothing")
-        tries.append((int(count) / float(plain), LARGE / (time.monotonic() - began)))
-    best = max(own / plain for plain, own in tries)
-    place.count.add(best >= 0.8, f"a loop and the audit read objects a second: {tries}; {ended.stderr[-300:]}")
-    shutil.rmtree(top)
-
-
 def test_truth(place: World) -> None:
     """What a user may really do is what `can` answers: of each file, by its share's permissions too."""
     addresses = [f"smb://{samba_domain.HOST}/free", f"smb://{samba_domain.HOST}/tight"]
@@ -485,58 +362,6 @@ def test_refused(place: World) -> None:
         ended = place.ask("risks", *words, user=None)
         place.count.add(ended.status == 2 and help_ in ended.stderr and not ended.stdout and secret not in str(ended),
                         f"{words}: {ended}")
-
-
-def test_tickets(place: World) -> None:
-    """Kerberos' ticket says who asks, and a password that is typed is neither shown nor given to anybody."""
-    environment = place.domain.ticket("ann")
-    ended = place.ask("can", "WD", "read", f"smb://{samba_domain.HOST}/odd", "--to", "jsonl", user=None,
-                      KRB5CCNAME=environment["KRB5CCNAME"])
-    place.count.add(ended.status == 3 and name_of("odd", "deep").replace("\\", "\\\\") in ended.stdout,
-                    f"a run by a ticket: {ended}")
-    address = f"smb://{samba_domain.HOST}/odd/empty"
-    number, terminal = pty.fork()
-    if not number:
-        os.chdir(place.folder)
-        os.execve(place.python, [place.python, "-m", "sdtool.audit", "can", "WD", "read", address, "--user",
-                                 f"{samba_domain.NETBIOS}\\ann", "--no-bar"], place.environment())
-    shown, listed, end = b"", "", time.monotonic() + 60
-    while time.monotonic() < end:
-        if select.select([terminal], [], [], 0.2)[0]:
-            try:
-                shown += os.read(terminal, 65536)
-            except OSError:
-                break
-        if b"Password" in shown and not listed:
-            os.write(terminal, samba_domain.PASSWORD.encode() + b"\n")
-            listed = "asked"
-        listed += subprocess.run(["ps", "axeww"], stdout=subprocess.PIPE, text=True).stdout if listed else ""
-    os.waitpid(number, 0)
-    is_hidden = samba_domain.PASSWORD.encode() not in shown and samba_domain.PASSWORD not in listed
-    place.count.add(name_of("odd", "empty").encode() in shown and bool(listed) and is_hidden,
-                    f"a password that is typed: {shown!r}")
-
-
-def test_goes_on(place: World) -> None:
-    """A run that ended early goes on where it was, and its file says so until then."""
-    words = ("can", "WD", "0x1", f"smb://{samba_domain.HOST}/free", "--into", "parts.db", "--requests", "200")
-    who = ["--credentials", place.credentials(samba_domain.ADMINISTRATOR)]
-    run = subprocess.Popen([place.python, "-m", "sdtool.audit", *words, *who], cwd=place.folder,
-                           stdout=subprocess.DEVNULL, stderr=subprocess.DEVNULL, env=place.environment())
-    time.sleep(6)
-    run.kill()
-    run.wait()
-    part = place.objects("can", "WD", "0x1", "parts.db", user=None)
-    rest = part.get(f"smb://{samba_domain.HOST}/free: the rest", {}).get("answer")
-    place.count.add(5 < len(part) < FILES // 2 and rest == "unknown",
-                    f"a file that isn't whole has {len(part)} objects")
-    whole = place.objects(*words[:-2])
-    again = place.ask(*words)
-    place.count.add(again.status == 2 and "exists" in again.stderr, f"a file that is whole: {again}")
-    other = place.objects("can", "WD", "0x1", f"smb://{samba_domain.HOST}/free")
-    place.expect({name: one["answer"] for name, one in whole.items()},
-                 {name: one["answer"] for name, one in other.items()}, "what went on is the same")
-    place.expect(len(whole), FILES // 2 + FILES // 50 + 2, "files, folders, the root and the share")
 
 
 TESTS = (test_truth, test_shares, test_names, test_others, test_refused)
