@@ -108,7 +108,7 @@ class Place(NamedTuple):
         environment = {**os.environ, "SDTOOL_LIBRARY": preload.LIBRARY, "SDTOOL_TEST_PLAN": str(plan_path),
                        "SDTOOL_TEST_CLIENT": str(self.folder / "client.py"), "PYTHONDONTWRITEBYTECODE": "1",
                        "PYTHONPATH": f"{self.folder / 'hooks'}:{preload.TOP / 'python'}"}
-        ended = subprocess.run([self.python, "-m", "sdtool.audit", "can", "WD", "write", address, "--timeout", "3",
+        ended = subprocess.run([self.python, "-m", "sdtool.audit", "can", "WD", "write", address, "--timeout", str(plan.get("timeout", 120)),
                                 *(words or ("--to", "jsonl"))], cwd=self.folder, env=environment,
                                stdin=subprocess.DEVNULL, capture_output=True, timeout=audit.SECONDS)
         return audit.Ended(ended.returncode, ended.stdout.decode("utf-8", "surrogateescape"),
@@ -143,11 +143,12 @@ def test_lost(place: Place) -> None:
     ended = place.run(entries=files("a", "once", "b"))
     place.expect((ended.status, answers(ended), place.begun()), (1, of_names(a="found", once="found", b="found"), 2),
                  "a client that dies once")
-    for name, why in (("dies", "ended"), ("silent", "3 seconds"), ("rubbish", "JSON"), ("endless", "more than")):
-        ended = place.run(entries=files("a", name, "b"))
+    for name, why in (("dies", "ended"), ("silent", "10 seconds"), ("rubbish", "JSON"), ("endless", "more than")):
+        timeout = 10 if name == "silent" else 120
+        ended = place.run(entries=files("a", name, "b"), timeout=timeout)
         place.expect((ended.status, answers(ended)), (3, of_names(**{"a": "found", name: "unknown", "b": "found"})),
                      f"an object at which each client is lost: {name}")
-        both = place.run(entries=files("a", name, name, "b"))
+        both = place.run(entries=files("a", name, name, "b"), timeout=timeout)
         rest = f"smb://{SERVER}/share: the rest"
         got = {one["name"]: one for one in both.objects}
         place.expect((both.status, set(got), place.begun()),
