@@ -108,7 +108,8 @@ class Place(NamedTuple):
         environment = {**os.environ, "SDTOOL_LIBRARY": preload.LIBRARY, "SDTOOL_TEST_PLAN": str(plan_path),
                        "SDTOOL_TEST_CLIENT": str(self.folder / "client.py"), "PYTHONDONTWRITEBYTECODE": "1",
                        "PYTHONPATH": f"{self.folder / 'hooks'}:{preload.TOP / 'python'}"}
-        ended = subprocess.run([self.python, "-m", "sdtool.audit", "can", "WD", "write", address, "--timeout", str(plan.get("timeout", 120)),
+        ended = subprocess.run([self.python, "-m", "sdtool.audit", "can", "WD", "write", address, "--timeout",
+                                str(plan.get("timeout", 120)),
                                 *(words or ("--to", "jsonl"))], cwd=self.folder, env=environment,
                                stdin=subprocess.DEVNULL, capture_output=True, timeout=audit.SECONDS)
         return audit.Ended(ended.returncode, ended.stdout.decode("utf-8", "surrogateescape"),
