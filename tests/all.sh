@@ -196,7 +196,7 @@ if "${MAKE:-make}" --no-print-directory program; then
         build_extension
         start_lane c_library c_objects c_columns fault_places fault_words c_neighbours c_comparisons c_stacks c_reasons \
             c_origins c_edits c_texts c_install c_examples instructions bench_run
-        start_lane python_calls python_objects python_plain python_lies python_wheels page_growth
+        start_lane python_calls python_objects python_plain columns python_lies python_wheels page_growth
         start_lane dotnet_requests dotnet_loading dotnet_package script_requests
         start_lane audit audit_sources audit_directory audit_reports audit_stopping audit_reasons audit_inherited \
             audit_package

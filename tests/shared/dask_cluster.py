@@ -28,6 +28,17 @@ def python_with_dask(folder):
     return None
 
 
+def client_of(address, **more):
+    """A client of a scheduler in this process. Its package is called as a test is."""
+    path = list(sys.path)
+    sys.path[:] = [folder for folder in path if not folder.startswith(str(PYTHON.parent / "tests"))]
+    try:
+        from distributed import Client
+    finally:
+        sys.path[:] = path
+    return Client(address, timeout=SECONDS, **more)
+
+
 def wait_for(is_so, seconds=SECONDS, what="something"):
     until = time.monotonic() + seconds
     while not is_so():
@@ -49,11 +60,11 @@ class Processes:
     They have the module and the library from copies in the folder. Runs compare digests of these files, so a build that
     changes them would change what a run keeps, and which workers are fit."""
 
-    def __init__(self, folder, python, library):
+    def __init__(self, folder, python, library, ignored=("audit",)):
         self.folder, self.python = pathlib.Path(folder), python
         self.modules, self.library = self.folder / "modules", self.folder / "library/libsdtool.so"
         shutil.copytree(PYTHON / "sdtool", self.modules / "sdtool",
-                        ignore=shutil.ignore_patterns("__pycache__", "audit"))
+                        ignore=shutil.ignore_patterns("__pycache__", *ignored))
         subprocess.run([python, "-m", "compileall", "-q", self.modules], check=True)
         self.library.parent.mkdir()
         shutil.copy(library, self.library)
@@ -61,6 +72,13 @@ class Processes:
         self.environment = {**os.environ, "PYTHONPATH": str(self.modules), "SDTOOL_LIBRARY": str(self.library),
                             "DASK_DISTRIBUTED__SCHEDULER__WORKER_TTL": WORKER_TTL, **NO_PROFILER,
                             "DASK_TEMPORARY_DIRECTORY": str(self.folder)}
+
+    def other_library(self):
+        """A library with another digest, which answers the same."""
+        path = self.folder / "other" / "libsdtool.so"
+        path.parent.mkdir(exist_ok=True)
+        path.write_bytes(self.library.read_bytes() + b"\n")
+        return {"SDTOOL_LIBRARY": str(path)}
 
     def start(self, words, environment=None, **others):
         """A process in a session of its own, so that what it starts can be ended with it."""
@@ -85,11 +103,10 @@ class Processes:
         wait_for(lambda: file.exists() and file.read_text().strip().endswith("}"), what="a scheduler")
         return scheduler, json.loads(file.read_text())["address"]
 
-    def start_worker(self, address, environment=None, before=(), memory="0"):
-        """A worker with one thread; `before` are the words of a program that starts it, `memory` is its limit, 0 for
-        none."""
-        return self.start_of_dask("dask_worker", address, "--nthreads", "1", "--no-nanny", "--memory-limit", memory,
-                                  "--local-directory", str(self.folder / "workers"), environment=environment,
+    def start_worker(self, address, environment=None, before=(), memory="0", threads=1):
+        """A worker; `before` are the words of a program that starts it, `memory` is its limit, 0 for none."""
+        return self.start_of_dask("dask_worker", address, "--nthreads", str(threads), "--no-nanny", "--memory-limit",
+                                  memory, "--local-directory", str(self.folder / "workers"), environment=environment,
                                   before=before)
 
     def asked(self, address, code):
