@@ -346,9 +346,9 @@ class Place:
                 pass
         if not self.is_there(given.answers):
             return ""
-        there, manifest = f"has answers at {given.answers}, which", self.manifest_of(given.folder)
+        there, manifest = f"has answers at {given.answers}, which", self.manifest_of(given.folder, is_parts)
         other = f"{self.ours}/inputs/{given.answers[len(self.root) + 1:]}" if is_parts else given.answers
-        is_other = not manifest and bool(self.manifest_of(other))
+        is_other = not manifest and bool(self.manifest_of(other, not is_parts))
         if is_same(given.fs, self.fs) and given.path == given.answers or not manifest and not is_other:
             return f"{there} no run wrote"
         if is_other:
@@ -358,9 +358,10 @@ class Place:
         is_folder = self.fs.info(given.answers)["type"] == "directory"
         return "" if is_folder == is_parts else f"{there} is no {('file', 'folder')[is_parts]}"
 
-    def manifest_of(self, folder: str) -> Record:
-        """What a run wrote of an input's answers, whole or not."""
-        for path, _ in itertools.chain([(f"{folder}/{MANIFEST}", None)], files_of(self.fs, folder, EVIDENCE)):
+    def manifest_of(self, folder: str, is_parts: bool) -> Record:
+        """What a run wrote of the answers to an input; of parts that stay, whole or not."""
+        evidence = files_of(self.fs, folder, EVIDENCE) if is_parts else ()
+        for path, _ in itertools.chain([(f"{folder}/{MANIFEST}", None)], evidence):
             if "blocks" in (content := self.content(path)):
                 return content
         return {}
