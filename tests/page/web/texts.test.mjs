@@ -243,6 +243,15 @@ const NAME_LISTS = [
 ];
 
 test("names of the user, from lists of people's programs", () => {
+    const column = (text) => text.padEnd(30);
+    NAME_LISTS.push([`dn: CN=x\ncn: Ann\n  Lee\nobjectSid: ${DOMAIN}-1001\n`, {1001: "Ann Lee"}, [0, 0]],
+        [
+            `${column("SID")}Name\n${column("---")}----\n${
+                column(`${DOMAIN}-1001`)}Ann of a department\u2019s long name\n`,
+            {1001: "Ann of a department\u2019s long name"}, [0, 0]
+        ],
+        // An authority that is written in hex.
+        ["dn: CN=x\ncn: x\nobjectSid:: AQEQAAAAAAABAAAA\n", {}, [0, 1]]);
     for (const [text, expected, counts] of NAME_LISTS) {
         const {names, known, unread, left} = namesIn(text);
         const wanted =
