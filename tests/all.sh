@@ -204,7 +204,7 @@ if "${MAKE:-make}" --no-print-directory program; then
             collector
         start_lane live_clients live_shares directory_source "live_directory --only test_whole --only test_export \
             --only test_truth --only test_tokens --only test_refused --only test_sealed --only test_sacl"
-        start_lane distributed distributed_faults distributed_scale rust go
+        start_lane distributed distributed_faults distributed_scale audit_cluster rust go
         start_lane page page_commands page_kinds page_questions page_verdicts page_units "risk_rows --page" lowering systems
     else
         echo "the library is not built, so its tests have not run"

@@ -124,13 +124,6 @@ class Place(dask_cluster.Processes):
         (package / "__init__.py").write_text(text)
         return {"PYTHONPATH": str(package.parent)}
 
-    def other_library(self):
-        """A library with another digest, which answers the same."""
-        path = self.folder / "other" / "libsdtool.so"
-        path.parent.mkdir(exist_ok=True)
-        path.write_bytes(self.library.read_bytes() + b"\n")
-        return {"SDTOOL_LIBRARY": str(path)}
-
     def hold(self):
         """From now on, slow workers are slow."""
         (self.folder / "go").unlink(missing_ok=True)

@@ -18,7 +18,6 @@ from sdtool.audit.findings import SEVERITIES
 from sdtool.audit.inquiry import Inquiry
 from sdtool.audit.library import WordsFault
 from sdtool.audit.live.address import address_of, is_address
-from sdtool.audit.pool import processors
 from sdtool.audit.progress import Bar
 from sdtool.audit.questions import risks
 from sdtool.audit.questions.can import Can
@@ -307,7 +306,7 @@ def _baseline(common: Common, path: str, options: risks.RiskOptions, schema: Opt
     cache.require_whole(path)
     question, found = _risks(common, [path], options, schema)
     items = cache.items(path)
-    with engine_of(question, common.jobs or processors()) as engine:
+    with engine_of(question, common.jobs, common.scheduler) as engine:
         baseline.fill(engine.answer(found.placed(items) if found else items))
     return baseline
 
@@ -343,7 +342,7 @@ def diff(common: Common, old: str, new: str, old_root: Optional[str], new_root: 
     question = Differences(common.context)
     inquiry.begin_all(common, paths)
     bar = Bar(paths, common.bar)
-    with engine_of(question, common.jobs or processors()) as engine:
+    with engine_of(question, common.jobs, common.scheduler) as engine:
         for table, path, word, root in zip(("old", "new"), paths, (old, new), (old_root, new_root)):
             question.read(table, inquiry.items_of(common, [path], bar), files.root_of(word) if root is None else root)
         try:
@@ -366,8 +365,8 @@ def inherit(common: Common, given: Sequence[str], fix: Optional[str]) -> int:
     question = Inheritance(common.context)
     inquiry.begin_all(common, paths)
     bar = Bar(paths, common.bar)
-    with cache.kept(common.into) as keep, question.fixing(fix), engine_of(question,
-                                                                          common.jobs or processors()) as engine:
+    with cache.kept(common.into) as keep, question.fixing(fix), engine_of(
+            question, common.jobs, common.scheduler) as engine:
         items = keep(bar.count(inquiry.items_of(common, paths, bar)))
         try:
             return inquiry.report_of(common, Inquiry(question, "Inheritance", paths), question, bar,

@@ -10,6 +10,7 @@ from sdtool.audit.findings import Answer, unread
 from sdtool.audit.library import AnswersFault
 from sdtool.audit.protocols import Question
 from sdtool.audit.sources.items import UNREADABLE, WITHOUT_OWNER, Item
+from sdtool.audit.sources.opening import OpeningFault
 from sdtool.audit.sources.places import SHARE
 
 CHUNK = 4_000          # objects that are answered together
@@ -157,10 +158,21 @@ class Engine:
         return self._memory.get(key) or answer_groups(self._question, {key[:2]: [key[2]]})[0][1]
 
 
+def workers_of(jobs: Optional[int], scheduler: Optional[str], held: Held) -> pool.Pool:
+    """So many processes, one for each processor, or the workers of a Dask scheduler."""
+    if scheduler is None:
+        return pool.Pool(jobs or pool.processors(), held)
+    try:
+        from sdtool.audit.cluster import Cluster
+    except ImportError as error:
+        raise OpeningFault(f"--scheduler: {error}; pip install 'sdtool[distributed]' has what it needs") from error
+    return Cluster(scheduler, held)
+
+
 @contextlib.contextmanager
-def engine_of(question: Question, jobs: int) -> Iterator[Engine]:
+def engine_of(question: Question, jobs: Optional[int], scheduler: Optional[str]) -> Iterator[Engine]:
     """An engine with a pool of its own."""
-    workers = pool.Pool(jobs, Held(question))
+    workers = workers_of(jobs, scheduler, Held(question))
     try:
         yield Engine(question, workers)
     finally:

@@ -12,7 +12,7 @@ from sdtool.audit import files, pool, stopping
 from sdtool.audit.directory import asking
 from sdtool.audit.directory.folders import Folders
 from sdtool.audit.directory.forest import Forest, Told
-from sdtool.audit.engine import Answered, Engine, Held
+from sdtool.audit.engine import Answered, Engine, Held, workers_of
 from sdtool.audit.findings import Rule
 from sdtool.audit.live.address import address_of, is_address
 from sdtool.audit.live.directory import SAID
@@ -262,8 +262,9 @@ def ask(common: Common, inquiry: Inquiry) -> int:
     begin_all(common, inquiry.paths)
     bar = Bar(inquiry.paths, common.bar)
     rules = inquiry.question.rules
-    held = Held(inquiry.question, functools.partial(_report_of_block, common, rules, inquiry.title, inquiry.accepted))
-    workers = pool.Pool(common.jobs or pool.processors(), held)
+    of_block = common._replace(machines=None)  # which are in a database of this process
+    held = Held(inquiry.question, functools.partial(_report_of_block, of_block, rules, inquiry.title, inquiry.accepted))
+    workers = workers_of(common.jobs, common.scheduler, held)
     try:
         with _reported(common, inquiry) as report:
             _fill(common, inquiry, report, Engine(inquiry.question, workers), workers, bar)

@@ -23,6 +23,7 @@ from sdtool.audit.windows import rights
 from sdtool.audit.windows.names import Names
 
 A_SOURCE = "a source"
+_SCHEDULER = "DASK_SCHEDULER_ADDRESS"
 
 
 class Common(NamedTuple):
@@ -32,6 +33,7 @@ class Common(NamedTuple):
     of_sources: Tuple[str, ...]  # the options about sources that were given
     context: Context
     jobs: Optional[int]
+    scheduler: Optional[str]
     report: outputs.Form
     out: Optional[str]
     into: Optional[str]
@@ -124,12 +126,15 @@ _REPORT_OPTIONS = {
     "jobs": click.option("--jobs", type=click.IntRange(1, 512), metavar="N",
                          help="Processes that answer. Default: one for each "
                          "processor."),
+    "scheduler": click.option("--scheduler", metavar="ADDRESS",
+                              help="A Dask scheduler whose workers answer in place of processes, such as "
+                              f"tcp://host:8786. Default without --jobs: {_SCHEDULER}."),
     "no_bar": click.option("--no-bar", is_flag=True, help="No progress bar."),
 }
 # What an option says that a command doesn't have.
 _UNSAID: Dict[str, Any] = {
     "to": "table", "out": None, "lists": None, "most": None, "each": False, "spreadsheet": False, "into": None,
-    "jobs": None,
+    "jobs": None, "scheduler": None,
     "no_bar": True}
 OF_REPORTS = tuple(_UNSAID)
 
@@ -189,12 +194,16 @@ def _common(given: Dict[str, Any]) -> Common:
     # Rows that come on a terminal leave no place for a bar.
     bar = not given.pop("no_bar") and (to == "table" or out is not None or not sys.stdout.isatty())
     reads = (*files.named("--sid-names", sid_names), *files.named("--object-names", object_names))
-    into = given.pop("into")
+    into, jobs, scheduler = given.pop("into"), given.pop("jobs"), given.pop("scheduler")
+    if jobs and scheduler:
+        raise OpeningFault("--jobs is about processes of this machine, and --scheduler about a cluster: give one")
+    if not jobs:
+        scheduler = scheduler or os.environ.get(_SCHEDULER) or None
     files.refuse(reads, [*files.named("--out", out), *files.named("--into", into)])
     names = Names(read_names(sid_names, domain) if sid_names else None)
     access = Access(*(given.pop(name)
                     for name in ("credentials", "user", "timeout", "requests", "sacl", "backup", "ca")))
-    return Common(options, of_sources, Context(domain, names), given.pop("jobs"), form, out, into, bar, domains, reads,
+    return Common(options, of_sources, Context(domain, names), jobs, scheduler, form, out, into, bar, domains, reads,
                   access=access)
 
 

@@ -178,11 +178,10 @@ def total_of(blocks: List[Record]) -> Dict[str, int]:
     return {key: sum(block[key] for block in blocks) for key in ("lines", "errors", "bytes")}
 
 
-def _modules_digest() -> str:
-    """The digest of the files of the module and of this package, since they count the answers and compare them with the
-    lines."""
+def modules_digest(*folders: str) -> str:
+    """The digest of the files of the module, and of folders in it."""
     top, digest = os.path.dirname(os.path.abspath(_library.__file__)), new_digest()
-    names = [os.path.join(folder, name) for folder in ("", "distributed")
+    names = [os.path.join(folder, name) for folder in ("", *folders)
              for name in os.listdir(os.path.join(top, folder))]
     for name in sorted(names):
         if name.endswith((".py", ".so")):
@@ -191,7 +190,9 @@ def _modules_digest() -> str:
     return digest.hexdigest()
 
 
-MODULES = _modules_digest()  # of what this process has imported, whatever becomes of the files
+# Of what this process has imported, whatever becomes of the files: it counts the answers, and compares them with the
+# lines.
+MODULES = modules_digest("distributed")
 
 
 @dataclasses.dataclass
