@@ -1,4 +1,5 @@
 """A proxy between a client and a server that cuts, delays, hangs or damages what the server sends."""
+import contextlib
 import socket
 import threading
 import time
@@ -59,4 +60,6 @@ class Proxy:
 
     def close(self) -> None:
         for one in (self._listener, *self._open):
+            with contextlib.suppress(OSError):
+                one.shutdown(socket.SHUT_RDWR)  # which wakes a thread that waits for it
             one.close()
