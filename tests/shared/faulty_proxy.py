@@ -55,11 +55,14 @@ class Proxy:
                 sent += len(data)
         except OSError:
             pass
-        for one in (source, to):
-            one.close()
+        _end(source, to)
 
     def close(self) -> None:
-        for one in (self._listener, *self._open):
-            with contextlib.suppress(OSError):
-                one.shutdown(socket.SHUT_RDWR)  # which wakes a thread that waits for it
-            one.close()
+        _end(self._listener, *self._open)
+
+
+def _end(*sockets: socket.socket) -> None:
+    for one in sockets:
+        with contextlib.suppress(OSError):
+            one.shutdown(socket.SHUT_RDWR)  # which wakes a thread that waits for it
+        one.close()
