@@ -131,7 +131,7 @@ def test_bytes(count, place):
     asked = [["risks", name, "--to", "csv"] for name in sources()]
     asked += [["who", "change", "table.csv", "--to", "jsonl"], ["who", "write", "kept.db"],
               ["who", "dcsync", "directory.ldif"], ["can", "WD", "delete", "table.csv"],
-              ["can", "WD", "read", "lines.sddl", "--to", "markdown"], ["risks", "kept.db", "--to", "sarif"],
+              ["can", "WD", "read", "lines.sddl", "--to", "csv"], ["risks", "kept.db", "--to", "sarif"],
               ["risks", "table.csv", "--each", "--list", "all", "--to", "html"],
               ["risks", "table.csv", "--accept", "accept.toml"], ["risks", "table.csv", "--baseline", "kept.db"],
               ["inherit", "table.csv", "--to", "csv"], ["diff", "table.csv", "lines.sddl", "--to", "csv"],
