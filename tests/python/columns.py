@@ -294,7 +294,7 @@ def as_json(value):
     if isinstance(value, (bytes, str)):
         return "z" + value.hex() if isinstance(value, bytes) else "u" + value.encode().hex()
     if isinstance(value, tuple):
-        return {name: as_json(one) for name, one in zip(value._fields, value)}
+        return {name: as_json(one) for name, one in zip(getattr(value, "_fields"), value)}
     return list(map(as_json, value)) if isinstance(value, list) else value
 
 
@@ -633,12 +633,13 @@ def add_options(parser):
 def main(count: preload.Count, arguments: preload.Given) -> None:
     choices = random.Random(arguments.seed)
     if preload.is_chosen(test_rows):
-        test_rows(count, *python_plain.lines(min(1500, arguments.rows), choices), arguments.rows, choices)
+        of_hex, of_sddl = python_plain.lines(min(1500, arguments.rows), choices)
+        test_rows(count, of_hex, of_sddl, arguments.rows, choices)
     for test in filter(preload.is_chosen, (test_changes, test_faults, test_once)):
         test(count)
     with tempfile.TemporaryDirectory() as folder:
-        for test in filter(preload.is_chosen, (test_lies, test_ends)):
-            test(count, folder)
+        for in_folder in filter(preload.is_chosen, (test_lies, test_ends)):
+            in_folder(count, folder)
     once = list(filter(preload.is_chosen, (test_dask, test_document)))
     if arguments.without_extension:
         return

@@ -1,5 +1,6 @@
 """A Dask scheduler and workers for tests and measurements: processes on 127.0.0.1."""
 import contextlib
+import importlib
 import json
 import os
 import pathlib
@@ -33,10 +34,10 @@ def client_of(address, **more):
     path = list(sys.path)
     sys.path[:] = [folder for folder in path if not folder.startswith(str(PYTHON.parent / "tests"))]
     try:
-        from distributed import Client
+        client = importlib.import_module("distributed").Client
     finally:
         sys.path[:] = path
-    return Client(address, timeout=SECONDS, **more)
+    return client(address, timeout=SECONDS, **more)
 
 
 def wait_for(is_so, seconds=SECONDS, what="something"):
