@@ -35,6 +35,7 @@ pub(crate) fn first_faulty(count: u16, aces: &[u8]) -> (u32, &[u8])
 }
 
 /// Where the SID is in an ACE, of whose front bytes may be missing.
+#[tactic(auto, using(crate::proofs::SidOffsets::padded_offset))]
 pub(crate) fn sid_offset(extent: &[u8]) -> usize
     ensures value { result ≡ sid_offset_in extent.now }
     ensures bound { result ≤ 44 }

@@ -1,19 +1,18 @@
 -- A step from a part, an ACE or a field to the next one.
 use Rattle.std.proofs.Common.{◌≡◌, ◌≤◌, ℕ, zero, suc, ◌+◌, Bool, true, false, List, [], ◌∷◌, length, take, drop, refl}
-use Rattle.std.proofs.Common.{ap, sym, subst, ◌∙◌, arith}
-use Rattle.std.specs.Prelude.{Option, Some, None, slice_index_or, IfSome, ◌&&◌, not, is_some, if◌then◌else◌, nat_lt}
+use Rattle.std.proofs.Common.{ap, sym, ◌∙◌, arith}
+use Rattle.std.specs.Prelude.{Option, Some, None, slice_index_or, IfSome, ◌&&◌, not, is_some, if◌then◌else◌}
 use Rattle.std.proofs.lemmas.Bool.{and_parts}
 use Rattle.std.proofs.lemmas.List.{length-drop, length-take-le}
 use Rattle.sd_kinds.specs.declared.kinds.AceKind.{AceKind}
 use Rattle.std.specs.Option.{option_map, option_or}
-use Rattle.sd_parts.specs.Parts.{each_part, get_part, part_of, set_part, sid_part_of}
+use Rattle.sd_parts.specs.Parts.{each_part, part_of, sid_part_of}
 use Rattle.sd_parts.specs.declared.part.SidPart.{SidPart}
 use Rattle.sd_parts.specs.declared.part.Which.{Which}
 use Rattle.sd_parts.specs.declared.part.Part.{Part}
 use Rattle.sd_sid.specs.Sid.{SecurityId}
-use Rattle.sd_text.specs.Cuts.{all_cuts}
 use Rattle.sd_sddl_builder.specs.FoldedReading.{next_field}
-use Rattle.sd_sddl_builder.specs.Line.{Piece, ace_cuts, cut_at_semicolons, has_aces, is_paired, is_shaped, part_of_head}
+use Rattle.sd_sddl_builder.specs.Line.{Piece, ace_cuts, cut_at_semicolons, has_aces, is_paired, is_shaped}
 use Rattle.sd_sddl_builder.specs.Line.{pieces_from, sections_of, open_after}
 use Rattle.sd_sddl_builder.specs.declared.fault.SddlFault.{SddlFault}
 use Rattle.sd_sddl_builder.specs.declared.slot.AceField.{AceField}
@@ -24,13 +23,14 @@ use Rattle.sd_sddl_builder.specs.declared.fault.SddlFault.TheVariants as fault
 use Rattle.sd_sddl_places.specs.declared.shape.Stand.{Stand}
 use Rattle.sd_sddl_places.specs.declared.shape.Stand.TheVariants as stand
 use Rattle.sd_fault_places.specs.declared.place.FaultPlace.{FaultPlace}
-use Rattle.sd_sddl_places.specs.Fields.{PlacedAce, PlacedField, PlacedPart, ace_field, ace_field_fault, aces_from}
-use Rattle.sd_sddl_places.specs.Fields.{cuts_from, field_fault, front_field, name_of, fields_in, fields_in_ace}
+use Rattle.sd_sddl_places.specs.Fields.{PlacedAce, PlacedField, PlacedPart, ace_field, aces_from}
+use Rattle.sd_sddl_places.specs.Fields.{cuts_from, front_field, fields_in}
 use Rattle.sd_sddl_places.specs.Fields.{fields_in_aces, fields_in_body, parts_in, pieces_size, place, placed}
-use Rattle.sd_sddl_places.specs.Places.{Seen, first_faulty, first_large, large_in, passing, place_at, place_in_parts}
+use Rattle.sd_sddl_places.specs.Places.{first_faulty, first_large, large_in, passing, place_at, place_in_parts}
 use Rattle.sd_sddl_places.specs.Places.{second_head}
-use Rattle.sd_sddl_places.specs.Places.{IsFirstFault, is_of_field, place_of_sddl_fault, place_of_shape, size_in}
-use Rattle.sd_sddl_places.specs.Inner.Cutting.{before_byte, before_head, first_ace, front_head, head_in, parts_at}
+use Rattle.sd_sddl_places.specs.Places.{IsFirstFault, is_of_field, place_of_sddl_fault, place_of_shape}
+use Rattle.sd_sddl_places.specs.Inner.Cutting.{aces_at, before_byte, before_head, first_ace, front_head, head_in}
+use Rattle.sd_sddl_places.specs.Inner.Cutting.{parts_from}
 use Rattle.sd_sddl_places.proofs.Cuttings.{aces-first, aces_behind, cut-at, cuts_behind, first-cut, first-part}
 use Rattle.sd_sddl_places.proofs.Cuttings.{front-cut, has-first, other-cuts, paired-behind, pieces-sized, split-paired}
 use Rattle.sd_sddl_places.proofs.Faults.{first-append, first-fault}
@@ -51,51 +51,40 @@ two-long [] p e = absurd cc
 two-long (b ∷ []) p e = absurd cc
 two-long (b ∷ c ∷ u) p e = omega arith
 
-abbrev part_body : ℕ → List ℕ → List Piece
-part_body k rest = (pieces_from false (take k (drop 2 rest))).after
+-- a part of which k bytes are behind its colon, in the text after that
+pub record PartStep (at : ℕ) (text : List ℕ) (p : Head) (after : List ℕ) (k : ℕ) : Type 0 where
+  pub shape : parts_from at text
+      ≡ record { head = p; at = at; body = (pieces_from false (take k after)).after }
+      ∷ parts_from (at + (k + 2)) (drop k after)
+  pub paired : is_paired false (drop k after) ≡ true
+  pub sizes : k + 2 + length (drop k after) ≡ length text
 
--- behind a part of k bytes
-pub record PartStep (at : ℕ) (rest : List ℕ) (p : Head) (k : ℕ) : Type 0 where
-  pub shape : placed at (parts_at rest)
-      ≡ record { head = p; at = at; body = part_body k rest } ∷ placed (at + (k + 2)) (parts_at (drop k (drop 2 rest)))
-  pub paired : is_paired false (drop k (drop 2 rest)) ≡ true
-  pub sizes : k + 2 + length (drop k (drop 2 rest)) ≡ length rest
-  pub within : k + 2 ≤ length rest
-  pub front : length (take k (drop 2 rest)) ≡ k
-
-step-of : (at : ℕ) (rest : List ℕ) (p : Head) → front_head rest ≡ Some p → is_paired false rest ≡ true
-    → PartStep at rest p (before_head false (drop 2 rest))
-step-of at rest p e paired =
-    let k = before_head false (drop 2 rest) in
-    let low : k ≤ length (drop 2 rest) = head-within (drop 2 rest) false in
-    let long : 2 ≤ length rest = two-long rest p e in
-    let halves = and_parts (is_paired false (take k (drop 2 rest))) (is_paired false (drop k (drop 2 rest)))
-    (sym (split-paired (drop 2 rest) false) ∙ paired-behind rest p e paired) in
-    let front : length (take k (drop 2 rest)) ≡ k = length-take-le k (drop 2 rest) low in
-    let size : pieces_size (part_body k rest) ≡ k = pieces-sized (take k (drop 2 rest)) halves.0 ∙ front in
+step-of : (at : ℕ) (text : List ℕ) (p : Head) → front_head text ≡ Some p → is_paired false text ≡ true
+    → PartStep at text p (drop 2 text) (before_head false (drop 2 text))
+step-of at text p e paired =
+    let k = before_head false (drop 2 text) in
+    let low : k ≤ length (drop 2 text) = head-within (drop 2 text) false in
+    let long : 2 ≤ length text = two-long text p e in
+    let halves = and_parts (is_paired false (take k (drop 2 text))) (is_paired false (drop k (drop 2 text)))
+    (sym (split-paired (drop 2 text) false) ∙ paired-behind text p e paired) in
+    let body = (pieces_from false (take k (drop 2 text))).after in
+    let size : pieces_size body ≡ k = pieces-sized (take k (drop 2 text)) halves.0
+    ∙ length-take-le k (drop 2 text) low in
     record {
-      shape = ap (placed at) (first-part rest p e).shape
-          ∙ ap (λ (n : ℕ). record { head = p; at = at; body = part_body k rest }
-          ∷ placed (at + (n + 2)) (parts_at (drop k (drop 2 rest)))) size;
+      shape = ap (placed at) (first-part text p e).shape
+          ∙ ap (λ (n : ℕ). record { head = p; at = at; body = body }
+          ∷ parts_from (at + (n + 2)) (drop k (drop 2 text))) size;
       paired = halves.1;
-      sizes = omega (arith, low, long, length-drop k (drop 2 rest), length-drop 2 rest);
-      within = omega (arith, low, long, length-drop 2 rest);
-      front = front;
+      sizes = omega (arith, low, long, length-drop k (drop 2 text), length-drop 2 text);
     }
 
-pub part-step : (at : ℕ) (rest : List ℕ) (p : Head) (k : ℕ) → front_head rest ≡ Some p → is_paired false rest ≡ true
-    → k ≡ before_head false (drop 2 rest) → PartStep at rest p k
-part-step at rest p k e paired same = subst (λ n. PartStep at rest p n) (sym same) (step-of at rest p e paired)
-
-pub second-on : (se : Seen) (at : ℕ) (rest : List ℕ) (p : Head) (k : ℕ) → PartStep at rest p k
-    → get_part (part_of_head p) se ≡ false
-    → second_head se (placed at (parts_at rest))
-    ≡ second_head (set_part (part_of_head p) true se) (placed (at + (k + 2)) (parts_at (drop k (drop 2 rest))))
-second-on se at rest p k s e = ap (second_head se) s.shape ∙ rw e refl
+pub part-step : (at : ℕ) (text : List ℕ) (p : Head) (after : List ℕ) (k : ℕ) → front_head text ≡ Some p
+    → is_paired false text ≡ true → after ≡ drop 2 text → k ≡ before_head false after → PartStep at text p after k
+part-step at text p after k e paired a b = rw (b, a) (step-of at text p e paired)
 
 -- the parts of a text
 pub text-parts : (text : List ℕ) (k : ℕ) → is_paired false text ≡ true → k ≡ before_head false text
-    → (parts_in text ≡ placed k (parts_at (drop k text))) × (is_paired false (drop k text) ≡ true)
+    → (parts_in text ≡ parts_from k (drop k text)) × (is_paired false (drop k text) ≡ true)
     × (k + length (drop k text) ≡ length text)
 text-parts text k paired same =
     let cut = cut-at text false in
@@ -115,79 +104,30 @@ text-parts text k paired same =
 
 -- 2. Fields.
 
-pub faulty-here : (domain : Option SecurityId) (f : PlacedField) (fs : List PlacedField) (e : SddlFault)
-    → field_fault domain f ≡ Some e → first_faulty domain (f ∷ fs) ≡ Some (e, f.place)
-faulty-here domain f fs e h = rw h refl
-
-pub faulty-on : (domain : Option SecurityId) (f : PlacedField) (fs : List PlacedField) → field_fault domain f ≡ None
-    → first_faulty domain (f ∷ fs) ≡ first_faulty domain fs
-faulty-on domain f fs h = rw h refl
-
--- the fields of an ACE from a text on
+-- the fields of an ACE from a text on, and those behind a semicolon
 abbrev pub cuts_of : Part → ℕ → AceKind → ℕ → AceField → List ℕ → List PlacedField
 cuts_of part number kind at f text =
     cuts_from part number kind at f (cut_at_semicolons text).first (cut_at_semicolons text).others
 
-pub more-cuts : (part : Part) (number : ℕ) (kind : AceKind) (at : ℕ) (f : AceField) (text : List ℕ) (b k : ℕ)
-    (tail : List ℕ)
-    → k ≡ before_byte 59 text → drop k text ≡ b ∷ tail → length (take k text) ≡ k
-    → cuts_of part number kind at f text
-    ≡ ace_field part number kind at f (take k text) ∷ cuts_of part number kind (at + (k + 1)) (next_field f) tail
-more-cuts part number kind at f text b k tail same e size =
-    let front : (cut_at_semicolons text).first ≡ take k text = rw same (first-cut text) in
-    let others : (cut_at_semicolons text).others ≡ all_cuts (cut_at_semicolons tail) =
-    other-cuts text ∙ ap (λ (n : ℕ). cuts_behind (drop n text)) (sym same) ∙ ap cuts_behind e in
-    rw (front, others, size) refl
+abbrev pub cuts_left : Part → ℕ → AceKind → ℕ → AceField → List ℕ → List PlacedField
+cuts_left part number kind at f [] = []
+cuts_left part number kind at f (b ∷ bs) = cuts_of part number kind at f bs
 
-pub last-cut : (part : Part) (number : ℕ) (kind : AceKind) (at : ℕ) (f : AceField) (text : List ℕ) (k : ℕ)
-    → k ≡ before_byte 59 text → drop k text ≡ []
-    → cuts_of part number kind at f text ≡ ace_field part number kind at f (take k text) ∷ []
-last-cut part number kind at f text k same e =
-    let front : (cut_at_semicolons text).first ≡ take k text = rw same (first-cut text) in
-    let others : (cut_at_semicolons text).others ≡ [] =
-    other-cuts text ∙ ap (λ (n : ℕ). cuts_behind (drop n text)) (sym same) ∙ ap cuts_behind e in
-    rw (front, others) refl
-
-module _ (domain : Option SecurityId) (part : Part) (number : ℕ) (kind : AceKind) (at : ℕ) (f : AceField)
-    (text : List ℕ)
+pub cuts-shape : (part : Part) (number : ℕ) (kind : AceKind) (at : ℕ) (f : AceField) (text : List ℕ) (k : ℕ)
+    → k ≡ before_byte 59 text → cuts_of part number kind at f text
+    ≡ ace_field part number kind at f (take k text)
+    ∷ cuts_left part number kind (at + (length (take k text) + 1)) (next_field f) (drop k text)
+cuts-shape part number kind at f text k same =
+    rw (same, ← first-cut text, other-cuts text) (by_rest (drop (before_byte 59 text) text))
   where
-    -- a fault in the first cut, whatever follows it
-    pub fault-at-cut : (k : ℕ) (e : SddlFault) → k ≡ before_byte 59 text → length (take k text) ≡ k
-        → ace_field_fault domain kind f (take k text) ≡ Some e
-        → first_faulty domain (cuts_of part number kind at f text)
-        ≡ Some (e, place (Some part) (Some number) (Some (name_of f)) at k)
-    fault-at-cut k e same size h = by_rest (drop k text) refl
-      where
-        by_rest : (rest : List ℕ) → drop k text ≡ rest
-            → first_faulty domain (cuts_of part number kind at f text)
-            ≡ Some (e, place (Some part) (Some number) (Some (name_of f)) at k)
-        by_rest [] r =
-            ap (first_faulty domain) (last-cut part number kind at f text k same r)
-            ∙ faulty-here domain (ace_field part number kind at f (take k text)) [] e h
-            ∙ ap (λ (n : ℕ). Some (e, place (Some part) (Some number) (Some (name_of f)) at n)) size
-        by_rest (b ∷ tail) r =
-            ap (first_faulty domain) (more-cuts part number kind at f text b k tail same r size)
-            ∙ faulty-here domain (ace_field part number kind at f (take k text))
-            (cuts_of part number kind (at + (k + 1)) (next_field f) tail) e h
-            ∙ ap (λ (n : ℕ). Some (e, place (Some part) (Some number) (Some (name_of f)) at n)) size
+    first : List ℕ
+    first = (cut_at_semicolons text).first
 
-    -- none in it
-    pub past-cut : (b k : ℕ) (tail : List ℕ) → k ≡ before_byte 59 text → drop k text ≡ b ∷ tail
-        → length (take k text) ≡ k → ace_field_fault domain kind f (take k text) ≡ None
-        → first_faulty domain (cuts_of part number kind at f text)
-        ≡ first_faulty domain (cuts_of part number kind (at + (k + 1)) (next_field f) tail)
-    past-cut b k tail same r size h =
-        ap (first_faulty domain) (more-cuts part number kind at f text b k tail same r size)
-        ∙ faulty-on domain (ace_field part number kind at f (take k text))
-        (cuts_of part number kind (at + (k + 1)) (next_field f) tail) h
-
-    -- none in the last one
-    pub past-last : (k : ℕ) → k ≡ before_byte 59 text → drop k text ≡ []
-        → ace_field_fault domain kind f (take k text) ≡ None
-        → first_faulty domain (cuts_of part number kind at f text) ≡ None
-    past-last k same r h =
-        ap (first_faulty domain) (last-cut part number kind at f text k same r)
-        ∙ faulty-on domain (ace_field part number kind at f (take k text)) [] h
+    by_rest : (rest : List ℕ) → cuts_from part number kind at f first (cuts_behind rest)
+        ≡ ace_field part number kind at f first
+        ∷ cuts_left part number kind (at + (length first + 1)) (next_field f) rest
+    by_rest [] = refl
+    by_rest (b ∷ bs) = refl
 
 -- the first cut, and the cuts from the next one on
 pub cut-on : (text : List ℕ) (n : ℕ)
@@ -202,70 +142,14 @@ cut-on text n = ap (λ (l : List (List ℕ)). slice_index_or l n []) (other-cuts
     behind [] (suc n) = refl
     behind (b ∷ bs) n = refl
 
--- 3. What a part and an ACE give to what follows them.
+-- 3. ACEs.
 
-module _ (domain : Option SecurityId) (at : ℕ) (rest : List ℕ) (p : Head) (k : ℕ) (s : PartStep at rest p k) where
-  abbrev next_parts : List PlacedPart
-  next_parts = placed (at + (k + 2)) (parts_at (drop k (drop 2 rest)))
+pub ace-shape : (n at : ℕ) (t : List ℕ) (before : ℕ) (text : List ℕ) → first_ace t ≡ Some (before, text)
+    → aces_at n at t ≡ record { number = n; at = at + before; text = text }
+    ∷ aces_at (n + 1) (at + (before + (length text + 2))) (drop (before + (length text + 2)) t)
+ace-shape n at t before text first = aces-first t n at ∙ ap (aces_behind n at t) first
 
-  pub large-on : large_in domain (at + 2) (part_body k rest) p ≡ None
-      → first_large domain (placed at (parts_at rest)) ≡ first_large domain next_parts
-  large-on e = ap (first_large domain) s.shape ∙ rw e refl
-
-  pub large-here : (r : SddlFault × FaultPlace) → large_in domain (at + 2) (part_body k rest) p ≡ Some r
-      → first_large domain (placed at (parts_at rest)) ≡ Some r
-  large-here r e = ap (first_large domain) s.shape ∙ rw e refl
-
-  pub faults-on : first_faulty domain (fields_in_body p (at + 2) (part_body k rest)) ≡ None
-      → first_faulty domain (fields_in (placed at (parts_at rest))) ≡ first_faulty domain (fields_in next_parts)
-  faults-on e =
-      ap (λ (ps : List PlacedPart). first_faulty domain (fields_in ps)) s.shape
-      ∙ first-append domain (fields_in_body p (at + 2) (part_body k rest)) (fields_in next_parts) ∙ rw e refl
-
-  pub faults-here : (r : SddlFault × FaultPlace)
-      → first_faulty domain (fields_in_body p (at + 2) (part_body k rest)) ≡ Some r
-      → first_faulty domain (fields_in (placed at (parts_at rest))) ≡ Some r
-  faults-here r e =
-      ap (λ (ps : List PlacedPart). first_faulty domain (fields_in ps)) s.shape
-      ∙ first-append domain (fields_in_body p (at + 2) (part_body k rest)) (fields_in next_parts) ∙ rw e refl
-
-module _ (domain : Option SecurityId) (n at : ℕ) (t : List ℕ) (before : ℕ) (text : List ℕ)
-    (first : first_ace t ≡ Some (before, text)) where
-  abbrev this_ace : PlacedAce
-  this_ace = record { number = n; at = at + before; text = text }
-
-  abbrev aces_here : List PlacedAce
-  aces_here = aces_from n at (pieces_from false t).after
-
-  abbrev next_aces : List PlacedAce
-  next_aces =
-      aces_from (n + 1) (at + (before + (length text + 2))) (pieces_from false (drop (before +
-      (length text + 2)) t)).after
-
-  ace-shape : aces_here ≡ this_ace ∷ next_aces
-  ace-shape = aces-first t n at ∙ ap (aces_behind n at t) first
-
-  pub aces-on : (p : Part) → first_faulty domain (fields_in_ace p this_ace) ≡ None
-      → first_faulty domain (fields_in_aces p aces_here) ≡ first_faulty domain (fields_in_aces p next_aces)
-  aces-on p e =
-      ap (λ (l : List PlacedAce). first_faulty domain (fields_in_aces p l)) ace-shape
-      ∙ first-append domain (fields_in_ace p this_ace) (fields_in_aces p next_aces) ∙ rw e refl
-
-  pub aces-here : (p : Part) (r : SddlFault × FaultPlace) → first_faulty domain (fields_in_ace p this_ace) ≡ Some r
-      → first_faulty domain (fields_in_aces p aces_here) ≡ Some r
-  aces-here p r e =
-      ap (λ (l : List PlacedAce). first_faulty domain (fields_in_aces p l)) ace-shape
-      ∙ first-append domain (fields_in_ace p this_ace) (fields_in_aces p next_aces) ∙ rw e refl
-
-  pub pass-on : (size : ℕ) → nat_lt 65535 (size + size_in domain text) ≡ false
-      → passing domain size aces_here ≡ passing domain (size + size_in domain text) next_aces
-  pass-on size e = ap (passing domain size) ace-shape ∙ rw e refl
-
-  pub pass-here : (size : ℕ) → nat_lt 65535 (size + size_in domain text) ≡ true
-      → passing domain size aces_here ≡ Some this_ace
-  pass-here size e = ap (passing domain size) ace-shape ∙ rw e refl
-
-pub no-aces-from : (n at : ℕ) (t : List ℕ) → first_ace t ≡ None → aces_from n at (pieces_from false t).after ≡ []
+pub no-aces-from : (n at : ℕ) (t : List ℕ) → first_ace t ≡ None → aces_at n at t ≡ []
 no-aces-from n at t e = aces-first t n at ∙ ap (aces_behind n at t) e
 
 pub length-zero : (t : List ℕ) → length t ≡ 0 → t ≡ []
@@ -301,20 +185,6 @@ module _ (domain : Option SecurityId) (at : ℕ) (body : List ℕ) (w : Which) w
       ∙ first-append domain (acl_front (before_aces body) (is_some (first_ace body)) ∷ []) ace_fields
 
 -- 5. The text.
-
-pub part-twice : (domain : Option SecurityId) (parts : List PlacedPart) (p : FaultPlace)
-    → second_head (each_part false) parts ≡ Some p → place_in_parts domain parts ≡ Some (fault.PartTwice, p)
-part-twice domain parts p e = rw e refl
-
-pub field-first : (domain : Option SecurityId) (parts : List PlacedPart) (r : SddlFault × FaultPlace)
-    → second_head (each_part false) parts ≡ None → first_faulty domain (fields_in parts) ≡ Some r
-    → place_in_parts domain parts ≡ Some r
-field-first domain parts r e f = rw (e, f) refl
-
-pub large-last : (domain : Option SecurityId) (parts : List PlacedPart)
-    → second_head (each_part false) parts ≡ None → first_faulty domain (fields_in parts) ≡ None
-    → place_in_parts domain parts ≡ first_large domain parts
-large-last domain parts e f = rw (e, f) refl
 
 pub at-reach : (s : Stand) (n size : ℕ) → (place_at s n size).range.offset ≡ n
 at-reach stand.Before n size = refl

@@ -1,14 +1,13 @@
 //! The ACEs of a part, and their fields.
 
-ghost use Rattle.std.specs.Prelude.{◌≡◌, ◌≤◌, ◌<◌, ◌+◌, ◌^◌, length, slice_index_or, IfSome, None, Some, MatchOption};
-ghost use Rattle.std.specs.Prelude.{false, true};
+ghost use Rattle.std.specs.Prelude.{◌≡◌, ◌≤◌, ◌<◌, ◌+◌, ◌*◌, ◌^◌, length, [], ◌∷◌};
+ghost use Rattle.std.specs.Prelude.{IfSome, None, Some, MatchOption};
 ghost use Rattle.std.specs.Option.{is_some, option_map, option_copied};
 ghost use Rattle.sd_ace.specs.Ace.{guid_size, sid_offset};
 ghost use Rattle.sd_sid.specs.SidText.{sid_reads};
-ghost use Rattle.sd_sddl_builder.specs.Line.{is_paired, pieces_from};
-ghost use Rattle.sd_sddl_places.specs.Fields.{aces_from, fields_in_ace, fields_in_aces, kind_in};
+ghost use Rattle.sd_sddl_places.specs.Fields.{fields_in_ace, fields_in_aces, kind_in};
 ghost use Rattle.sd_sddl_places.specs.Places.{cut_number, first_faulty, object_in, passing, read_size, size_in};
-ghost use Rattle.sd_sddl_places.specs.Inner.Cutting.{first_ace};
+ghost use Rattle.sd_sddl_places.specs.Inner.Cutting.{aces_at, first_ace};
 
 use crate::cutting::{before_byte, behind, until};
 use crate::fields::{name_of, place, slot_fault};
@@ -26,6 +25,44 @@ pub(crate) struct PlacedAce<'a> {
     pub number: u32,
     pub at: usize,
     pub text: &'a [u8],
+    ghost small: { at + length text.now < 2 ^ 33 },
+}
+
+/// The ACEs that are left of a part: the number of the first one, and the text from some place on.
+#[derive(Clone, Copy)]
+struct TextAces<'a> {
+    number: u32,
+    at: usize,
+    text: &'a [u8],
+    ghost small: { at + 2 * length text.now < 2 ^ 33 },
+    ghost few: { number + length text.now < 2 ^ 32 },
+}
+
+impl<'a> TextAces<'a> {
+    // The first ACE, and those behind it.
+    fn split_first(self) -> Option<(PlacedAce<'a>, TextAces<'a>)>
+        ensures value { MatchOption result (aces_at self.entry.number self.entry.at self.entry.text.now ≡ [])
+            (λ r. aces_at self.entry.number self.entry.at self.entry.text.now
+            ≡ (record { number = r.0.number; at = r.0.at; text = r.0.text.now })
+            ∷ aces_at r.1.number r.1.at r.1.text.now) }
+        ensures shorter { IfSome result (λ r. length r.1.text.now < length self.entry.text.now) }
+    {
+        let Some((before, text)) = first_ace(self.text) else {
+            return None;
+        };
+        let ace = PlacedAce {
+            number: self.number,
+            at: self.at + before,
+            text,
+        };
+        let size = before + (text.len() + 2);
+        let left = TextAces {
+            number: self.number + 1,
+            at: self.at + size,
+            text: behind(self.text, size),
+        };
+        Some((ace, left))
+    }
 }
 
 /// The bytes before the first ACE, and its text.
@@ -41,6 +78,17 @@ pub(crate) fn first_ace(body: &[u8]) -> Option<(usize, &[u8])>
     Some((before, text))
 }
 
+fn aces_of(at: usize, body: &[u8]) -> TextAces<'_>
+    requires small { at + length body.now < 2 ^ 32 }
+    ensures { aces_at result.number result.at result.text.now ≡ aces_at 0 at body.now }
+{
+    TextAces {
+        number: 0,
+        at,
+        text: body,
+    }
+}
+
 /// The first field with a fault among those of the ACEs of a part.
 pub(crate) fn aces_fault(
     part: Part,
@@ -50,20 +98,14 @@ pub(crate) fn aces_fault(
 ) -> Option<(SddlFault, FaultPlace)>
     requires small { at + length body.now < 2 ^ 32 }
     ensures { result ≡ first_faulty (option_copied domain.entry)
-        (fields_in_aces part (aces_from 0 at (pieces_from false body.now).after)) }
+        (fields_in_aces part (aces_at 0 at body.now)) }
 {
-    let mut number = 0;
-    let mut at = at;
-    let mut rest = body;
-    while let Some((before, text)) = first_ace(rest) {
-        if let Some(found) = ace_fault(part, number, at + before, text, domain) {
+    let mut left = aces_of(at, body);
+    while let Some((ace, others)) = left.split_first() {
+        if let Some(found) = ace_fault(part, ace, domain) {
             return Some(found);
         }
-        let size = before + (text.len() + 2);
-        at += size;
-        let next = behind(rest, size);
-        rest = next;
-        number += 1;
+        left = others;
     }
     None
 }
@@ -71,29 +113,33 @@ pub(crate) fn aces_fault(
 // The first field with a fault of an ACE.
 fn ace_fault(
     part: Part,
-    number: u32,
-    at: usize,
-    text: &[u8],
+    ace: PlacedAce<'_>,
     domain: Option<&Sid>,
 ) -> Option<(SddlFault, FaultPlace)>
-    requires small { at + length text.now < 2 ^ 33 }
     ensures { result ≡ first_faulty (option_copied domain.entry)
-        (fields_in_ace part (record { number = number; at = at; text = text.now })) }
+        (fields_in_ace part (record { number = ace.entry.number; at = ace.entry.at; text = ace.entry.text.now })) }
 {
-    let kind = kind_in(until(text, before_byte(b';', text)));
+    let mut rest = ace.text;
+    let kind = kind_in(until(rest, before_byte(b';', rest)));
     let mut field = AceField::Kind;
-    let mut at = at + 1;
-    let mut rest = text;
+    let mut at = ace.at + 1;
     'fields: loop {
         let size = before_byte(b';', rest);
-        if let Some(fault) = slot_fault(Slot::Ace(field), kind, until(rest, size), domain) {
+        let cut = until(rest, size);
+        if let Some(fault) = slot_fault(Slot::Ace(field), kind, cut, domain) {
             return Some((
                 fault,
-                place(Some(part), Some(number), Some(name_of(field)), at, size),
+                place(
+                    Some(part),
+                    Some(ace.number),
+                    Some(name_of(field)),
+                    at,
+                    cut.len(),
+                ),
             ));
         }
         let (_, tail) = behind(rest, size).split_first()?;
-        at += size + 1;
+        at += cut.len() + 1;
         rest = tail;
         field = next_field(field);
     }
@@ -110,27 +156,16 @@ fn kind_in(text: &[u8]) -> AceKind
 pub(crate) fn passing<'a>(at: usize, body: &'a [u8], domain: Option<&Sid>) -> Option<PlacedAce<'a>>
     requires small { at + length body.now < 2 ^ 32 }
     ensures value { option_map (λ a. record { number = a.number; at = a.at; text = a.text.now }) result
-        ≡ passing (option_copied domain.entry) 8 (aces_from 0 at (pieces_from false body.now).after) }
-    ensures short { IfSome result (λ a. length a.text.now < 2 ^ 32) }
+        ≡ passing (option_copied domain.entry) 8 (aces_at 0 at body.now) }
 {
     let mut total = ACL_HEADER_SIZE;
-    let mut number = 0;
-    let mut at = at;
-    let mut rest = body;
-    while let Some((before, text)) = first_ace(rest) {
-        total += size_in(text, domain);
+    let mut left = aces_of(at, body);
+    while let Some((ace, others)) = left.split_first() {
+        total += size_in(ace.text, domain);
         if total > MOST_ACL_SIZE {
-            return Some(PlacedAce {
-                number,
-                at: at + before,
-                text,
-            });
+            return Some(ace);
         }
-        let size = before + (text.len() + 2);
-        at += size;
-        let next = behind(rest, size);
-        rest = next;
-        number += 1;
+        left = others;
     }
     None
 }

@@ -1,7 +1,6 @@
 //! How far something goes at the front of a text.
 
-ghost use Rattle.std.specs.Prelude.{◌≡◌, ◌≤◌, ◌+◌, length, drop, take, false};
-ghost use Rattle.std.specs.Option.{is_none};
+ghost use Rattle.std.specs.Prelude.{◌≡◌, ◌≤◌, length, drop, take, false};
 ghost use Rattle.sd_sddl_builder.specs.Line.{trim, trim_end};
 ghost use Rattle.sd_sddl_places.specs.Fields.{blanks_before};
 ghost use Rattle.sd_sddl_places.specs.Inner.Cutting.{before_byte, before_head, front_head, head_in, trim_start};

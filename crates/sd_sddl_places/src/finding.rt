@@ -1,6 +1,6 @@
 //! The place of the first fault of a text.
 
-ghost use Rattle.std.specs.Prelude.{◌≡◌, ◌≤◌, ◌<◌, ◌^◌, ◌==◌, ◌&&◌, length, false, true, IfSome};
+ghost use Rattle.std.specs.Prelude.{◌≡◌, ◌<◌, ◌^◌, ◌==◌, ◌&&◌, length, false, true, IfSome};
 ghost use Rattle.std.specs.Option.{option_copied, option_map};
 ghost use Rattle.std.specs.Result.{result_err};
 ghost use Rattle.std.specs.Prelude.{if◌then◌else◌, None, Some};
@@ -8,12 +8,13 @@ ghost use Rattle.sd_sddl_builder.specs.Line.{is_paired, is_shaped};
 ghost use Rattle.sd_sddl_builder.specs.Meaning.{means};
 ghost use Rattle.sd_sddl_places.specs.Fields.{parts_in};
 ghost use Rattle.sd_sddl_places.specs.Places.{character_of, character_size, place_at, place_in_parts, place_of_shape};
+ghost use Rattle.sd_sddl_places.specs.Inner.Cutting.{parts_from};
 ghost use Rattle.sd_sddl_places.specs.Shape.{IsReach, is_ended};
 ghost use Rattle.sd_sddl_places.specs.Places.{IsAtFirst, place_of_sddl_fault};
 
 use crate::cutting::{before_head, behind, until};
 use crate::fields::{name_of, place};
-use crate::parts::{first_faulty, first_large, second_head};
+use crate::parts::{TextParts, first_faulty, first_large, second_head};
 use crate::shape::{Front, Stand, is_ended, walk};
 use sd_fault_places::{FaultPlace, Field};
 use sd_parts::Part;
@@ -60,20 +61,32 @@ fn is_whole(reach: usize, front: Front, text: &[u8]) -> bool
     is_ended(front)
 }
 
+// The parts of a text, from its first head on.
+fn parts_of(text: &[u8]) -> TextParts<'_>
+    requires small { length text.now < 2 ^ 32 }
+    requires paired { is_paired false text.now ≡ true }
+    ensures { parts_from result.at result.text.now ≡ parts_in text.now }
+{
+    let at = before_head(text);
+    TextParts {
+        at,
+        text: behind(text, at),
+    }
+}
+
 fn place_in_parts(text: &[u8], domain: Option<&Sid>) -> Option<(SddlFault, FaultPlace)>
     requires small { length text.now < 2 ^ 32 }
     requires paired { is_paired false text.now ≡ true }
     ensures { result ≡ place_in_parts (option_copied domain.entry) (parts_in text.now) }
 {
-    let at = before_head(text);
-    let parts = behind(text, at);
-    if let Some(place) = second_head(at, parts) {
+    let parts = parts_of(text);
+    if let Some(place) = second_head(parts) {
         return Some((SddlFault::PartTwice, place));
     }
-    if let Some(found) = first_faulty(at, parts, domain) {
+    if let Some(found) = first_faulty(parts, domain) {
         return Some(found);
     }
-    first_large(at, parts, domain)
+    first_large(parts, domain)
 }
 
 fn place_at(stand: Stand, offset: usize, size: usize) -> FaultPlace

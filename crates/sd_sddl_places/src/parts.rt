@@ -1,13 +1,14 @@
 //! The parts of a shaped text.
 
 ghost use Rattle.std.specs.Prelude.{◌≡◌, ◌<◌, ◌+◌, ◌^◌, length, take, false, true, [], ◌∷◌, None, Some};
+ghost use Rattle.std.specs.Prelude.{IfSome, MatchOption};
 ghost use Rattle.std.specs.Option.{option_copied};
 ghost use Rattle.std.specs.Str.{byte as char};
 ghost use Rattle.sd_parts.specs.Parts.{each_part};
 ghost use Rattle.sd_sddl_builder.specs.Line.{is_paired, pieces_from};
-ghost use Rattle.sd_sddl_places.specs.Fields.{fields_in, fields_in_body, front_field, placed};
+ghost use Rattle.sd_sddl_places.specs.Fields.{fields_in, fields_in_body, front_field};
 ghost use Rattle.sd_sddl_places.specs.Places.{first_faulty, first_large, large_in, second_head};
-ghost use Rattle.sd_sddl_places.specs.Inner.Cutting.{before_byte, parts_at};
+ghost use Rattle.sd_sddl_places.specs.Inner.Cutting.{before_byte, parts_from};
 
 use crate::aces::{aces_fault, first_ace, passing};
 use crate::cutting::{before_byte, before_head, behind, front_head, trim, until};
@@ -18,93 +19,111 @@ use sd_parts::{Part, Parts};
 use sd_sddl_builder::{Head, SddlFault, Slot};
 use sd_sid::Sid;
 
-/// The first head whose letter an earlier head has, in a text from its first head on.
-pub(crate) fn second_head(at: usize, text: &[u8]) -> Option<FaultPlace>
-    requires small { at + length text.now < 2 ^ 32 }
-    requires paired { is_paired false text.now ≡ true }
-    ensures { result ≡ second_head (each_part false) (placed at (parts_at text.now)) }
+/// A part of a text: its head, the place of that, and the text behind its colon.
+#[derive(Clone, Copy)]
+struct TextPart<'a> {
+    head: Head,
+    at: usize,
+    body: &'a [u8],
+    ghost small: { at + 2 + length body.now < 2 ^ 32 },
+}
+
+/// The parts that are left of a text, and the place of the first one.
+#[derive(Clone, Copy)]
+pub(crate) struct TextParts<'a> {
+    pub at: usize,
+    pub text: &'a [u8],
+    ghost small: { at + length text.now < 2 ^ 32 },
+    ghost paired: { is_paired false text.now ≡ true },
+}
+
+impl<'a> TextParts<'a> {
+    // The first part, and those behind it.
+    fn split_first(self) -> Option<(TextPart<'a>, TextParts<'a>)>
+        ensures value { MatchOption result (parts_from self.entry.at self.entry.text.now ≡ [])
+            (λ r. parts_from self.entry.at self.entry.text.now
+            ≡ (record { head = r.0.head; at = r.0.at; body = (pieces_from false r.0.body.now).after })
+            ∷ parts_from r.1.at r.1.text.now) }
+        ensures shorter { IfSome result (λ r. length r.1.text.now < length self.entry.text.now) }
+    {
+        let Some(head) = front_head(self.text) else {
+            return None;
+        };
+        let after = behind(self.text, 2);
+        let size = before_head(after);
+        let part = TextPart {
+            head,
+            at: self.at,
+            body: until(after, size),
+        };
+        let left = TextParts {
+            at: self.at + (size + 2),
+            text: behind(after, size),
+        };
+        Some((part, left))
+    }
+}
+
+/// The first head whose letter an earlier head has.
+pub(crate) fn second_head(parts: TextParts<'_>) -> Option<FaultPlace>
+    ensures { result ≡ second_head (each_part false) (parts_from parts.entry.at parts.entry.text.now) }
 {
     let mut seen = Parts::each(false);
-    let mut at = at;
-    let mut rest = text;
-    while let Some(head) = front_head(rest) {
-        let part = Part::from(head);
-        if seen.get(part) {
-            return Some(place(Some(part), None, None, at, 2));
+    let mut left = parts;
+    while let Some((part, others)) = left.split_first() {
+        let name = Part::from(part.head);
+        if seen.get(name) {
+            return Some(place(Some(name), None, None, part.at, 2));
         }
-        seen.set(part, true);
-        let body = behind(rest, 2);
-        let size = before_head(body);
-        at += size + 2;
-        let next = behind(body, size);
-        rest = next;
+        seen.set(name, true);
+        left = others;
     }
     None
 }
 
 /// The first field with a fault.
 pub(crate) fn first_faulty(
-    at: usize,
-    text: &[u8],
+    parts: TextParts<'_>,
     domain: Option<&Sid>,
 ) -> Option<(SddlFault, FaultPlace)>
-    requires small { at + length text.now < 2 ^ 32 }
-    requires paired { is_paired false text.now ≡ true }
-    ensures { result ≡ first_faulty (option_copied domain.entry) (fields_in (placed at (parts_at text.now))) }
+    ensures { result
+        ≡ first_faulty (option_copied domain.entry) (fields_in (parts_from parts.entry.at parts.entry.text.now)) }
 {
-    let mut at = at;
-    let mut rest = text;
-    while let Some(head) = front_head(rest) {
-        let body = behind(rest, 2);
-        let size = before_head(body);
-        if let Some(found) = body_fault(head, at + 2, until(body, size), domain) {
+    let mut left = parts;
+    while let Some((part, others)) = left.split_first() {
+        if let Some(found) = body_fault(part, domain) {
             return Some(found);
         }
-        at += size + 2;
-        let next = behind(body, size);
-        rest = next;
+        left = others;
     }
     None
 }
 
 /// The ACE with which an ACL is too large, of the first such ACL.
 pub(crate) fn first_large(
-    at: usize,
-    text: &[u8],
+    parts: TextParts<'_>,
     domain: Option<&Sid>,
 ) -> Option<(SddlFault, FaultPlace)>
-    requires small { at + length text.now < 2 ^ 32 }
-    requires paired { is_paired false text.now ≡ true }
-    ensures { result ≡ first_large (option_copied domain.entry) (placed at (parts_at text.now)) }
+    ensures { result ≡ first_large (option_copied domain.entry) (parts_from parts.entry.at parts.entry.text.now) }
 {
-    let mut at = at;
-    let mut rest = text;
-    while let Some(head) = front_head(rest) {
-        let body = behind(rest, 2);
-        let size = before_head(body);
-        if let Some(found) = large_in(head, at + 2, until(body, size), domain) {
+    let mut left = parts;
+    while let Some((part, others)) = left.split_first() {
+        if let Some(found) = large_in(part, domain) {
             return Some(found);
         }
-        at += size + 2;
-        let next = behind(body, size);
-        rest = next;
+        left = others;
     }
     None
 }
 
-fn large_in(
-    head: Head,
-    at: usize,
-    body: &[u8],
-    domain: Option<&Sid>,
-) -> Option<(SddlFault, FaultPlace)>
-    requires small { at + length body.now < 2 ^ 32 }
-    ensures { result ≡ large_in (option_copied domain.entry) at (pieces_from false body.now).after head }
+fn large_in(part: TextPart<'_>, domain: Option<&Sid>) -> Option<(SddlFault, FaultPlace)>
+    ensures { result ≡ large_in (option_copied domain.entry) (part.entry.at + 2)
+        (pieces_from false part.entry.body.now).after part.entry.head }
 {
-    match head {
+    match part.head {
         Head::Sid(_) => None,
         Head::Acl(which) => {
-            let ace = passing(at, body, domain)?;
+            let ace = passing(part.at + 2, part.body, domain)?;
             let place = place(
                 Some(Part::from(which)),
                 Some(ace.number),
@@ -118,17 +137,13 @@ fn large_in(
 }
 
 // The first field with a fault of a part.
-fn body_fault(
-    head: Head,
-    at: usize,
-    body: &[u8],
-    domain: Option<&Sid>,
-) -> Option<(SddlFault, FaultPlace)>
-    requires small { at + length body.now < 2 ^ 32 }
+fn body_fault(part: TextPart<'_>, domain: Option<&Sid>) -> Option<(SddlFault, FaultPlace)>
     ensures { result ≡ first_faulty (option_copied domain.entry)
-        (fields_in_body head at (pieces_from false body.now).after) }
+        (fields_in_body part.entry.head (part.entry.at + 2) (pieces_from false part.entry.body.now).after) }
 {
-    match head {
+    let at = part.at + 2;
+    let body = part.body;
+    match part.head {
         Head::Sid(part) => front_fault(Part::from(part), Slot::Sid(part), at, body, domain),
         Head::Acl(which) => {
             let part = Part::from(which);

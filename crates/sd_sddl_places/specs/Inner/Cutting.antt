@@ -3,8 +3,9 @@ use Rattle.std.specs.Prelude.{ℕ, suc, ◌&&◌, not, ◌==◌, Bool, false, if
 use Rattle.std.specs.Prelude.{Option, Some, None, is_some}
 use Rattle.std.specs.Str.{byte as char}
 use Rattle.sd_sddl_fields.specs.FieldTexts.{is_blank}
-use Rattle.sd_sddl_builder.specs.Line.{Section, head_of, open_after, sections_of}
+use Rattle.sd_sddl_builder.specs.Line.{Section, head_of, open_after, pieces_from, sections_of}
 use Rattle.sd_sddl_builder.specs.declared.slot.Head.{Head}
+use Rattle.sd_sddl_places.specs.Fields.{PlacedAce, PlacedPart, aces_from, placed}
 
 -- the bytes before the first such byte
 abbrev pub before_byte : ℕ → List ℕ → ℕ
@@ -37,6 +38,10 @@ section_at body (Some h) = record { head = h; body = (sections_of body).before }
 abbrev pub parts_at : List ℕ → List Section
 parts_at text = section_at (drop 2 text) (front_head text)
 
+-- and these with their places, from the text's own on
+abbrev pub parts_from : ℕ → List ℕ → List PlacedPart
+parts_from at text = placed at (parts_at text)
+
 -- a text without the blanks before it
 abbrev pub trim_start : List ℕ → List ℕ
 trim_start [] = []
@@ -49,3 +54,7 @@ ace_at before (b ∷ bs) = Some (before, take (before_byte (char ")") bs) bs)
 
 abbrev pub first_ace : List ℕ → Option (ℕ × List ℕ)
 first_ace text = ace_at (before_byte (char "(") text) (drop (before_byte (char "(") text) text)
+
+-- the ACEs of a text outside parentheses, with their places
+abbrev pub aces_at : ℕ → ℕ → List ℕ → List PlacedAce
+aces_at number at text = aces_from number at (pieces_from false text).after

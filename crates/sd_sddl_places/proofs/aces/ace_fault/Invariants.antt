@@ -7,11 +7,11 @@ use Rattle.sd_sddl_places.proofs.aces.ace_fault.Given as goal
 
 abbrev pub invariant-fields : goal.invariant-fields
 invariant-fields l = record {
-  same : first_faulty (option_copied l.domain) (cuts_from l.part l.number l.kind l.at l.field
+  same : first_faulty (option_copied l.domain) (cuts_from l.part l.ace.number l.kind l.at l.field
       (cut_at_semicolons l.rest).first (cut_at_semicolons l.rest).others)
       ≡ first_faulty (option_copied l.domain)
-      (fields_in_ace l.part (record { number = l.number; at = l.fn.at; text = l.text }));
-  at : l.at + length l.rest ≤ l.fn.at + 1 + length l.text;
+      (fields_in_ace l.part (record { number = l.ace.number; at = l.ace.at; text = l.ace.text.now }));
+  at : l.at + length l.rest ≤ l.ace.at + 1 + length l.ace.text.now;
 }
 
 abbrev pub decreases-fields : goal.decreases-fields

@@ -1,19 +1,14 @@
-use Rattle.std.proofs.Common.{◌≡◌, ◌≤◌, ◌+◌, ◌*◌, false, length}
+use Rattle.std.proofs.Common.{◌≡◌, length}
 use Rattle.std.specs.Option.{option_copied}
-use Rattle.sd_sddl_builder.specs.Line.{pieces_from}
-use Rattle.sd_sddl_places.specs.Fields.{aces_from, fields_in_aces}
+use Rattle.sd_sddl_places.specs.Fields.{fields_in_aces}
 use Rattle.sd_sddl_places.specs.Places.{first_faulty}
+use Rattle.sd_sddl_places.specs.Inner.Cutting.{aces_at}
 use Rattle.sd_sddl_places.proofs.aces.aces_fault.Given as goal
 
-abbrev pub invariant-loop-before : goal.invariant-loop-before
-invariant-loop-before l = record {
-  same : first_faulty (option_copied l.domain) (fields_in_aces l.part (aces_from l.number l.at
-      (pieces_from false l.rest).after))
-      ≡ first_faulty (option_copied l.domain) (fields_in_aces l.part (aces_from 0 l.fn.at
-      (pieces_from false l.body).after));
-  at : l.at + 2 * length l.rest ≤ l.fn.at + 2 * length l.body;
-  number : l.number + length l.rest ≤ length l.body;
-}
+abbrev pub invariant-loop-ace : goal.invariant-loop-ace
+invariant-loop-ace l =
+    first_faulty (option_copied l.domain) (fields_in_aces l.part (aces_at l.left.number l.left.at l.left.text.now))
+    ≡ first_faulty (option_copied l.domain) (fields_in_aces l.part (aces_at 0 l.at l.body))
 
-abbrev pub decreases-loop-before : goal.decreases-loop-before
-decreases-loop-before l = length l.rest
+abbrev pub decreases-loop-ace : goal.decreases-loop-ace
+decreases-loop-ace l = length l.left.text.now

@@ -1,18 +1,15 @@
-use Rattle.std.proofs.Common.{◌≡◌, ◌≤◌, ◌+◌, ◌*◌, false, length}
+use Rattle.std.proofs.Common.{◌≡◌, ◌≤◌, length}
 use Rattle.std.specs.Option.{option_copied}
-use Rattle.sd_sddl_builder.specs.Line.{pieces_from}
-use Rattle.sd_sddl_places.specs.Fields.{aces_from}
 use Rattle.sd_sddl_places.specs.Places.{passing}
+use Rattle.sd_sddl_places.specs.Inner.Cutting.{aces_at}
 use Rattle.sd_sddl_places.proofs.aces.passing.Given as goal
 
-abbrev pub invariant-loop-before : goal.invariant-loop-before
-invariant-loop-before l = record {
-  same : passing (option_copied l.domain) l.total (aces_from l.number l.at (pieces_from false l.rest).after)
-      ≡ passing (option_copied l.domain) 8 (aces_from 0 l.fn.at (pieces_from false l.body).after);
-  at : l.at + 2 * length l.rest ≤ l.fn.at + 2 * length l.body;
-  number : l.number + length l.rest ≤ length l.body;
+abbrev pub invariant-loop-ace : goal.invariant-loop-ace
+invariant-loop-ace l = record {
+  same : passing (option_copied l.domain) l.total (aces_at l.left.number l.left.at l.left.text.now)
+      ≡ passing (option_copied l.domain) 8 (aces_at 0 l.at l.body);
   total : l.total ≤ 65535;
 }
 
-abbrev pub decreases-loop-before : goal.decreases-loop-before
-decreases-loop-before l = length l.rest
+abbrev pub decreases-loop-ace : goal.decreases-loop-ace
+decreases-loop-ace l = length l.left.text.now

@@ -1,11 +1,11 @@
-use Rattle.std.proofs.Common.{arith}
+use Rattle.std.proofs.Common.{◌+◌, arith}
 use Rattle.std.specs.Option.{option_copied}
 use Rattle.sd_sddl_places.proofs.Steps.{acl-body, sid-body}
 use Rattle.sd_sddl_places.proofs.parts.body_fault.Goals as goal
 
 pub returns-in-Some : goal.returns-in-Some
 returns-in-Some c =
-    let all = acl-body (option_copied c.args.domain) c.args.at c.args.body.now c.in-Acl.which in
+    let all = acl-body (option_copied c.args.domain) (c.args.part.at + 2) c.args.part.body.now c.in-Acl.which in
     grind (
       arith,
       all,
@@ -19,12 +19,12 @@ returns-in-Some c =
 
 pub returns-in-Sid : goal.returns-in-Sid
 returns-in-Sid c =
-    let all = sid-body (option_copied c.args.domain) c.args.at c.args.body.now c.in-Sid.part in
+    let all = sid-body (option_copied c.args.domain) (c.args.part.at + 2) c.args.part.body.now c.in-Sid.part in
     grind (arith, all, c.in-Sid.is, c.from.ensures, c.front_fault.ensures)
 
 pub returns-in_default : goal.returns-in_default
 returns-in_default c =
-    let all = acl-body (option_copied c.args.domain) c.args.at c.args.body.now c.in-Acl.which in
+    let all = acl-body (option_copied c.args.domain) (c.args.part.at + 2) c.args.part.body.now c.in-Acl.which in
     grind (
       arith,
       all,
