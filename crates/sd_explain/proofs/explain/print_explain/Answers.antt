@@ -1,6 +1,6 @@
 use Rattle.sd_sink.proofs.laws.PrintLemmas.{prints_then}
 use Rattle.sd_explain.specs.Explain.{explain}
-use Rattle.sd_explain.proofs.explain.print_lines.Goals as goal
+use Rattle.sd_explain.proofs.explain.print_explain.Goals as goal
 
 pub returns-clause-printed : goal.returns-clause-printed
 unfolding explain
@@ -12,4 +12,4 @@ returns-clause-printed g c =
     let dacl = rw c.dacl.ensures at c.print_acl.ensures in
     let sacl = rw c.sacl.ensures at c.print_acl-2.ensures in
     let acls = prints_then dacl (prints_then sacl c.put.ensures) in
-    prints_then control (prints_then rm (prints_then owner (prints_then group acls)))
+    rw (← c.copied.ensures) (prints_then control (prints_then rm (prints_then owner (prints_then group acls))))
