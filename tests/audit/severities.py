@@ -18,6 +18,10 @@ SPELLED = {**BITS, "LC": 0x4, "RP": 0x10, "LO": 0x80, "SD": 0x10000, "RC": 0x200
 CLASSES = ("user", "computer", "group", "organizationalUnit", "domainDNS", "groupPolicyContainer",
            "pKICertificateTemplate", "container", "msDS-GroupManagedServiceAccount", "server", "serversContainer",
            "msDS-DelegatedManagedServiceAccount")
+GIVEN = "given-by-windows"
+# What Windows gives to whoever logs on at the machine, beside rights that it doesn't give.
+MIXED = ("O:BAG:BAD:(A;;CC;;;BA)(A;;CC;;;IU)(A;;WD;;;IU)", "O:BAG:BAD:(A;;0x4001f;;;IU)(A;;CC;;;IU)",
+         "O:BAG:BAD:(A;;0x4001f;;;BU)(A;;CC;;;IU)")
 
 
 def kinds():
@@ -163,17 +167,21 @@ def judge_fewer(place, what, of_all, fewer, kept):
         told = max((SEVERITIES.index(severity) for *_, severity in of_all[name]), default=-1)
         place.expect([one for one in got if SEVERITIES.index(one[2]) > told], [],
                      f"{what} of {name}: graver than {of_all[name]}")
+        if GIVEN in kept:
+            given, wanted = ([one for one in told_of if one[0] == GIVEN] for told_of in (found, of_all[name]))
+            place.expect(given, wanted, f"{what} of {name}: what Windows gives")
         is_other_told = any(rule not in kept for rule, *_ in of_all[name])
         place.expect([one for one in got if one not in own and not is_other_told], [],
                      f"{what} of {name}: new beside {of_all[name]}")
 
 
 def test_fewer_rules(place):
-    """One rule alone, and all but one, over the examples."""
+    """One rule alone, and all but one, over the examples and what is mixed."""
     rows = [*enumerate(table("examples")["rows"])]
     sources = []
     for kind in ("file", "folder", "service", "com"):
         of_kind = [(f"{at}", row["sddl"]) for at, row in rows if row["kind"] == kind]
+        of_kind += [(text, text) for text in MIXED if kind == "com"]
         sources.append((place.table(of_kind, f"{kind}.csv"), ("--type", kind), all_rules()[:-len(names())]))
     text = "".join(abilities.entry_text(f"CN={at},CN=x", row["place"].split(","), row["sddl"])
                    for at, row in rows if row["kind"] == "ds" and "place" in row)

@@ -327,8 +327,8 @@ class Risks:
             case = case._replace(whole=self._view(views, descriptor, kind, range(1, len(descriptor.aces) + 1)))
         for sid in given:
             case.whole.ask(sid)
-        is_more = asked or below or case.owner or given and are_fewer
-        return self._asked(views, descriptor, kind, case, kept) if is_more else case
+        has_questions = asked or below or case.owner or given and are_fewer
+        return self._asked(views, descriptor, kind, case, kept) if has_questions else case
 
     @staticmethod
     def _view(views: _Views, descriptor: Descriptor, kind: str, numbers: Sequence[int]) -> _View:
