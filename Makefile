@@ -74,7 +74,7 @@ $(PROGRAM): $(SOURCES)
 
 library: $(LIBRARY)
 
-$(LIBRARY): $(SOURCES) packaging/library.sh packaging/library.map
+$(LIBRARY): $(SOURCES) packaging/library.sh packaging/library.map packaging/describe.sh
 	$(need_toolchain)
 	@tools/prove.py sdtool_c lib
 	packaging/library.sh

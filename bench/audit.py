@@ -23,7 +23,6 @@ import os
 import pathlib
 import re
 import resource
-import shutil
 import statistics
 import subprocess
 import sys
@@ -32,6 +31,8 @@ import threading
 import time
 
 sys.dont_write_bytecode = True
+import generate  # noqa: E402,F401  (which finds the folder of the tests)
+import preload  # noqa: E402
 import results  # noqa: E402
 
 TOP = pathlib.Path(__file__).resolve().parent.parent
@@ -128,14 +129,6 @@ def measured(what, objects, runs):
           f"{max(run.memory for run in runs) / 1e6:8.0f} MB   {runs[-1].told}", flush=True)
 
 
-def python_with_packages():
-    for python in (sys.executable, "/usr/bin/python3"):
-        if shutil.which(python) and subprocess.run([python, "-c", "import click, rich"], cwd="/",
-                                                   stderr=subprocess.DEVNULL).returncode == 0:
-            return python
-    sys.exit("bench: no Python here has click and rich")
-
-
 def main():
     parser = argparse.ArgumentParser(description="Measures sdtool-audit on exports of a file share.")
     parser.add_argument("--objects", type=int, default=100_000, help="of each export (%(default)s)")
@@ -146,7 +139,7 @@ def main():
     parser.add_argument("--no-database", action="store_true", help="no database is made")
     results.add_option(parser)
     wanted = parser.parse_args()
-    python = python_with_packages()
+    python = preload.python_with("click", "rich") or sys.exit("bench: no Python here has click and rich")
     folder = pathlib.Path(tempfile.gettempdir()) / "sdtool-bench"
     folder.mkdir(exist_ok=True)
     exports = {float(each): export_of(folder, wanted.objects, float(each)) for each in wanted.distinct.split(",")}

@@ -1,5 +1,5 @@
 #!/usr/bin/env python3
-"""distributed.py [PROGRAM] [--library FILE] [--megabytes N] [--rounds N] [--job WORD] [--write]
+"""distributed.py [PROGRAM] [--library FILE] [--megabytes N] [--rounds N] [--job WORD] [--many] [--write]
 
 Measures ways to answer one large file on one machine: one program (crates/sdtool/out/sdtool where none is given), GNU
 parallel with --pipepart, and sdtool.distributed over a scheduler with one, two and four workers. These are processes on
@@ -11,6 +11,9 @@ the median of the rounds, in each of which all ways run once; the start of Pytho
 costs is the time of one worker beyond that of one program, as a share of the latter. Traffic is what goes through the
 loopback device in a run: between driver, scheduler and workers, and of other programs of this machine. --job takes only
 the commands that have the word.
+
+Then come 10,000 files of a kilobyte, and two of 300 MB, cut from the input: xargs -P starts a program for each, and
+sdtool.distributed has as many workers. --many measures these alone. The load is that of the machine, before and after.
 
 It needs parallel, and Python with dask, distributed and fsspec (Debian: parallel, python3-dask, python3-distributed,
 python3-fsspec). Figures may be compared within one run, on a machine that does nothing else.
@@ -38,6 +41,8 @@ COMMANDS = [["convert"], ["check", "--token", "WD,AU,BU", "--want", "FW"], ["exp
             ["derive", "--kind", "file", "--owner", "BA", "--group", "BU"]]
 BLOCKS = 16  # of the input
 WORKERS = (1, 2, 4)
+# How many files, of how many bytes, and how many times as long as by xargs their answers may take.
+MANY = (10_000, 1000, 1.3), (2, 300_000_000, 2)
 ONE = "one program"
 
 
@@ -50,7 +55,7 @@ class Ways:
 
     def __init__(self, processes, program, given, folder):
         self.processes, self.program, self.given, self.folder = processes, program, given, folder
-        self.clusters, self.traffic = {}, {}
+        self.clusters, self.traffic, self.inputs = {}, {}, folder
         for workers in WORKERS:
             scheduler, address = self.clusters[workers] = processes.start_scheduler()
             for _ in range(workers):
@@ -88,6 +93,24 @@ class Ways:
         self.traffic[workers] = loopback_bytes() - before
         return out / self.given.name
 
+    def xargs(self, words):
+        """A program for each file of the inputs."""
+        out = self.folder / "xargs"
+        shutil.rmtree(out, ignore_errors=True)
+        out.mkdir()
+        one = f"{shlex.join([self.program, *words])} < @ > {out}/@; [ $? -lt 2 ]"
+        with subprocess.Popen(["ls"], cwd=self.inputs, stdout=subprocess.PIPE) as names:
+            command = ["xargs", "-P", str(WORKERS[-1]), "-I@", "sh", "-c", one]
+            subprocess.run(command, stdin=names.stdout, cwd=self.inputs, check=True)
+        return out
+
+    def distributed_many(self, words):
+        out = self.folder / "distributed"
+        shutil.rmtree(out, ignore_errors=True)
+        self.run([self.processes.python, "-m", "sdtool.distributed", "--scheduler", self.clusters[WORKERS[-1]][1],
+                  "--out", str(out), *words, "--", str(self.inputs)], stdout=subprocess.DEVNULL)
+        return out
+
     def all(self):
         yield ONE, self.one_program
         yield "parallel --pipepart", self.parallel
@@ -100,6 +123,43 @@ class Ways:
         return 1024 * int(re.search(r"VmHWM:\s*(\d+)", status)[1])
 
 
+def is_same(wanted, path):
+    """Whether two files are equal, or the files of two folders but for the records of a run."""
+    if wanted.is_file():
+        return filecmp.cmp(wanted, path, shallow=False)
+    names = sorted(os.listdir(wanted))
+    _, *others = filecmp.cmpfiles(wanted, path, names, shallow=False)
+    return not any(others) and names == sorted(name for name in os.listdir(path) if name != "_sdtool")
+
+
+def cut(given, folder, count, size):
+    """Files of so many bytes, but for the rest of their last lines, in a folder."""
+    shutil.rmtree(folder, ignore_errors=True)
+    folder.mkdir()
+    with open(given, "rb") as lines:
+        for number in range(count):
+            (folder / str(number)).write_bytes(lines.read(size) + lines.readline())
+    return folder
+
+
+def measure_many(ways, words, rounds):
+    """Gives whether all files had the same answers."""
+    for count, size, most in MANY:
+        ways.inputs = cut(ways.given, ways.folder / "inputs", count, size)
+        pair = (f"xargs -P {WORKERS[-1]}", ways.xargs), (f"sdtool.distributed, {WORKERS[-1]}", ways.distributed_many)
+        medians = measure(pair, words, rounds)
+        if medians is None:
+            return False
+        one, other = medians.values()
+        print(f"sdtool {shlex.join(words)}, {count:,} files of {size:,} bytes: {one:.2f} s by xargs -P {WORKERS[-1]}, "
+              f"{other:.2f} s by sdtool.distributed with as many workers, {other / one:.2f} times; {most} is the most")
+    return True
+
+
+def load():
+    return " ".join(f"{each:.1f}" for each in os.getloadavg())
+
+
 def measure(ways, words, rounds):
     """The median of each way's seconds, or None where answers differ."""
     taken = {name: [] for name, _ in ways}
@@ -108,10 +168,10 @@ def measure(ways, words, rounds):
             began = time.monotonic()
             path = way(words)
             taken[name].append(time.monotonic() - began)
-            if name == ONE:
+            if name == ways[0][0]:
                 wanted = path
-            elif not filecmp.cmp(wanted, path, shallow=False):
-                print(f"{name}: other answers than those of one program")
+            elif not is_same(wanted, path):
+                print(f"{name}: other answers than those of {ways[0][0]}")
                 return None
     return {name: statistics.median(seconds) for name, seconds in taken.items()}
 
@@ -135,12 +195,13 @@ def main():
     parser.add_argument("--megabytes", type=int, default=1000, help="of the input (%(default)s)")
     parser.add_argument("--rounds", type=int, default=3, help="(%(default)s)")
     parser.add_argument("--job", default="", help="takes only the commands that have this word")
+    parser.add_argument("--many", action="store_true", help="measures many files alone")
     results.add_option(parser)
     wanted = parser.parse_args()
     for path in wanted.program, wanted.library:
         if not os.path.exists(path):
             sys.exit(f"bench: there is no {path}; 'make program' and 'make library' build both")
-    if not shutil.which("parallel"):
+    if not wanted.many and not shutil.which("parallel"):
         sys.exit("bench: there is no parallel on the PATH")
     folder = pathlib.Path(tempfile.gettempdir()) / "sdtool-bench"
     folder.mkdir(exist_ok=True)
@@ -153,12 +214,15 @@ def main():
         try:
             ways = Ways(processes, wanted.program, given, pathlib.Path(name))
             print(f"{given.stat().st_size / 1e6:.0f} MB, {run.lines_in(given):,} lines, {os.cpu_count()} processors, "
-                  f"medians of {wanted.rounds} rounds")
-            for words in (words for words in COMMANDS if wanted.job in shlex.join(words)):
+                  f"medians of {wanted.rounds} rounds; load before: {load()}")
+            for words in (words for words in COMMANDS if wanted.job in shlex.join(words) and not wanted.many):
                 medians = measure(list(ways.all()), words, wanted.rounds)
                 if medians is None:
                     return 1
                 show(ways, words, given.stat().st_size, medians)
+            if not measure_many(ways, COMMANDS[0], wanted.rounds):
+                return 1
+            print(f"load after: {load()}")
         finally:
             processes.end_all()
     return 0

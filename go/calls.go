@@ -5,6 +5,18 @@ package sdtool
 // #cgo LDFLAGS: -lsdtool
 // #include <sdtool.h>
 // #include <stdlib.h>
+// enum { token_first = SDTOOL_TOKEN_WORDS(0), token_each = SDTOOL_TOKEN_WORDS(1) - SDTOOL_TOKEN_WORDS(0) };
+//
+// // The struct is made here, since Go gives C no memory with pointers of Go.
+// static inline struct sdtool_outcome convert_many(const uint8_t *data, size_t data_size, const uint64_t *offsets,
+//                                                  size_t offset_count, const uint8_t *domain, size_t domain_size,
+//                                                  size_t begin, uint32_t kind, uint32_t options, uint8_t *out,
+//                                                  size_t out_size, uint64_t *ends, struct sdtool_outcome *outcomes)
+// {
+//     struct sdtool_large_conversion asked = {{data, data_size}, offsets, offset_count, {domain, domain_size}, begin,
+//                                             kind, options};
+//     return sdtool_convert_many_large(&asked, out, out_size, ends, offset_count, outcomes, offset_count - 1);
+// }
 import "C"
 
 import "unsafe"
@@ -133,7 +145,8 @@ func faultOfACE(told *outcome, text, domain string) error {
 	within := head + text
 	place := C.sdtool_sddl_place(at(within), size(within), at(domain), size(domain))
 	place.place.offset -= C.size_t(atMost(len(head), int(place.place.offset)))
-	if place.part == C.SDTOOL_DACL {
+	// A second head is in the text itself.
+	if place.part == C.SDTOOL_DACL && place.fault != C.SDTOOL_FAULT_PART_TWICE {
 		place.part, place.ace = C.SDTOOL_NO_PART, C.SDTOOL_NO_ACE
 	}
 	return faultOf(told, place)
@@ -419,7 +432,7 @@ func edit(bytes string, changes []Change) (string, []uint32, *outcome) {
 type words []C.uint32_t
 
 func tokenRead(sids, entries string) (words, *outcome) {
-	token := make(words, 2+20*atMost(len(entries), C.SDTOOL_MOST_SIDS))
+	token := make(words, C.token_first+C.token_each*atMost(len(entries), C.SDTOOL_MOST_SIDS))
 	told := C.sdtool_token_read(at(sids), size(sids), at(entries), size(entries), &token[0], C.size_t(len(token)))
 	if told.fault != C.SDTOOL_OK {
 		return nil, &told
@@ -495,6 +508,37 @@ func checkMany(descriptors [][]byte, sids, entries string, asked *question) ([]A
 		}
 	}
 	return answers, nil
+}
+
+// convertMany gives the answers to the rows of a column, where each ends, and what the library says of each row.
+func convertMany(kind Conversion, numeric bool, domain string, column *Column) (Column, []outcome, *outcome) {
+	rows := len(column.Offsets) - 1
+	if rows < 0 {
+		return Column{}, nil, &outcome{fault: C.SDTOOL_ARGUMENT, argument: C.SDTOOL_ARGUMENT_OFFSETS}
+	}
+	var options C.uint32_t
+	if numeric {
+		options = C.SDTOOL_NUMERIC
+	}
+	offset := func(offsets []int64, row int) *C.uint64_t { return (*C.uint64_t)(unsafe.Pointer(&offsets[row])) }
+	made := Column{make([]byte, len(column.Data)+1024), make([]int64, rows+1)}
+	outcomes := make([]outcome, rows+1)
+	for row := 0; ; {
+		told := C.convert_many(first(column.Data), C.size_t(len(column.Data)), offset(column.Offsets, row),
+			C.size_t(rows+1-row), at(domain), size(domain), C.size_t(made.Offsets[row]), C.uint32_t(kind), options,
+			first(made.Data), C.size_t(len(made.Data)), offset(made.Offsets, row), &outcomes[row])
+		switch told.fault {
+		case C.SDTOOL_OK:
+			made.Data = made.Data[:told.length]
+			return made, outcomes[:rows], nil
+		case C.SDTOOL_TOO_SMALL:
+			row += int(told.entry)
+			room := int(made.Offsets[row]) + int(told.length) + len(made.Data)
+			made.Data = append(make([]byte, 0, room), made.Data...)[:room]
+		default:
+			return Column{}, nil, &told
+		}
+	}
 }
 
 func reasonsWith(bytes string, token words, asked *question) (reasons [Rights]Reason, told *outcome) {

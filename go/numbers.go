@@ -74,6 +74,18 @@ const (
 	NewContainer NewKind = C.SDTOOL_KIND_CONTAINER
 )
 
+// A Conversion is what the rows of a column are converted to.
+type Conversion uint32
+
+const (
+	// ToSDDL converts descriptors to SDDL.
+	ToSDDL Conversion = C.SDTOOL_CONVERT_TO_SDDL
+	// FromSDDL converts SDDL to descriptors in their canonical layout.
+	FromSDDL Conversion = C.SDTOOL_CONVERT_FROM_SDDL
+	// Normalize converts descriptors to their canonical layout.
+	Normalize Conversion = C.SDTOOL_CONVERT_NORMALIZE
+)
+
 // Rights is how many rights a mask has.
 const Rights = C.SDTOOL_RIGHTS
 

@@ -46,6 +46,17 @@ func Example() {
 	// Output: S-1-5-32-544 true <nil>
 }
 
+func ExampleColumn_Convert() {
+	texts := sdtool.Column{Data: []byte("O:BAO:X:"), Offsets: []int64{0, 4, 8}}
+	found, faults, err := texts.Convert(sdtool.FromSDDL, sdtool.SID{}, false)
+	fmt.Println(found.Offsets, faults[1], err)
+	_, _, err = sdtool.Column{}.Convert(sdtool.Normalize, sdtool.SID{}, false)
+	fmt.Println(err)
+	// Output:
+	// [0 36 36] error 20 shape: parentheses, colons or the number of fields are wrong, at byte 3, the owner, SID <nil>
+	// offsets: error 70 argument: an argument beside the descriptor or the text is invalid
+}
+
 func ExampleFault() {
 	_, err := sdtool.Parse("D:(A;;FA;;;WD)(A;;FA;;;Everyone)")
 	var fault *sdtool.Fault

@@ -6,7 +6,7 @@
  * nothing that they allocate is left when they return. Do not call them from a signal handler. A process that a thread
  * forked may call them if it may call malloc, as with glibc.
  *
- * sdtool_run needs at most 56 KiB of stack, each other call at most 12 KiB, whatever its input is.
+ * sdtool_run needs at most 56 KiB of stack, each other call at most 14 KiB, whatever its input is.
  *
  * How this header grows: the shared library's name has a number, libsdtool.so.0. Under one number no struct and no
  * function of this header changes, no number gets another meaning, and none is taken away; a version that needs such a
@@ -50,7 +50,10 @@ struct sdtool_outcome {
      * SDTOOL_ARGUMENT_CHANGES; else SDTOOL_NO_ARGUMENT.
      */
     uint32_t argument;
-    /* Which entry of that argument it is, from 0 on, if it is a list; else 0. */
+    /*
+     * Which entry of that argument it is, from 0 on, if it is a list; with SDTOOL_TOO_SMALL of sdtool_convert_many the
+     * row whose answer has no room; else 0.
+     */
     size_t entry;
     /* With SDTOOL_OK the length of the answer, and with SDTOOL_TOO_SMALL the size that it needs; else 0. */
     size_t length;
@@ -174,14 +177,18 @@ enum sdtool_argument {
     SDTOOL_ARGUMENT_TOKEN = 15,
     /* There are more than SDTOOL_MOST_CHANGES, or the change at ENTRY is none or can't be made. */
     SDTOOL_ARGUMENT_CHANGES = 16,
-    /* The options of a request, or of its asker, have a bit that means nothing. */
+    /* The options of a request, of its asker or of a conversion have a bit that means nothing. */
     SDTOOL_ARGUMENT_OPTIONS = 17,
     /* ACE is not the bytes of one ACE. */
     SDTOOL_ARGUMENT_ACE = 18,
     /* FLAGS has a bit that is no flag of an ACE. */
     SDTOOL_ARGUMENT_FLAGS = 19,
     /* GUID is not 16 bytes. */
-    SDTOOL_ARGUMENT_GUID = 20
+    SDTOOL_ARGUMENT_GUID = 20,
+    /* Of a row: its offsets decrease, or pass the end of the bytes. Of all rows: there is no room for as many. */
+    SDTOOL_ARGUMENT_OFFSETS = 21,
+    /* KIND is none of enum sdtool_conversion_kind. */
+    SDTOOL_ARGUMENT_CONVERSION = 22
 };
 
 enum sdtool_part {
@@ -683,6 +690,79 @@ struct sdtool_outcome sdtool_check_many(const struct sdtool_bytes *descriptors, 
                                         size_t principal_self_size, const struct sdtool_request *request,
                                         struct sdtool_verdict *verdicts, size_t verdict_count);
 
+/* What the rows of a column are converted to. */
+enum sdtool_conversion_kind {
+    /* Descriptors to SDDL, as by sdtool_to_sddl. */
+    SDTOOL_CONVERT_TO_SDDL = 0,
+    /* SDDL to descriptors, as by sdtool_from_sddl. */
+    SDTOOL_CONVERT_FROM_SDDL = 1,
+    /* Descriptors to their canonical layout, as by sdtool_normalize. */
+    SDTOOL_CONVERT_NORMALIZE = 2
+};
+
+/* The options of a conversion. */
+enum sdtool_conversion_option {
+    /* No aliases are printed. */
+    SDTOOL_NUMERIC = 1
+};
+
+/* A column of bytes or texts, as Arrow lays it out, and what its rows are converted to. */
+struct sdtool_conversion {
+    struct sdtool_bytes data;
+    /* One more than there are rows. Row I is the bytes of DATA from OFFSETS[I] up to OFFSETS[I + 1]. */
+    const uint32_t *offsets;
+    size_t offset_count;
+    /* Empty or a SID in binary, as for sdtool_to_sddl and sdtool_from_sddl. No other kind uses it. */
+    struct sdtool_bytes domain;
+    /* Where in OUT the first answer begins: 0, or where the answers of an earlier call end. */
+    size_t begin;
+    /* One of enum sdtool_conversion_kind. */
+    uint32_t kind;
+    /* SDTOOL_NUMERIC or 0. */
+    uint32_t options;
+};
+
+/* The same with offsets of 64 bits, as a large column has. */
+struct sdtool_large_conversion {
+    struct sdtool_bytes data;
+    const uint64_t *offsets;
+    size_t offset_count;
+    struct sdtool_bytes domain;
+    size_t begin;
+    uint32_t kind;
+    uint32_t options;
+};
+
+/*
+ * Converts each row of a column by itself. OUT gets the answers, one directly after the other, and OUT_OFFSETS gets
+ * BEGIN and the end of each answer, so they are a column again. OUTCOMES gets what the call for a single row tells,
+ * with the length of the answer. Where that is a fault, the answer is empty, and no other row changes. A row whose
+ * offsets decrease or pass the end of DATA, as negative ones do, has SDTOOL_ARGUMENT for its offsets, and nothing is
+ * read of it.
+ *
+ * With SDTOOL_OK all rows are answered, and LENGTH is where the last answer ends. With SDTOOL_TOO_SMALL the rows before
+ * ENTRY are answered, and the answer of this row, of LENGTH bytes, has no room in OUT behind OUT_OFFSETS[ENTRY]. To go
+ * on, call again with that offset as BEGIN, with OUT or a larger copy of it, and with OFFSETS, OUT_OFFSETS and OUTCOMES
+ * from ENTRY on. Of OUT_OFFSETS and OUTCOMES, what belongs to other rows is left as it was.
+ *
+ * SDTOOL_ARGUMENT comes first: for KIND, OPTIONS and DOMAIN in this order, and then for the offsets if OFFSETS is
+ * empty, OUT_OFFSETS has fewer numbers than OFFSETS, OUTCOMES has fewer than there are rows, or BEGIN passes the end of
+ * OUT. Then comes SDTOOL_NO_MEMORY: it allocates 131,226 bytes. After any of these nothing is written.
+ *
+ * Of DATA and OUT it uses at most 2,147,483,647 bytes, since Arrow's offsets of 32 bits have a sign.
+ *
+ * It knows nothing of nulls: a null is a row like any other, mostly an empty one. From SDDL an empty row gives a
+ * descriptor that grants everything, so a caller has to keep the nulls beside the answers.
+ */
+struct sdtool_outcome sdtool_convert_many(const struct sdtool_conversion *conversion, uint8_t *out, size_t out_size,
+                                          uint32_t *out_offsets, size_t out_offset_count,
+                                          struct sdtool_outcome *outcomes, size_t outcome_count);
+
+/* The same with offsets of 64 bits. It uses DATA and OUT whole. */
+struct sdtool_outcome sdtool_convert_many_large(const struct sdtool_large_conversion *conversion, uint8_t *out,
+                                                size_t out_size, uint64_t *out_offsets, size_t out_offset_count,
+                                                struct sdtool_outcome *outcomes, size_t outcome_count);
+
 /* How many numbers of 32 bits a token of so many SIDs takes. */
 #define SDTOOL_TOKEN_WORDS(sids) (2 + 20 * (size_t)(sids))
 
@@ -991,26 +1071,28 @@ struct sdtool_outcome sdtool_fault_text(uint32_t fault, uint8_t *text, size_t te
 /*
  * The size of each struct on a 64-bit machine, and the offsets of its members:
  *
- *     sdtool_outcome         32: 0 4 8 12 16 24
- *     sdtool_asker           12: 0 4 8
- *     sdtool_request         20: 0 12 16
- *     sdtool_verdict         40: 0 32 36
- *     sdtool_origin           4: 0 2 3
- *     sdtool_origins         48: 0 32 40
- *     sdtool_place           16: 0 8
- *     sdtool_acl_place       24: 0 4 8
- *     sdtool_contents       120: 0 32 34 40 56 72 96
- *     sdtool_fault_place     32: 0 4 8 12 16
- *     sdtool_ace             80: 0 4 8 12 13 16 32 48 64
- *     sdtool_number          40: 0 32
- *     sdtool_bytes           16: 0 8
- *     sdtool_reason           4: 0 2
- *     sdtool_new_ace         56: 0 16 32 48 52 53
- *     sdtool_new_acl         24: 0 8 16
- *     sdtool_new_descriptor  88: 0 16 32 56 80 82
- *     sdtool_change         208: 0 4 8 12 16 20 24 28 30 32 33 34 35 36 37 38 39 40 56 72 140
- *     sdtool_acl_order       40: 0 32 36
- *     sdtool_ending          24: 0 8 16
+ *     sdtool_outcome           32: 0 4 8 12 16 24
+ *     sdtool_asker             12: 0 4 8
+ *     sdtool_request           20: 0 12 16
+ *     sdtool_verdict           40: 0 32 36
+ *     sdtool_origin             4: 0 2 3
+ *     sdtool_origins           48: 0 32 40
+ *     sdtool_place             16: 0 8
+ *     sdtool_acl_place         24: 0 4 8
+ *     sdtool_contents         120: 0 32 34 40 56 72 96
+ *     sdtool_fault_place       32: 0 4 8 12 16
+ *     sdtool_ace               80: 0 4 8 12 13 16 32 48 64
+ *     sdtool_number            40: 0 32
+ *     sdtool_bytes             16: 0 8
+ *     sdtool_conversion        64: 0 16 24 32 48 56 60
+ *     sdtool_large_conversion  64: 0 16 24 32 48 56 60
+ *     sdtool_reason             4: 0 2
+ *     sdtool_new_ace           56: 0 16 32 48 52 53
+ *     sdtool_new_acl           24: 0 8 16
+ *     sdtool_new_descriptor    88: 0 16 32 56 80 82
+ *     sdtool_change           208: 0 4 8 12 16 20 24 28 30 32 33 34 35 36 37 38 39 40 56 72 140
+ *     sdtool_acl_order         40: 0 32 36
+ *     sdtool_ending            24: 0 8 16
  */
 
 #ifdef __cplusplus

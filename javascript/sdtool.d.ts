@@ -342,7 +342,7 @@ export interface Sdtool {
     /** The text in SDDL of the bytes of an ACE. */
     aceToText(ace: Uint8Array, options?: TextOptions): string;
     /** The ACE at the front of some bytes, and how many bytes it has. */
-    aceRead(bytes: Uint8Array): Ace&{size: number};
+    aceRead(bytes: Uint8Array): {ace: Ace; size: number};
     /** The access mask that the rights of an ACE mean in SDDL. */
     rightsFromText(text: string): number;
     /** The rights of an ACE in SDDL: of a mandatory label, or of any other kind. */

@@ -16,10 +16,68 @@
 // The module's bytes in base64, where one file has all; else the file sdtool.wasm is beside this one.
 const EMBEDDED = "";
 
-const OK = 0, ARGUMENT = 70, TOO_SMALL = 71, NO_MEMORY = 72;
-const STATUS_STOPPED = 3, STATUS_NO_MEMORY = 4;
-const PARTS = [null, "owner", "group", "sacl", "dacl"];
-const FIELDS = [null, "kind", "flags", "rights", "object type", "inherited object type", "sid", "size"];
+// What is written from sdtool.h: the structs as sdtool.wasm has them, with 32 bits, and the numbers that are used here.
+const OUTCOME_FAULT_AT = 0, OUTCOME_PART_AT = 4, OUTCOME_OTHER_PART_AT = 8, OUTCOME_ARGUMENT_AT = 12,
+      OUTCOME_ENTRY_AT = 16, OUTCOME_LENGTH_AT = 20, SIZE_OF_OUTCOME = 24, ASKER_MAPPING_AT = 0, ASKER_LEVEL_AT = 4,
+      ASKER_OPTIONS_AT = 8, REQUEST_WANTED_AT = 12, REQUEST_OPTIONS_AT = 16, VERDICT_MASK_AT = 24,
+      VERDICT_GRANTED_AT = 28, SIZE_OF_VERDICT = 32, ORIGIN_PLACE_AT = 0, ORIGIN_FROM_CREATOR_AT = 2,
+      ORIGIN_INHERIT_ONLY_AT = 3, SIZE_OF_ORIGIN = 4, ORIGINS_SACL_COUNT_AT = 24, ORIGINS_DACL_COUNT_AT = 28,
+      PLACE_OFFSET_AT = 0, PLACE_SIZE_AT = 4, ACL_PLACE_STATE_AT = 0, ACL_PLACE_PLACE_AT = 8, CONTENTS_CONTROL_AT = 24,
+      CONTENTS_RESOURCE_MANAGER_AT = 26, CONTENTS_OWNER_AT = 28, CONTENTS_GROUP_AT = 36, CONTENTS_SACL_AT = 44,
+      CONTENTS_DACL_AT = 60, FAULT_PLACE_FAULT_AT = 0, FAULT_PLACE_PART_AT = 4, FAULT_PLACE_ACE_AT = 8,
+      FAULT_PLACE_FIELD_AT = 12, FAULT_PLACE_PLACE_AT = 16, SIZE_OF_FAULT_PLACE = 24, ACE_FAULT_AT = 0, ACE_MASK_AT = 4,
+      ACE_KIND_AT = 12, ACE_FLAGS_AT = 13, ACE_PLACE_AT = 16, ACE_OBJECT_TYPE_AT = 24,
+      ACE_INHERITED_OBJECT_TYPE_AT = 32, ACE_SID_AT = 40, SIZE_OF_ACE = 48, NUMBER_NUMBER_AT = 24, BYTES_BYTES_AT = 0,
+      BYTES_SIZE_AT = 4, SIZE_OF_BYTES = 8, REASON_KIND_AT = 0, REASON_PLACE_AT = 2, SIZE_OF_REASON = 4,
+      NEW_ACE_SID_AT = 0, NEW_ACE_OBJECT_TYPE_AT = 8, NEW_ACE_INHERITED_OBJECT_TYPE_AT = 16, NEW_ACE_MASK_AT = 24,
+      NEW_ACE_KIND_AT = 28, NEW_ACE_FLAGS_AT = 29, SIZE_OF_NEW_ACE = 32, NEW_ACL_ACES_AT = 0, NEW_ACL_ACE_COUNT_AT = 4,
+      NEW_ACL_STATE_AT = 8, NEW_DESCRIPTOR_OWNER_AT = 0, NEW_DESCRIPTOR_GROUP_AT = 8, NEW_DESCRIPTOR_SACL_AT = 16,
+      NEW_DESCRIPTOR_DACL_AT = 28, NEW_DESCRIPTOR_CONTROL_AT = 40, NEW_DESCRIPTOR_RESOURCE_MANAGER_AT = 42,
+      SIZE_OF_NEW_DESCRIPTOR = 44, CHANGE_KIND_AT = 0, CHANGE_PART_AT = 4, CHANGE_PLACE_AT = 8, CHANGE_COMPARE_AT = 12,
+      CHANGE_MASK_AT = 16, CHANGE_SET_MASK_AT = 20, CHANGE_CLEAR_MASK_AT = 24, CHANGE_SET_CONTROL_AT = 28,
+      CHANGE_CLEAR_CONTROL_AT = 30, CHANGE_ACE_KIND_AT = 32, CHANGE_FLAGS_AT = 33, CHANGE_FLAGS_MASK_AT = 34,
+      CHANGE_SET_FLAGS_AT = 35, CHANGE_CLEAR_FLAGS_AT = 36, CHANGE_STATE_AT = 37, CHANGE_OBJECT_TYPE_USE_AT = 38,
+      CHANGE_INHERITED_OBJECT_TYPE_USE_AT = 39, CHANGE_OBJECT_TYPE_AT = 40, CHANGE_INHERITED_OBJECT_TYPE_AT = 56,
+      CHANGE_SID_AT = 72, CHANGE_SET_SID_AT = 140, SIZE_OF_CHANGE = 208, ACL_ORDER_SACL_AT = 24, ACL_ORDER_DACL_AT = 28,
+      ENDING_STATUS_AT = 0, ENDING_LENGTH_AT = 4, ENDING_MESSAGE_LENGTH_AT = 8, OK = 0, FAULT_SHORT = 5,
+      FAULT_OVERLAP = 14, FAULT_SHAPE = 20, FAULT_PART_TWICE = 21, FAULT_ACL_TOO_LARGE = 30, ARGUMENT = 70,
+      TOO_SMALL = 71, NO_MEMORY = 72, NO_ARGUMENT = 0, ARGUMENT_DOMAIN = 1, ARGUMENT_SIDS = 2, ARGUMENT_ENTRIES = 3,
+      ARGUMENT_OBJECT = 4, ARGUMENT_PRINCIPAL_SELF = 5, ARGUMENT_MAPPING = 6, ARGUMENT_CREATOR = 7, ARGUMENT_OWNER = 8,
+      ARGUMENT_GROUP = 9, ARGUMENT_KIND = 10, ARGUMENT_FAULT = 11, ARGUMENT_SID = 12, ARGUMENT_SACL = 13,
+      ARGUMENT_DACL = 14, ARGUMENT_TOKEN = 15, ARGUMENT_CHANGES = 16, ARGUMENT_OPTIONS = 17, ARGUMENT_ACE = 18,
+      ARGUMENT_FLAGS = 19, ARGUMENT_GUID = 20, ARGUMENT_OFFSETS = 21, ARGUMENT_CONVERSION = 22, NO_PART = 0, OWNER = 1,
+      GROUP = 2, SACL = 3, DACL = 4, MAPPING_FILE = 0, MAPPING_KEY = 1, MAPPING_DS = 2, KIND_FILE = 0,
+      KIND_CONTAINER = 1, DENY_ONLY = 1, MOST_BYTES = 131226, MOST_TEXT = 1049872, MOST_SIDS = 1024, MOST_SID = 68,
+      MOST_SID_TEXT = 183, MOST_ACE = 112, MOST_ACE_TEXT = 312, MOST_FAULT_TEXT = 32, MOST_DESCRIPTION = 512,
+      MOST_MESSAGE = 64, HAS_LEVEL = 1, SECURITY = 2, TAKE_OWNERSHIP = 4, MAXIMUM = 1, MOST_DERIVED_ACES = 4095,
+      ACL_ABSENT = 0, ACL_NULL = 1, ACL_LIST = 2, NO_FIELD = 0, FIELD_KIND = 1, FIELD_FLAGS = 2, FIELD_RIGHTS = 3,
+      FIELD_OBJECT_TYPE = 4, FIELD_INHERITED_OBJECT_TYPE = 5, FIELD_SID = 6, FIELD_SIZE = 7, REASON_NOTHING = 0,
+      REASON_LABEL = 1, REASON_NO_DACL = 2, REASON_OWNER = 3, REASON_PRIVILEGE = 4, REASON_GRANTED = 5,
+      REASON_DENIED = 6, RIGHTS = 25, NO_PLACE = 65535, PUT = 1, TAKE = 2, REPLACE = 3, TAKE_EACH = 4, SET_EACH = 5,
+      ORDER = 6, STATE = 7, SET_OWNER = 8, SET_GROUP = 9, CONTROL = 10, COMPARE_KIND = 1, COMPARE_MASK = 2,
+      TYPE_UNUSED = 0, TYPE_NONE = 1, TYPE_GIVEN = 2, MOST_CHANGES = 16384, STATUS_STOPPED = 3, STATUS_NO_MEMORY = 4,
+      AT_END = 4294967295, BY_ORDER = 4294967294, NO_ACE = 4294967295, TEXT_SIZE_FIRST = 64, TEXT_SIZE_EACH = 8,
+      TOKEN_WORDS_FIRST = 2, TOKEN_WORDS_EACH = 20;
+// What is written ends here.
+const PARTS = {
+    __proto__: null,
+    [NO_PART]: null,
+    [OWNER]: "owner",
+    [GROUP]: "group",
+    [SACL]: "sacl",
+    [DACL]: "dacl"
+};
+const FIELDS = {
+    __proto__: null,
+    [NO_FIELD]: null,
+    [FIELD_KIND]: "kind",
+    [FIELD_FLAGS]: "flags",
+    [FIELD_RIGHTS]: "rights",
+    [FIELD_OBJECT_TYPE]: "object type",
+    [FIELD_INHERITED_OBJECT_TYPE]: "inherited object type",
+    [FIELD_SID]: "sid",
+    [FIELD_SIZE]: "size"
+};
 const IN_WORDS = {
     __proto__: null,
     owner: "the owner",
@@ -28,108 +86,115 @@ const IN_WORDS = {
     dacl: "the DACL",
     sid: "SID"
 };
-const ARGUMENTS = [
-    null, "domain", "sids", "entries", "objectType", "principalSelf", "mapping", "creator", "owner", "group", "kind",
-    "number", "sid", "sacl", "dacl", "token", "changes", "options", "ace", "flags", "guid"
-];
+const ARGUMENTS = {
+    __proto__: null,
+    [NO_ARGUMENT]: null,
+    [ARGUMENT_DOMAIN]: "domain",
+    [ARGUMENT_SIDS]: "sids",
+    [ARGUMENT_ENTRIES]: "entries",
+    [ARGUMENT_OBJECT]: "objectType",
+    [ARGUMENT_PRINCIPAL_SELF]: "principalSelf",
+    [ARGUMENT_MAPPING]: "mapping",
+    [ARGUMENT_CREATOR]: "creator",
+    [ARGUMENT_OWNER]: "owner",
+    [ARGUMENT_GROUP]: "group",
+    [ARGUMENT_KIND]: "kind",
+    [ARGUMENT_FAULT]: "number",
+    [ARGUMENT_SID]: "sid",
+    [ARGUMENT_SACL]: "sacl",
+    [ARGUMENT_DACL]: "dacl",
+    [ARGUMENT_TOKEN]: "token",
+    [ARGUMENT_CHANGES]: "changes",
+    [ARGUMENT_OPTIONS]: "options",
+    [ARGUMENT_ACE]: "ace",
+    [ARGUMENT_FLAGS]: "flags",
+    [ARGUMENT_GUID]: "guid",
+    [ARGUMENT_OFFSETS]: "offsets",
+    [ARGUMENT_CONVERSION]: "conversion"
+};
 const LISTS = {
     __proto__: null,
     sacl: true,
     dacl: true,
     changes: true
 };
-const STATE_NAMES = ["absent", "null", "list"];
 const STATES = {
     __proto__: null,
-    absent: 0,
-    null: 1,
-    list: 2
+    absent: ACL_ABSENT,
+    null: ACL_NULL,
+    list: ACL_LIST
 };
-// Where a call writes the numbers of its outcome, and a check its verdict behind them. The module has the structs of
-// sdtool.h as a 32-bit machine lays them out.
-const FAULT_AT = 0, PART_AT = 4, OTHER_PART_AT = 8, ARGUMENT_AT = 12, ENTRY_AT = 16, LENGTH_AT = 20, MASK_AT = 24,
-      GRANTED_AT = 28;
-// Where sdtool_place and sdtool_sddl_place write a place.
-const OF_PART_AT = 4, OF_ACE_AT = 8, OF_FIELD_AT = 12, OFFSET_AT = 16, RANGE_AT = 20;
-// Where sdtool_parts writes what it finds. A place is an offset and a size, and that of an ACL is behind its state.
-const CONTROL_AT = 24, MANAGER_AT = 26, OWNER_AT = 28, GROUP_AT = 36, SACL_AT = 44, DACL_AT = 60, PLACE_OF_ACL = 8;
-// Where sdtool_next_ace does.
-const ACE_MASK_AT = 4, KIND_AT = 12, FLAGS_AT = 13, OBJECT_AT = 24, INHERITED_AT = 32, SID_AT = 40, ACE_SIZE = 48;
-// Where sdtool_build reads a descriptor and an ACE to build. SIDs and GUIDs are a pointer and a size.
-const NEW_SACL_AT = 16, NEW_DACL_AT = 28, NEW_CONTROL_AT = 40, NEW_MANAGER_AT = 42, NEW_SIZE = 48;
-const NEW_MASK_AT = 24, NEW_KIND_AT = 28, NEW_FLAGS_AT = 29, NEW_ACE_SIZE = 32;
-// Where sdtool_edit reads a change. Behind the kind of an ACE are its flags, their mask, those to set and to clear, and
-// a state, a byte each.
-const CHANGE_SIZE = 208, CHANGE_ACL_AT = 4, CHANGE_PLACE_AT = 8, COMPARE_AT = 12, CHANGE_MASK_AT = 16, SET_MASK_AT = 20,
-      CLEAR_MASK_AT = 24, SET_CONTROL_AT = 28, CLEAR_CONTROL_AT = 30, CHANGE_KIND_AT = 32, TYPE_USE_AT = 38,
-      CHANGE_TYPE_AT = 40, CHANGE_SID_AT = 72, SET_SID_AT = 140;
-const COMPARE_KIND = 1, COMPARE_MASK = 2, TYPE_NONE = 1, TYPE_GIVEN = 2;
-// Where sdtool_order writes what it finds.
-const SACL_ORDER_AT = 24, DACL_ORDER_AT = 28;
-const NUMBER_AT = 24; // where a call writes the number that a text means
-const BYTES_SIZE = 8, VERDICT_SIZE = 32, REASON_SIZE = 4;
-// Where sdtool_derive_origins writes how many origins there are, and an origin what it says.
-const SACL_COUNT_AT = 24, DACL_COUNT_AT = 28, FROM_CREATOR_AT = 2, INHERIT_ONLY_AT = 3, ORIGIN_SIZE = 4;
-const RIGHTS = 25, NO_PLACE = 0xffff; // right by right a reason, and what stands in it for no ACE
+const STATE_NAMES = {
+    __proto__: null,
+    [ACL_ABSENT]: "absent",
+    [ACL_NULL]: "null",
+    [ACL_LIST]: "list"
+};
+// Where the numbers of an asker are in it, and those of a request.
+const OF_ASKER = [ASKER_MAPPING_AT, ASKER_LEVEL_AT, ASKER_OPTIONS_AT];
+const OF_REQUEST = [...OF_ASKER, REQUEST_WANTED_AT, REQUEST_OPTIONS_AT];
 // The faults that have a place.
 const OF_BYTES = {
-    first: 5,
-    last: 14
+    first: FAULT_SHORT,
+    last: FAULT_OVERLAP
 },
       OF_TEXTS = {
-          first: 20,
-          last: 30
+          first: FAULT_SHAPE,
+          last: FAULT_ACL_TOO_LARGE
       };
-const NO_ACE = 0xffffffff;
 const MOST_SHOWN = 72; // characters around a place
 const DIGITS = "0123456789abcdef", BYTE_DIGITS = 2;
 const HIDDEN = /[\p{C}\p{Z}]/u; // characters that do not show, and the blank
-const REASONS = ["nothing", "label", "no-dacl", "owner", "privilege", "granted", "denied"];
+const REASONS = {
+    __proto__: null,
+    [REASON_NOTHING]: "nothing",
+    [REASON_LABEL]: "label",
+    [REASON_NO_DACL]: "no-dacl",
+    [REASON_OWNER]: "owner",
+    [REASON_PRIVILEGE]: "privilege",
+    [REASON_GRANTED]: "granted",
+    [REASON_DENIED]: "denied"
+};
 const MAPPINGS = {
     __proto__: null,
-    file: 0,
-    key: 1,
-    ds: 2
+    file: MAPPING_FILE,
+    key: MAPPING_KEY,
+    ds: MAPPING_DS
 };
 const KINDS = {
     __proto__: null,
-    file: 0,
-    container: 1
+    file: KIND_FILE,
+    container: KIND_CONTAINER
 };
 const ACLS = {
     __proto__: null,
-    sacl: 3,
-    dacl: 4
+    sacl: SACL,
+    dacl: DACL
 };
 const PLACES = {
     __proto__: null,
-    end: 0xffffffff,
-    order: 0xfffffffe
+    end: AT_END,
+    order: BY_ORDER
 };
-const MOST_PLACE = 0xfffffffd, MOST_CHANGES = 16384;
+const MOST_PLACE = BY_ORDER - 1;
 // What a change is, by its name, and whether it has to have each of the names that it may have.
 const CHANGES = {
     __proto__: null,
-    put: {number: 1, acl: true, place: true, ace: true},
-    take: {number: 2, acl: true, place: true},
-    replace: {number: 3, acl: true, place: true, ace: true},
-    takeEach: {number: 4, acl: true, match: true},
-    setEach: {number: 5, acl: true, match: true, setting: true},
-    order: {number: 6, acl: true},
-    state: {number: 7, acl: true, state: true},
-    owner: {number: 8, sid: true},
-    group: {number: 9, sid: true},
-    control: {number: 10, setControl: false, clearControl: false},
+    put: {number: PUT, acl: true, place: true, ace: true},
+    take: {number: TAKE, acl: true, place: true},
+    replace: {number: REPLACE, acl: true, place: true, ace: true},
+    takeEach: {number: TAKE_EACH, acl: true, match: true},
+    setEach: {number: SET_EACH, acl: true, match: true, setting: true},
+    order: {number: ORDER, acl: true},
+    state: {number: STATE, acl: true, state: true},
+    owner: {number: SET_OWNER, sid: true},
+    group: {number: SET_GROUP, sid: true},
+    control: {number: CONTROL, setControl: false, clearControl: false},
 };
-const DENY_ONLY = 1;
-const HAS_LEVEL = 1, SECURITY = 2, TAKE_OWNERSHIP = 4, MAXIMUM = 1; // options of who asks, and that of a request
-const MOST_SIDS = 1024, TOKEN_FRONT = 2, TOKEN_SID = 20; // numbers of 32 bits that a token has, and has for each SID
-const MOST_TOKEN = 4 * (TOKEN_FRONT + TOKEN_SID * MOST_SIDS);
-const MOST_BYTES = 131226, MOST_TEXT = 1049872, MOST_SID = 68, MOST_SID_TEXT = 183, MOST_MESSAGE = 64;
-const MOST_ACE = 112, MOST_ACE_TEXT = 312, HEAD_OF_ACE = "D:";
+const MOST_TOKEN = 4 * (TOKEN_WORDS_FIRST + TOKEN_WORDS_EACH * MOST_SIDS);
+const HEAD_OF_ACE = "D:";
 const MOST_U8 = 0xff, MOST_U16 = 0xffff, MOST_NUMBER = 0xffffffff;
 const GUID = 16;
-const SHORT_TEXT = 64;                                   // the version, or the name of a fault
 const FIRST_ANSWERS = 4096;                              // of a run; more take a second call
 const MOST_OF_CALL = 1024, MOST_BYTES_OF_CALL = 1 << 20; // descriptors that one call checks, if it is not one
 const STRUCTS = 80;               // bytes for what a call returns, and for the request of a check
@@ -137,7 +202,6 @@ const REQUEST = 48;               // where in them the request is
 const MOST_ROOM = 0xffff0000;     // the module's memory has no more
 const MOST_INPUT = MOST_ROOM / 5; // of a run, with the least room for its answers
 const MOST_ACL = 0xffff;          // bytes
-const MOST_DERIVED_ACES = 4095;   // of one ACL
 const MOST_LEVELS = 100;          // of prototypes, of which a proxy may have any number
 const NONE = new Uint8Array(0);
 
@@ -819,7 +883,7 @@ class Sdtool {
             const places = this.#put(inputs, size), output = places[2 * inputs.length];
             const words = addAll(addAll(list(), places, 0, 2 * inputs.length), numbers);
             this.#call(call, words, output, size);
-            const fault = this.#number(FAULT_AT), length = this.#number(LENGTH_AT);
+            const fault = this.#number(OUTCOME_FAULT_AT), length = this.#number(OUTCOME_LENGTH_AT);
             if (fault === OK) return this.#at(output, length);
             if (fault !== TOO_SMALL) this.#refuse(fault, placed[0], placed[1]);
             size = length;
@@ -841,7 +905,7 @@ class Sdtool {
 
     // The bytes at a place that the last call wrote, in bytes that begin at FRONT; null if nothing is there.
     #copy(front, at) {
-        const offset = front + this.#number(at), size = this.#number(at + 4);
+        const offset = front + this.#number(at + PLACE_OFFSET_AT), size = this.#number(at + PLACE_SIZE_AT);
         return size === 0 ? null : this.#copyAt(offset, size);
     }
 
@@ -850,10 +914,11 @@ class Sdtool {
     // Throws the fault that the last call told, of a descriptor or of a text and its domain.
     #refuse(fault, given, domain) {
         if (fault === NO_MEMORY) throw new NoRoom("sdtool: no memory");
-        const argument = this.#number(ARGUMENT_AT), entry = this.#number(ENTRY_AT);
-        const name = argument < ARGUMENTS.length ? ARGUMENTS[argument] : null;
+        const argument = this.#number(OUTCOME_ARGUMENT_AT), entry = this.#number(OUTCOME_ENTRY_AT);
+        const name = ARGUMENTS[argument] ?? null;
         if (fault !== ARGUMENT) {
-            const told = this.#fault(fault, this.#number(PART_AT), this.#number(OTHER_PART_AT), given, domain);
+            const told =
+                this.#fault(fault, this.#number(OUTCOME_PART_AT), this.#number(OUTCOME_OTHER_PART_AT), given, domain);
             throw name === null ? told :
                                   new Fault(fault, told.name, told.part, null, name, entry, null, null, told.meaning);
         }
@@ -864,7 +929,7 @@ class Sdtool {
 
     // Throws the fault that the last call told, if it told one.
     #judge(given) {
-        const fault = this.#number(FAULT_AT);
+        const fault = this.#number(OUTCOME_FAULT_AT);
         if (fault !== OK) this.#refuse(fault, given);
     }
 
@@ -879,14 +944,13 @@ class Sdtool {
 
     // What a fault means: what its sentence has behind the colon, which comes without a place.
     #meaning(fault, part, other) {
-        const outcomeSize = 24, placeSize = 24, mostDescription = 512;
-        const outcome = new Bytes(outcomeSize);
-        outcome[FAULT_AT] = fault;
-        outcome[PART_AT] = part;
-        outcome[OTHER_PART_AT] = other;
-        const places = this.#put(listOf(outcome, new Bytes(placeSize)), mostDescription);
-        this.#call("sdtool_describe", listOf(places[0], places[2]), places[4], mostDescription);
-        const sentence = this.#text(this.#at(places[4], this.#number(LENGTH_AT)));
+        const outcome = new Bytes(SIZE_OF_OUTCOME);
+        outcome[OUTCOME_FAULT_AT] = fault;
+        outcome[OUTCOME_PART_AT] = part;
+        outcome[OUTCOME_OTHER_PART_AT] = other;
+        const places = this.#put(listOf(outcome, new Bytes(SIZE_OF_FAULT_PLACE)), MOST_DESCRIPTION);
+        this.#call("sdtool_describe", listOf(places[0], places[2]), places[4], MOST_DESCRIPTION);
+        const sentence = this.#text(this.#at(places[4], this.#number(OUTCOME_LENGTH_AT)));
         return cutText(sentence, indexIn(sentence, ": ") + 2);
     }
 
@@ -894,19 +958,22 @@ class Sdtool {
     #place(given, domain) {
         const isText = typeof given === "string", places = this.#put(isText ? listOf(given, domain) : listOf(given), 0);
         this.#call(isText ? "sdtool_sddl_place" : "sdtool_place", addAll(list(), places, 0, isText ? 4 : 2));
-        if (this.#number(FAULT_AT) === OK) return null;
-        const ace = this.#number(OF_ACE_AT), at = this.#number(OFFSET_AT), end = at + this.#number(RANGE_AT);
+        if (this.#number(FAULT_PLACE_FAULT_AT) === OK) return null;
+        const ace = this.#number(FAULT_PLACE_ACE_AT), at = this.#number(FAULT_PLACE_PLACE_AT + PLACE_OFFSET_AT),
+              end = at + this.#number(FAULT_PLACE_PLACE_AT + PLACE_SIZE_AT);
         const offset = isText ? unitsBefore(given, at) : at, size = (isText ? unitsBefore(given, end) : end) - offset;
         return {
-            part: PARTS[this.#number(OF_PART_AT)],
+            part: PARTS[this.#number(FAULT_PLACE_PART_AT)],
             ace: ace === NO_ACE ? null : ace,
-            field: FIELDS[this.#number(OF_FIELD_AT)],
+            field: FIELDS[this.#number(FAULT_PLACE_FIELD_AT)],
             offset,
             size,
         };
     }
 
-    #faultName(number) { return this.#text(this.#answer("sdtool_fault_text", list(), listOf(number), SHORT_TEXT)); }
+    #faultName(number) {
+        return this.#text(this.#answer("sdtool_fault_text", list(), listOf(number), MOST_FAULT_TEXT));
+    }
 
     // A SID in binary, from its text or its bytes, which the call that gets it judges.
     #sid(sid, argument, entry = null) {
@@ -939,11 +1006,11 @@ class Sdtool {
             const places = this.#put(listOf(text), 0);
             this.#call(call, listOf(places[0], places[1]));
             this.#judge();
-            return this.#number(NUMBER_AT);
+            return this.#number(NUMBER_NUMBER_AT);
         });
     }
 
-    version() { return this.#text(this.#answer("sdtool_version", list(), list(), SHORT_TEXT)); }
+    version() { return this.#text(this.#answer("sdtool_version", list(), list(), MOST_FAULT_TEXT)); }
 
     toSddl(descriptor, options) { return this.#print("sdtool_to_sddl", descriptor, options); }
 
@@ -951,7 +1018,7 @@ class Sdtool {
 
     #print(call, descriptor, options = {}) {
         const bytes = descriptorOf(descriptor, "descriptor"), asked = namedOf(options, PRINTING, "options");
-        const size = min(8 * lengthOf(bytes) + 64, MOST_TEXT);
+        const size = min(TEXT_SIZE_FIRST + TEXT_SIZE_EACH * lengthOf(bytes), MOST_TEXT);
         return this.#text(this.#answer(call, listOf(bytes, this.#domain(asked)), listOf(asked.numeric ?? 0), size));
     }
 
@@ -1023,7 +1090,7 @@ class Sdtool {
     #request({numbers}) {
         const request = this.#room + REQUEST;
         for (let index = 0; index < numbers.length; index += 1)
-            setU32(this.#view, request + 4 * index, numbers[index], true);
+            setU32(this.#view, request + OF_REQUEST[index], numbers[index], true);
         return request;
     }
 
@@ -1051,7 +1118,10 @@ class Sdtool {
 
     // The verdict that a check wrote, so many bytes behind the front of the room.
     #verdict(at) {
-        return {granted: getU8(this.#view, this.#room + at + GRANTED_AT) === 1, mask: this.#number(at + MASK_AT)};
+        return {
+            granted: getU8(this.#view, this.#room + at + VERDICT_GRANTED_AT) === 1,
+            mask: this.#number(at + VERDICT_MASK_AT)
+        };
     }
 
     // The verdict that a call of one descriptor wrote.
@@ -1070,11 +1140,11 @@ class Sdtool {
 
     readToken(sids, options = {}) {
         const enabled = sidsOf(sids, "sids"), given = this.#token(enabled, namedOf(options, TOKEN, "options").denyOnly);
-        const size = TOKEN_FRONT + TOKEN_SID * min(given.count, MOST_SIDS);
+        const size = TOKEN_WORDS_FIRST + TOKEN_WORDS_EACH * min(given.count, MOST_SIDS);
         const places = this.#put(given.inputs, 0, 4 * size), token = this.#room + STRUCTS;
         this.#call("sdtool_token_read", this.#sidsAt(given, places, 0), token, size);
         this.#judge();
-        return this.#copyAt(token, 4 * this.#number(LENGTH_AT));
+        return this.#copyAt(token, 4 * this.#number(OUTCOME_LENGTH_AT));
     }
 
     checkWith(descriptor, token, options = {}) {
@@ -1090,7 +1160,7 @@ class Sdtool {
     reasons(descriptor, sids, options = {}) {
         const bytes = descriptorOf(descriptor, "descriptor"), token = sidsOf(sids, "sids");
         const question = this.#question(token, namedOf(options, ASKERS, "options"), true);
-        const places = this.#put(addAll(listOf(bytes), question.inputs), 0, REASON_SIZE * RIGHTS);
+        const places = this.#put(addAll(listOf(bytes), question.inputs), 0, SIZE_OF_REASON * RIGHTS);
         const words = addAll(listOf(places[0], places[1]), this.#ask(question, places, 2));
         this.#call("sdtool_reasons", words, this.#room + STRUCTS);
         return this.#reasons(bytes);
@@ -1099,7 +1169,7 @@ class Sdtool {
     reasonsWith(descriptor, token, options = {}) {
         const bytes = descriptorOf(descriptor, "descriptor"), numbers = bytesOf(token, MOST_TOKEN, "token");
         const asker = this.#asker(namedOf(options, ASKER, "options"));
-        const places = this.#put(addAll(listOf(numbers, bytes), asker.inputs), 0, REASON_SIZE * RIGHTS);
+        const places = this.#put(addAll(listOf(numbers, bytes), asker.inputs), 0, SIZE_OF_REASON * RIGHTS);
         const words = addAll(listOf(places[2], places[3], places[0], places[1] >>> 2), places, 4, 8);
         this.#call("sdtool_reasons_with", words, this.#request(asker), this.#room + STRUCTS);
         return this.#reasons(bytes);
@@ -1110,13 +1180,15 @@ class Sdtool {
         this.#judge(bytes);
         const told = list(), inSacl = list(), inDacl = list();
         for (let right = 0; right < RIGHTS; right += 1) {
-            const at = this.#room + STRUCTS + REASON_SIZE * right;
-            const kind = REASONS[getU16(this.#view, at, true)], place = getU16(this.#view, at + 2, true);
+            const at = this.#room + STRUCTS + SIZE_OF_REASON * right;
+            const kind = REASONS[getU16(this.#view, at + REASON_KIND_AT, true)],
+                  place = getU16(this.#view, at + REASON_PLACE_AT, true);
             told[right] = {kind, place: place === NO_PLACE ? null : place};
             if (place !== NO_PLACE) (kind === "label" ? inSacl : inDacl)[place] = true;
         }
         // The calls that find the ACEs take the room.
-        const sacl = this.#acesAt(bytes, SACL_AT, inSacl), dacl = this.#acesAt(bytes, DACL_AT, inDacl);
+        const sacl = this.#acesAt(bytes, CONTENTS_SACL_AT, inSacl),
+              dacl = this.#acesAt(bytes, CONTENTS_DACL_AT, inDacl);
         return arrayFrom(mapped(told,
             ({kind, place}) => ({kind, place, ace: place === null ? null : (kind === "label" ? sacl : dacl)[place]})));
     }
@@ -1148,9 +1220,9 @@ class Sdtool {
     }
 
     #checkSome(question, descriptors) {
-        const count = descriptors.length, verdicts = STRUCTS + BYTES_SIZE * count;
-        const places =
-            this.#put(addAll(addAll(list(), descriptors), question.inputs), 0, (BYTES_SIZE + VERDICT_SIZE) * count);
+        const count = descriptors.length, verdicts = STRUCTS + SIZE_OF_BYTES * count;
+        const places = this.#put(
+            addAll(addAll(list(), descriptors), question.inputs), 0, (SIZE_OF_BYTES + SIZE_OF_VERDICT) * count);
         const asked = this.#ask(question, places, 2 * count);
         for (let index = 0; index < 2 * count; index += 1)
             setU32(this.#view, this.#room + STRUCTS + 4 * index, places[index], true);
@@ -1158,11 +1230,11 @@ class Sdtool {
         this.#call("sdtool_check_many", words, this.#room + verdicts, count);
         this.#judge();
         const found = mapped(descriptors, (_, index) => {
-            const at = verdicts + VERDICT_SIZE * index, fault = this.#number(at + FAULT_AT);
+            const at = verdicts + SIZE_OF_VERDICT * index, fault = this.#number(at + OUTCOME_FAULT_AT);
             return {
                 fault,
-                part: this.#number(at + PART_AT),
-                other: this.#number(at + OTHER_PART_AT),
+                part: this.#number(at + OUTCOME_PART_AT),
+                other: this.#number(at + OUTCOME_OTHER_PART_AT),
                 verdict: this.#verdict(at)
             };
         });
@@ -1187,12 +1259,12 @@ class Sdtool {
 
     origins(parent, owner, group, options = {}) {
         const {inputs, numbers} = this.#derivation(parent, owner, group, options);
-        const size = ORIGIN_SIZE * MOST_DERIVED_ACES, places = this.#put(inputs, 0, 2 * size);
+        const size = SIZE_OF_ORIGIN * MOST_DERIVED_ACES, places = this.#put(inputs, 0, 2 * size);
         const sacl = this.#room + STRUCTS, dacl = sacl + size;
         const words = addAll(addAll(list(), places, 0, 8), numbers);
         this.#call("sdtool_derive_origins", words, sacl, MOST_DERIVED_ACES, dacl, MOST_DERIVED_ACES);
-        this.#judge();
-        const told = listOf(this.#origins(sacl, SACL_COUNT_AT), this.#origins(dacl, DACL_COUNT_AT));
+        this.#judge(inputs[0]);
+        const told = listOf(this.#origins(sacl, ORIGINS_SACL_COUNT_AT), this.#origins(dacl, ORIGINS_DACL_COUNT_AT));
         // The call that finds the ACEs takes the room.
         const parts = this.#parts(inputs[0]), creators = lengthOf(inputs[1]) > 0 ? this.#parts(inputs[1]) : null;
         const withAces = (origins, name) => arrayFrom(mapped(origins,
@@ -1205,11 +1277,11 @@ class Sdtool {
     #origins(place, countAt) {
         const found = list(), count = this.#number(countAt);
         for (let index = 0; index < count; index += 1) {
-            const at = place + ORIGIN_SIZE * index;
+            const at = place + SIZE_OF_ORIGIN * index;
             found[index] = {
-                fromCreator: getU8(this.#view, at + FROM_CREATOR_AT) === 1,
-                place: getU16(this.#view, at, true),
-                inheritOnly: getU8(this.#view, at + INHERIT_ONLY_AT) === 1,
+                fromCreator: getU8(this.#view, at + ORIGIN_FROM_CREATOR_AT) === 1,
+                place: getU16(this.#view, at + ORIGIN_PLACE_AT, true),
+                inheritOnly: getU8(this.#view, at + ORIGIN_INHERIT_ONLY_AT) === 1,
             };
         }
         return found;
@@ -1238,17 +1310,19 @@ class Sdtool {
             return this.#bytes("sdtool_ace_from_text", listOf(given, domain), list(), MOST_ACE, list());
         } catch (fault) {
             if (!(fault instanceof Fault)) throw fault;
-            const place = cutText(given, 0, 1) === "(" ? this.#placeInAce(given, domain) : null;
+            const place = cutText(given, 0, 1) === "(" ? this.#placeInAce(given, domain, fault.number) : null;
             throw new Fault(
                 fault.number, fault.name, fault.part, null, null, null, place, place && given, fault.meaning);
         }
     }
 
-    // Where the fault of an ACE's text is, which is read behind the head of a DACL that was not given.
-    #placeInAce(text, domain) {
+    // Where the fault of an ACE's text is, which is read behind the head of a DACL that was not given. A second head is
+    // in the text itself.
+    #placeInAce(text, domain, fault) {
         const found = this.#place(HEAD_OF_ACE + text, domain);
         if (found === null) return null;
-        const {part, ace, field, size} = found, offset = found.offset - HEAD_OF_ACE.length, isGiven = part !== "dacl";
+        const {part, ace, field, size} = found, offset = found.offset - HEAD_OF_ACE.length;
+        const isGiven = part !== "dacl" || fault === FAULT_PART_TWICE;
         return {part: isGiven ? part : null, ace: isGiven ? ace : null, field, offset, size};
     }
 
@@ -1261,9 +1335,9 @@ class Sdtool {
     aceRead(bytes) {
         const given = bytesOf(bytes, MOST_ACL, "bytes"), places = this.#put(listOf(given), 0);
         this.#call("sdtool_ace_read", listOf(places[0], places[1]));
-        const fault = this.#number(FAULT_AT);
-        if (fault !== OK) throw this.#fault(fault, 0, 0, null);
-        return {...this.#ace(places[0]), size: this.#number(RANGE_AT)};
+        const fault = this.#number(ACE_FAULT_AT);
+        if (fault !== OK) throw this.#fault(fault, NO_PART, NO_PART, null);
+        return {ace: this.#ace(places[0]), size: this.#number(ACE_PLACE_AT + PLACE_SIZE_AT)};
     }
 
     rightsFromText(text) { return this.#numberOf("sdtool_rights_from_text", textOf(text, "text"), "rights"); }
@@ -1297,17 +1371,21 @@ class Sdtool {
         const places = this.#put(listOf(bytes), 0), at = places[0];
         this.#call("sdtool_parts", listOf(at, places[1]));
         this.#judge(bytes);
-        const control = getU16(this.#view, this.#room + CONTROL_AT, true);
-        const resourceManager = getU8(this.#view, this.#room + MANAGER_AT);
-        const owner = this.#copy(at, OWNER_AT), group = this.#copy(at, GROUP_AT);
-        const sacl = this.#foundAcl(SACL_AT), dacl = this.#foundAcl(DACL_AT);
+        const control = getU16(this.#view, this.#room + CONTENTS_CONTROL_AT, true);
+        const resourceManager = getU8(this.#view, this.#room + CONTENTS_RESOURCE_MANAGER_AT);
+        const owner = this.#copy(at, CONTENTS_OWNER_AT), group = this.#copy(at, CONTENTS_GROUP_AT);
+        const sacl = this.#foundAcl(CONTENTS_SACL_AT), dacl = this.#foundAcl(CONTENTS_DACL_AT);
         return {control, resourceManager, owner, group, sacl: this.#acl(at, sacl), dacl: this.#acl(at, dacl)};
     }
 
     // What sdtool_parts wrote of an ACL, before the walk through another one takes the room.
     #foundAcl(at) {
-        const offset = this.#number(at + PLACE_OF_ACL), size = this.#number(at + PLACE_OF_ACL + 4);
-        return {state: STATE_NAMES[this.#number(at)], offset, size};
+        const place = at + ACL_PLACE_PLACE_AT, offset = this.#number(place + PLACE_OFFSET_AT);
+        return {
+            state: STATE_NAMES[this.#number(at + ACL_PLACE_STATE_AT)],
+            offset,
+            size: this.#number(place + PLACE_SIZE_AT)
+        };
     }
 
     #acl(front, {state, offset, size}) {
@@ -1322,25 +1400,25 @@ class Sdtool {
     // The ACEs of an ACL that is in the room; or only those at some places, up to the last of these.
     #walk(at, size, wanted = null) {
         const found = list();
-        fillBytes(this.#at(this.#room, ACE_SIZE), 0);
+        fillBytes(this.#at(this.#room, SIZE_OF_ACE), 0);
         for (let place = 0; wanted === null || place < wanted.length; place += 1) {
             if (!this.#enter("sdtool_next_ace", listOf(at, size, this.#room))) break;
             if (wanted === null || wanted[place] === true) found[place] = this.#ace(at);
         }
-        const fault = this.#number(FAULT_AT);
-        if (fault !== OK) throw this.#fault(fault, 0, 0, null);
+        const fault = this.#number(ACE_FAULT_AT);
+        if (fault !== OK) throw this.#fault(fault, NO_PART, NO_PART, null);
         return found;
     }
 
     // The ACE that a walk through the ACL at a place is at.
     #ace(at) {
         return {
-            kind: getU8(this.#view, this.#room + KIND_AT),
-            flags: getU8(this.#view, this.#room + FLAGS_AT),
+            kind: getU8(this.#view, this.#room + ACE_KIND_AT),
+            flags: getU8(this.#view, this.#room + ACE_FLAGS_AT),
             mask: this.#number(ACE_MASK_AT),
-            sid: this.#copy(at, SID_AT),
-            objectType: this.#copy(at, OBJECT_AT),
-            inheritedObjectType: this.#copy(at, INHERITED_AT),
+            sid: this.#copy(at, ACE_SID_AT),
+            objectType: this.#copy(at, ACE_OBJECT_TYPE_AT),
+            inheritedObjectType: this.#copy(at, ACE_INHERITED_OBJECT_TYPE_AT),
         };
     }
 
@@ -1354,7 +1432,7 @@ class Sdtool {
         for (let size = FIRST_ANSWERS;;) {
             const output = this.#putParts(inputs, listOf(sacl, dacl), aces, {control, resourceManager}, size);
             this.#call("sdtool_build", listOf(this.#room + STRUCTS), output, size);
-            const fault = this.#number(FAULT_AT), length = this.#number(LENGTH_AT);
+            const fault = this.#number(OUTCOME_FAULT_AT), length = this.#number(OUTCOME_LENGTH_AT);
             if (fault === OK) return this.#copyAt(output, length);
             if (fault !== TOO_SMALL) this.#refuse(fault);
             size = length;
@@ -1371,50 +1449,51 @@ class Sdtool {
 
     // Puts the structs of a descriptor to build into the room, and what they point to. Gives the place of the answer.
     #putParts(inputs, acls, aces, {control, resourceManager}, size) {
-        const places = this.#put(inputs, size, NEW_SIZE + NEW_ACE_SIZE * aces.length);
+        const places = this.#put(inputs, size, SIZE_OF_NEW_DESCRIPTOR + SIZE_OF_NEW_ACE * aces.length);
         const front = this.#room + STRUCTS, view = this.#view;
-        this.#putPlace(front, places, 0);
-        this.#putPlace(front + BYTES_SIZE, places, 1);
-        const next = this.#putAcl(front + NEW_SACL_AT, acls[0], front + NEW_SIZE);
-        this.#putAcl(front + NEW_DACL_AT, acls[1], next);
-        setU16(view, front + NEW_CONTROL_AT, control, true);
-        setU8(view, front + NEW_MANAGER_AT, resourceManager);
+        this.#putPlace(front + NEW_DESCRIPTOR_OWNER_AT, places, 0);
+        this.#putPlace(front + NEW_DESCRIPTOR_GROUP_AT, places, 1);
+        const next = this.#putAcl(front + NEW_DESCRIPTOR_SACL_AT, acls[0], front + SIZE_OF_NEW_DESCRIPTOR);
+        this.#putAcl(front + NEW_DESCRIPTOR_DACL_AT, acls[1], next);
+        setU16(view, front + NEW_DESCRIPTOR_CONTROL_AT, control, true);
+        setU8(view, front + NEW_DESCRIPTOR_RESOURCE_MANAGER_AT, resourceManager);
         for (let index = 0; index < aces.length; index += 1) {
-            const at = front + NEW_SIZE + NEW_ACE_SIZE * index, ace = aces[index];
-            for (let field = 0; field < 3; field += 1)
-                this.#putPlace(at + BYTES_SIZE * field, places, 2 + 3 * index + field);
-            setU32(view, at + NEW_MASK_AT, ace.mask, true);
-            setU8(view, at + NEW_KIND_AT, ace.kind);
-            setU8(view, at + NEW_FLAGS_AT, ace.flags);
+            const at = front + SIZE_OF_NEW_DESCRIPTOR + SIZE_OF_NEW_ACE * index, ace = aces[index];
+            this.#putPlace(at + NEW_ACE_SID_AT, places, 2 + 3 * index);
+            this.#putPlace(at + NEW_ACE_OBJECT_TYPE_AT, places, 3 + 3 * index);
+            this.#putPlace(at + NEW_ACE_INHERITED_OBJECT_TYPE_AT, places, 4 + 3 * index);
+            setU32(view, at + NEW_ACE_MASK_AT, ace.mask, true);
+            setU8(view, at + NEW_ACE_KIND_AT, ace.kind);
+            setU8(view, at + NEW_ACE_FLAGS_AT, ace.flags);
         }
         return places[2 * inputs.length];
     }
 
     // Writes the place and the size of an input.
     #putPlace(at, places, index) {
-        setU32(this.#view, at, places[2 * index], true);
-        setU32(this.#view, at + 4, places[2 * index + 1], true);
+        setU32(this.#view, at + BYTES_BYTES_AT, places[2 * index], true);
+        setU32(this.#view, at + BYTES_SIZE_AT, places[2 * index + 1], true);
     }
 
     // Writes an ACL, whose ACEs are from a place on. Gives the place behind them.
     #putAcl(at, {state, aces}, first) {
-        setU32(this.#view, at, first, true);
-        setU32(this.#view, at + 4, aces.length, true);
-        setU32(this.#view, at + 8, state, true);
-        return first + NEW_ACE_SIZE * aces.length;
+        setU32(this.#view, at + NEW_ACL_ACES_AT, first, true);
+        setU32(this.#view, at + NEW_ACL_ACE_COUNT_AT, aces.length, true);
+        setU32(this.#view, at + NEW_ACL_STATE_AT, state, true);
+        return first + SIZE_OF_NEW_ACE * aces.length;
     }
 
     edit(descriptor, changes) {
         const bytes = descriptorOf(descriptor, "descriptor"),
               given = itemsOf(changes, "changes", changeOf, MOST_CHANGES);
-        const count = given.length, all = new Bytes(CHANGE_SIZE * count), view = new View(bufferOf(all));
+        const count = given.length, all = new Bytes(SIZE_OF_CHANGE * count), view = new View(bufferOf(all));
         for (let entry = 0; entry < count; entry += 1)
-            this.#putChange(all, view, CHANGE_SIZE * entry, given[entry], entry);
+            this.#putChange(all, view, SIZE_OF_CHANGE * entry, given[entry], entry);
         for (let size = lengthOf(bytes) + FIRST_ANSWERS;;) {
             const places = this.#put(listOf(all, bytes), size, 4 * count), output = places[4];
             const words = listOf(places[2], places[3], places[0], count, this.#room + STRUCTS, count);
             this.#call("sdtool_edit", words, output, size);
-            const fault = this.#number(FAULT_AT), length = this.#number(LENGTH_AT);
+            const fault = this.#number(OUTCOME_FAULT_AT), length = this.#number(OUTCOME_LENGTH_AT);
             if (fault === OK) {
                 const touched = mapped(given, (_, entry) => this.#number(STRUCTS + 4 * entry));
                 return {descriptor: this.#copyAt(output, length), touched: arrayFrom(touched)};
@@ -1429,28 +1508,37 @@ class Sdtool {
         const {ace, match, setting = EMPTY, acl = 0, place = 0, state = 0, setControl = 0, clearControl = 0} = change;
         const {kind, mask, flags = 0, flagsMask = 0, sid, objectType, inheritedObjectType} = ace ?? match ?? change;
         const compare = (kind === undefined ? 0 : COMPARE_KIND) + (mask === undefined ? 0 : COMPARE_MASK);
-        setU32(view, at, CHANGES[change.change].number, true);
-        setU32(view, at + CHANGE_ACL_AT, acl, true);
+        setU32(view, at + CHANGE_KIND_AT, CHANGES[change.change].number, true);
+        setU32(view, at + CHANGE_PART_AT, acl, true);
         setU32(view, at + CHANGE_PLACE_AT, typeof place === "string" ? PLACES[place] : place, true);
-        setU32(view, at + COMPARE_AT, match === undefined ? 0 : compare, true);
+        setU32(view, at + CHANGE_COMPARE_AT, match === undefined ? 0 : compare, true);
         setU32(view, at + CHANGE_MASK_AT, mask ?? 0, true);
-        setU32(view, at + SET_MASK_AT, setting.setMask ?? 0, true);
-        setU32(view, at + CLEAR_MASK_AT, setting.clearMask ?? 0, true);
-        setU16(view, at + SET_CONTROL_AT, setControl, true);
-        setU16(view, at + CLEAR_CONTROL_AT, clearControl, true);
-        const small = listOf(kind ?? 0, flags, flagsMask, setting.setFlags ?? 0, setting.clearFlags ?? 0, state);
-        for (let index = 0; index < small.length; index += 1) setU8(view, at + CHANGE_KIND_AT + index, small[index]);
-        const types = listOf(objectType, inheritedObjectType);
-        for (let index = 0; index < types.length; index += 1) {
-            const type = types[index], isGiven = type !== undefined && type !== null;
-            if (isGiven && lengthOf(type) !== GUID)
-                throw new ArgumentFault(`this GUID has no ${GUID} bytes`, "changes", entry);
-            if (isGiven) setBytes(all, type, at + CHANGE_TYPE_AT + GUID * index);
-            const isNone = type === null && match !== undefined;
-            setU8(view, at + TYPE_USE_AT + index, isGiven ? TYPE_GIVEN : isNone ? TYPE_NONE : 0);
-        }
+        setU32(view, at + CHANGE_SET_MASK_AT, setting.setMask ?? 0, true);
+        setU32(view, at + CHANGE_CLEAR_MASK_AT, setting.clearMask ?? 0, true);
+        setU16(view, at + CHANGE_SET_CONTROL_AT, setControl, true);
+        setU16(view, at + CHANGE_CLEAR_CONTROL_AT, clearControl, true);
+        setU8(view, at + CHANGE_ACE_KIND_AT, kind ?? 0);
+        setU8(view, at + CHANGE_FLAGS_AT, flags);
+        setU8(view, at + CHANGE_FLAGS_MASK_AT, flagsMask);
+        setU8(view, at + CHANGE_SET_FLAGS_AT, setting.setFlags ?? 0);
+        setU8(view, at + CHANGE_CLEAR_FLAGS_AT, setting.clearFlags ?? 0);
+        setU8(view, at + CHANGE_STATE_AT, state);
+        const none = match === undefined ? TYPE_UNUSED : TYPE_NONE;
+        setU8(view, at + CHANGE_OBJECT_TYPE_USE_AT,
+            this.#putType(all, at + CHANGE_OBJECT_TYPE_AT, objectType, none, entry));
+        setU8(view, at + CHANGE_INHERITED_OBJECT_TYPE_USE_AT,
+            this.#putType(all, at + CHANGE_INHERITED_OBJECT_TYPE_AT, inheritedObjectType, none, entry));
         this.#putSid(all, at + CHANGE_SID_AT, sid, entry);
-        this.#putSid(all, at + SET_SID_AT, setting.sid, entry);
+        this.#putSid(all, at + CHANGE_SET_SID_AT, setting.sid, entry);
+    }
+
+    // Writes an object type into a change, and gives its use.
+    #putType(all, at, type, none, entry) {
+        if (type === undefined) return TYPE_UNUSED;
+        if (type === null) return none;
+        if (lengthOf(type) !== GUID) throw new ArgumentFault(`this GUID has no ${GUID} bytes`, "changes", entry);
+        setBytes(all, type, at);
+        return TYPE_GIVEN;
     }
 
     // Writes a SID into a change. Zeros behind it would lengthen one that is cut, so it has to be whole.
@@ -1466,7 +1554,7 @@ class Sdtool {
         const bytes = descriptorOf(descriptor, "descriptor"), places = this.#put(listOf(bytes), 0);
         this.#call("sdtool_order", listOf(places[0], places[1]));
         this.#judge(bytes);
-        const sacl = this.#number(SACL_ORDER_AT), dacl = this.#number(DACL_ORDER_AT);
+        const sacl = this.#number(ACL_ORDER_SACL_AT), dacl = this.#number(ACL_ORDER_DACL_AT);
         return {sacl: sacl === NO_ACE ? null : sacl, dacl: dacl === NO_ACE ? null : dacl};
     }
 
@@ -1480,11 +1568,15 @@ class Sdtool {
             const places = this.#put(listOf(spelled, given), size + MOST_MESSAGE), output = places[4],
                   message = output + size;
             this.#call("sdtool_run", addAll(list(), places, 0, 4), output, size, message, MOST_MESSAGE);
-            const status = this.#number(0), length = this.#number(4), said = this.#number(8);
+            const status = this.#number(ENDING_STATUS_AT), length = this.#number(ENDING_LENGTH_AT);
             if (status === STATUS_NO_MEMORY) throw new NoRoom("sdtool: no memory");
             // Help that was cut ends with 0.
             if (status !== STATUS_STOPPED && length < size)
-                return {status, output: this.#copyAt(output, length), message: this.#text(this.#at(message, said))};
+                return {
+                    status,
+                    output: this.#copyAt(output, length),
+                    message: this.#text(this.#at(message, this.#number(ENDING_MESSAGE_LENGTH_AT)))
+                };
             size *= 4;
         }
     }

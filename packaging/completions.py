@@ -2,7 +2,7 @@
 """completions.py [--check]
 
 Writes the completions of three shells (packaging/completions/) from the program's table of options,
-crates/sd_command_line/src/options.rt. With --check it writes nothing, and fails if a file is stale; the last line is
+crates/sd_command/src/options.rt. With --check it writes nothing, and fails if a file is stale; the last line is
 then 'N passed, M failed'. tests/program/completions.py compares the files with the program's help.
 """
 import argparse
@@ -14,7 +14,7 @@ from typing import Dict, Iterable, List, NamedTuple, Optional, Tuple
 HERE = pathlib.Path(__file__).resolve().parent
 FOLDER = HERE / "completions"
 # The table from which the program takes its options and their help.
-TABLE = (HERE.parent / "crates/sd_command_line/src/options.rt").read_text(encoding="utf-8")
+TABLE = (HERE.parent / "crates/sd_command/src/options.rt").read_text(encoding="utf-8")
 ROW = re.compile(r'OptionName::(\w+) => (optional|required|flag)!\(((?:\s*"[^"]*",?)+)\s*\)')
 LIST = re.compile(r"const (\w+)_OPTIONS: .*?= \[(.*?)\];", re.DOTALL)
 # The values of an option, by what they are called, where they are few.

@@ -97,13 +97,15 @@ move "$work/python3-sdtool" "$audit" usr/lib/python3/dist-packages/sdtool/audit
 [[ ! -f out/sdtool.html ]] || install -m 644 out/sdtool.html "$audit/usr/lib/python3/dist-packages/sdtool/audit"
 install -d "$audit/usr/bin" "$audit/usr/share/man/man1"
 install -m 755 packaging/sdtool-audit "$audit/usr/bin"
+install -D -m 644 packaging/sdtool-collect.ps1 "$audit/usr/share/sdtool-audit/sdtool-collect.ps1"
 gzip -9n < docs/sdtool-audit.1 > "$audit/usr/share/man/man1/sdtool-audit.1.gz"
 
 # What other packages that link to the library depend on, by its names too, and that the system finds the library.
 install -d "$library/DEBIAN"
 soname=$(basename "$library/$libraries"/libsdtool.so.?)
 echo "libsdtool ${soname##*.} libsdtool0 (>= $version)" > "$library/DEBIAN/shlibs"
-dpkg-gensymbols -q -a"$architecture" -plibsdtool0 -v"$version" -P"$library" -O"$library/DEBIAN/symbols"
+DEB_HOST_ARCH="$architecture" dpkg-gensymbols -q -a"$architecture" -plibsdtool0 -v"$version" -P"$library" -O"$library/DEBIAN/symbols"
+[[ -s "$library/DEBIAN/symbols" ]] # which the tools of another system leave empty
 echo 'activate-noawait ldconfig' > "$library/DEBIAN/triggers"
 
 mkdir -p "$packages"

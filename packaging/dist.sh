@@ -34,6 +34,7 @@ fill_linux() {
     install -m 755 "out/systems/$2/sdtool" "$1/bin/sdtool"
     install -m 644 "out/systems/$2/libsdtool.a" "$1/lib/libsdtool.a"
     install -m 644 "out/systems/$2/$soname" "$1/lib/libsdtool.so.$version"
+    sed "s|@VERSION@|$version|" packaging/meson.build > "$1/meson.build"
     install -d "$1/python"
     # Programs that run from the tree may write what is left out here, at any time.
     tar -C python -c --exclude=__pycache__ --exclude='*.so' . | tar -C "$1/python" -x

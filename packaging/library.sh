@@ -10,9 +10,11 @@ support=$(dirname "$(dirname "$(readlink -f "$(command -v rt)")")")/c/liblibc_c.
 work=$(mktemp -d)
 trap 'rm -rf "$work"' EXIT
 mkdir -p out/lib
+packaging/describe.sh include/sdtool.h "$work/calls.o"
 # All is bound when it is loaded, and what was bound is read-only from then on.
 "$cc" -shared -Wl,-soname,libsdtool.so.$major -Wl,--version-script=packaging/library.map -Wl,--no-undefined \
-    -Wl,-z,relro,-z,now -Wl,--whole-archive "$proved" -Wl,--no-whole-archive "$support" -o "$work/libsdtool.so.$major"
+    -Wl,-z,relro,-z,now -Wl,--whole-archive "$proved" -Wl,--no-whole-archive "$support" "$work/calls.o" \
+    -o "$work/libsdtool.so.$major"
 strip --strip-unneeded "$work/libsdtool.so.$major"
 # One object, so that the archive's other symbols can be made local.
 ld -r --whole-archive "$proved" --no-whole-archive "$support" -o "$work/sdtool.o"

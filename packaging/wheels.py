@@ -23,6 +23,8 @@ import extension  # noqa: E402
 
 # pip knows no older tag for arm64.
 OLDEST = {"linux-x86_64": (2, 5), "linux-aarch64": (2, 17)}
+# The library has compiled code of others in it.
+LICENCES = {"LICENSE": TOP / "LICENSE", "COPYRIGHT": TOP / "packaging/copyright"}
 
 
 def platform_of(system: str, binaries: bytes) -> str:
@@ -57,6 +59,7 @@ def main() -> None:
         # Reports of audits go into the page.
         files += [("sdtool/audit/sdtool.html", page.read_bytes()) for page in (TOP / "out/sdtool.html",)
                   if page.exists()]
+        files += [(f"{build_wheel.NAME}.dist-info/{name}", path.read_bytes()) for name, path in LICENCES.items()]
         platform = platform_of(system, b"".join(data for _, data in binaries))
         print(folder / build_wheel.write_wheel(folder, [*files, *binaries], f"py3-none-{platform}"))
 

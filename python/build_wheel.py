@@ -37,6 +37,9 @@ Provides-Extra: distributed
 Requires-Dist: dask >= 2022.12; extra == 'distributed'
 Requires-Dist: distributed >= 2022.12; extra == 'distributed'
 Requires-Dist: fsspec >= 2022.11; extra == 'distributed'
+Provides-Extra: live
+Requires-Dist: click >= 8; extra == 'live'
+Requires-Dist: rich >= 13; extra == 'live'
 Provides-Extra: audit
 Requires-Dist: click >= 8; extra == 'audit'
 Requires-Dist: rich >= 13; extra == 'audit'

@@ -31,9 +31,10 @@ compile_ir() {
 # Links a shared and a static library of one object: of both only symbols that begin with sdtool_ can be linked to.
 link_libraries() {
     local tools=$1
+    packaging/describe.sh include/sdtool.h "$work/calls.o" "$tools"
     "${tools}gcc" -shared -Wl,-soname,"libsdtool.so.$major" -Wl,--version-script=packaging/library.map -Wl,--no-undefined \
         -Wl,-z,relro,-z,now -Wl,--whole-archive "$compiled/$system/libsdtool_c.a" -Wl,--no-whole-archive "$work/heap.o" "$work/libc_heap.o" \
-        -o "$work/libsdtool.so.$major"
+        "$work/calls.o" -o "$work/libsdtool.so.$major"
     "${tools}strip" --strip-unneeded "$work/libsdtool.so.$major"
     "${tools}ld" -r --whole-archive "$compiled/$system/libsdtool_c.a" "$work/heap.o" "$work/libc_heap.o" -o "$work/sdtool.o"
     "${tools}objcopy" --wildcard --keep-global-symbol='sdtool_*' "$work/sdtool.o"

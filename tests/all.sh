@@ -1,7 +1,7 @@
 #!/usr/bin/env bash
 # Tests of the sources, the gate, and then the tests of the built program. Each part ends with a line
 # 'N passed, M failed', and the last line of all is their sum. A part without such a line counts as one that failed.
-# At the end it says what was skipped, and which parts took longest.
+# At the end it says what was skipped, which parts took longest, and what failed.
 set -u
 cd "$(dirname "$0")/.." || exit 2
 program=$PWD/crates/sdtool/out/sdtool
@@ -12,7 +12,7 @@ watcher=
 lanes=()
 # No other program is tested.
 export SDTOOL_PROGRAM=$program
-# No lane writes into the tree what another one reads. So Python keeps nothing beside the modules that it imports.
+# No lane writes into the tree, which others read. So Python keeps nothing beside the modules that it imports.
 export PYTHONDONTWRITEBYTECODE=1
 logs=$(mktemp -d) || exit 2
 copy=$logs/tree
@@ -55,21 +55,38 @@ start_watcher() {
     set +m
 }
 
-# Adds what a part printed, by its log and its status.
+# Adds what a part printed, by its log, its status and its name.
 add() {
+    local before=$failed
     if [[ $(tail -n 1 "$1") =~ ^([0-9]+)\ passed,\ ([0-9]+)\ failed$ ]]; then
         ((passed += BASH_REMATCH[1], failed += BASH_REMATCH[2]))
         (($2 == 0 || BASH_REMATCH[2] > 0 || (failed += 1)))
     else
         ((failed += 1))
     fi
+    ((failed == before)) || note_failure "$3" <"$1"
 }
+
+# Counts what is wrong beside the parts.
+fail() {
+    echo "$1"
+    ((failed += 1))
+    note_failure "$1" </dev/null
+}
+
+# Keeps what failed, and the lines that say why.
+note_failure() {
+    echo "    $1"
+    cat >"$logs/failing"
+    grep -a '^FAIL' "$logs/failing" | head -n 20
+    tail -n 8 "$logs/failing"
+} >>"$logs/failures"
 
 count() {
     local began=$SECONDS
     echo "== $*"
     "$@" 2>&1 | tee "$logs/part"
-    add "$logs/part" "${PIPESTATUS[0]}"
+    add "$logs/part" "${PIPESTATUS[0]}" "$*"
     note_part "$logs/part" $((SECONDS - began)) "$*"
 }
 
@@ -79,7 +96,8 @@ note_part() {
     grep -ah 'skipped' "$1" >>"$logs/skipped"
 }
 
-# What was skipped, and which parts took longest.
+# What was skipped, which parts took longest, and what failed. That comes last, where somebody who sees the end alone
+# finds it.
 show_notes() {
     if [[ -s $logs/skipped ]]; then
         echo "Skipped; CONTRIBUTING.md lists the packages:"
@@ -87,6 +105,10 @@ show_notes() {
     fi
     echo "The longest parts, in seconds:"
     sort -rn "$logs/times" | head -n 10 | sed 's/^/    /'
+    if [[ -s $logs/failures ]]; then
+        echo "What failed:"
+        cut -c 1-500 "$logs/failures"
+    fi
 }
 
 # Runs the parts of a lane one after the other. What a part prints comes out whole when it has ended, with its time, since
@@ -100,6 +122,7 @@ run_lane() {
         log=$folder/$((number += 1))
         began=$SECONDS
         # Each part is a test and its words.
+        echo "$part" >"$log.name"
         tests/run $part >"$log" 2>&1
         echo $? >"$log.status"
         {
@@ -130,12 +153,22 @@ add_lanes() {
     for folder in "$logs"/lane*; do
         for ((number = 1; number <= $(<"$folder/parts"); number += 1)); do
             if [[ -f $folder/$number.status ]]; then
-                add "$folder/$number" "$(<"$folder/$number.status")"
+                add "$folder/$number" "$(<"$folder/$number.status")" "$(<"$folder/$number.name")"
             else
-                ((failed += 1))
+                fail "a part of $(basename "$folder") left no status"
             fi
         done
     done
+}
+
+# What is newer than all that was built was written by a lane.
+judge_tree() {
+    local written
+    [[ -e $logs/built ]] || return
+    written=$(find . -path ./.git -prune -o -type f -newer "$logs/built" -print)
+    if [[ $written ]]; then
+        fail "a test wrote into the tree: ${written//$'\n'/ }"
+    fi
 }
 
 # Builds the library, and all for other systems, in a copy of the tree, where the gate does not set aside what was proved. It
@@ -165,8 +198,7 @@ build_page() {
     if ! command -v esbuild >/dev/null; then
         echo "the page: skipped, there is no command esbuild (Debian: esbuild)" | tee -a "$logs/skipped"
     elif [[ -f out/systems/wasm/sdtool.wasm ]] && ! "${MAKE:-make}" --no-print-directory --assume-old=wasm page; then
-        echo "the page is not built"
-        ((failed += 1))
+        fail "the page is not built"
     fi
 }
 
@@ -185,7 +217,7 @@ start_library
 count rt ci
 count tests/run run_rows --reference
 if "${MAKE:-make}" --no-print-directory program; then
-    # Nine lanes, none much longer than the others. What starts a browser or another system's programs is in one, so that
+    # Ten lanes, none much longer than the others. What starts a browser or another system's programs is in one, so that
     # no two of these wait for each other.
     start_lane compare
     start_lane run_rows "run_rows --one-byte" refused_allocations tables neighbours run_examples door_examples \
@@ -194,24 +226,26 @@ if "${MAKE:-make}" --no-print-directory program; then
         take_systems
         build_page
         build_extension
-        start_lane c_library c_objects fault_places fault_words c_neighbours c_comparisons c_stacks c_reasons \
+        touch "$logs/built"
+        start_lane c_library c_objects c_columns fault_places fault_words c_neighbours c_comparisons c_stacks c_reasons \
             c_origins c_edits c_texts c_install c_examples instructions bench_run
-        start_lane python_calls python_objects python_plain python_lies python_wheels page_growth
-        start_lane dotnet_requests dotnet_loading dotnet_package
+        start_lane python_calls python_objects python_plain columns python_lies python_wheels page_growth
+        start_lane all_languages dotnet_requests dotnet_loading dotnet_package
         start_lane audit audit_sources audit_directory audit_reports audit_stopping audit_reasons audit_inherited \
             audit_package
-        start_lane audit_forms hostile_lists audit_terminal audit_growth risk_rows abilities severities many_types
-        start_lane distributed distributed_faults distributed_scale rust go
+        start_lane audit_forms hostile_lists audit_terminal audit_growth risk_rows abilities severities many_types \
+            collector
+        start_lane live_clients live_shares directory_source live_directory
+        start_lane distributed distributed_faults distributed_scale audit_cluster rust go
         start_lane page page_commands page_kinds page_questions page_verdicts page_units "risk_rows --page" lowering systems
     else
-        echo "the library is not built, so its tests have not run"
-        ((failed += 1))
+        fail "the library is not built, so its tests have not run"
         start_lane page_units page_growth systems
     fi
     add_lanes
+    judge_tree
 else
-    echo "the program is not built, so its tests have not run"
-    ((failed += 1))
+    fail "the program is not built, so its tests have not run"
 fi
 show_notes
 echo "$passed passed, $failed failed"

@@ -1,9 +1,9 @@
 #!/usr/bin/env python3
 """alias_places.py [--check]
 
-Writes crates/sd_alias/src/places.rt from table.rt beside it: where the entry of each two letters is, and that of each
-SID. With --check it writes nothing, and fails if the file is stale; the last line is then 'N passed, M failed'. What
-the file says is proved all the same: a wrong place fails the check of sd_alias.
+Writes crates/sd_alias/src/places.rt from table.rt beside it. It says where the entry of each two letters is, and that
+of each SID. With --check it writes nothing, and fails if the file is stale; the last line is then 'N passed, M failed'.
+What the file says is proved all the same: a wrong place fails the check of sd_alias.
 """
 import argparse
 import pathlib

@@ -1,9 +1,9 @@
 #!/usr/bin/env python3
 """languages.py [--check]
 
-Writes what other languages declare of include/sdtool.h: Rust, .NET and Python's ctypes its structs, numbers and
-functions, and JavaScript where members are in WebAssembly. clang reads the header. With --check it writes nothing: a
-stale file is a failure, and so is a function that a language neither calls nor leaves out for a reason below, or a
+Writes what other languages declare of include/sdtool.h. Rust, .NET and Python's ctypes get its structs, numbers and
+functions, and JavaScript gets where members are in WebAssembly. clang reads the header. With --check it writes nothing:
+a stale file is a failure, and so is a function that a language neither calls nor leaves out for a reason below, or a
 struct of systems/c/wasm.c that is not the header's with 32 bits. The last line is then 'N passed, M failed'.
 """
 import argparse
@@ -28,17 +28,32 @@ HEAD = "`make figures` writes this file from include/sdtool.h"
 READ_ONCE = {"sdtool_check": "sdtool_check_with serves", "sdtool_reasons": "sdtool_reasons_with serves"}
 IN_PYTHON = {**READ_ONCE, "sdtool_describe": "_places.py says it"}
 NO_NUMBER = {"sdtool_version_number": "sdtool_version serves"}
+COLUMNS = ("sdtool_convert_many", "sdtool_convert_many_large")
+LARGE = {"sdtool_convert_many": "sdtool_convert_many_large serves"}
+SMALL = {"sdtool_convert_many_large": "no array has as many bytes"}
+ROWS = dict.fromkeys(COLUMNS, "a call for each row serves, as rows have to be copied to the module's memory anyway")
 WASM = "systems/c/wasm.c"
 OF_STRUCT = {"uint8_t": "B", "uint16_t": "H", "uint32_t": "I"}  # letters of the struct module
 CALLERS: Dict[str, Tuple[str, str, Dict[str, str]]] = {
-    "Rust": ("rust/sdtool/src/calls.rs", r"\b{name}\b", READ_ONCE),
-    "Go": ("go/*.go", r"\bC\.{name}\b", READ_ONCE),
-    ".NET": ("dotnet/Sdtool/[!N]*.cs", r"\bCalls\.{camel}\b", READ_ONCE),
-    "Python by ctypes": ("python/sdtool/_foreign.py", r"\b{name}\b", {**IN_PYTHON, **NO_NUMBER}),
-    "Python in C": ("python/sdtool/_native.c", r"\bEACH\({short}\)", IN_PYTHON),
-    "JavaScript": ("javascript/sdtool.mjs", r'"{name}"', NO_NUMBER),
-    "WebAssembly": (WASM, r"\bEXPORT\({name}\)", {}),
+    "Rust": ("rust/sdtool/src/calls.rs", r"\b{name}\b", {**READ_ONCE, **LARGE}),
+    "Go": ("go/*.go", r"\b(?:C\.|return ){name}\b", {**READ_ONCE, **LARGE}),
+    ".NET": ("dotnet/Sdtool/[!N]*.cs", r"\bCalls\.{camel}\b", {**READ_ONCE, **SMALL}),
+    "Python by ctypes": ("python/sdtool/_foreign.py", r"\b{name}\b",
+                         {**IN_PYTHON, **NO_NUMBER, **LARGE}),
+    "Python in C": ("python/sdtool/_native.c", r"\bEACH\({short}\)",
+                    {**IN_PYTHON, **dict.fromkeys(COLUMNS, "calls for single values take less time")}),
+    "JavaScript": ("javascript/sdtool.mjs", r'"{name}"', {**NO_NUMBER, **ROWS}),
+    "WebAssembly": (WASM, r"\bEXPORT\({name}\)", ROWS),
 }
+# The names of other numbers in Python, and its tables of words: what is in front of a word, and words of other names.
+NAMED_IN_PYTHON = {"_OWNER": "SET_OWNER", "_GROUP": "SET_GROUP", "_CHANGES": "ARGUMENT_CHANGES",
+                   "_LONGEST_LINE": "MOST_TEXT"}
+TABLES_OF_PYTHON: Dict[str, Tuple[str, Dict[str, str]]] = {
+    "MAPPINGS": ("MAPPING_", {}), "KINDS": ("KIND_", {}), "ACLS": ("", {}), "PARTS": ("", {}),
+    "STATES": ("ACL_", {}), "PLACES": ("", {"end": "AT_END", "order": "BY_ORDER"}), "FIELDS": ("FIELD_", {}),
+    "REASONS": ("REASON_", {}),
+    "_ARGUMENTS": ("ARGUMENT_", {"deny_only": "ARGUMENT_ENTRIES", "object_type": "ARGUMENT_OBJECT",
+                                 "number": "ARGUMENT_FAULT"})}
 TYPE = re.compile(r"(const )?(?:struct )?(\w+)(?: ?(\*))?(?:\[(\d+)\])?")
 
 
@@ -108,6 +123,9 @@ def read() -> Header:
     macros = subprocess.run(words, stdout=subprocess.PIPE, check=True, text=True).stdout
     header.numbers.update((name, int(number, 0)) for name, number in
                           re.findall(r"^#define (SDTOOL_\w+) (\w+?)u?$", macros, re.M))
+    for name, argument, text in re.findall(r"^#define (SDTOOL_\w+)\((\w+)\) (.*)$", macros, re.M):
+        first, second = (eval(text.replace("(size_t)", ""), {argument: one}) for one in (0, 1))
+        header.numbers.update({f"{name}_FIRST": first, f"{name}_EACH": second - first})
     return header
 
 
@@ -124,7 +142,8 @@ def filled(head: str, items: List[str], end: str) -> str:
 
 # Rust: the crate sdtool-sys.
 
-OF_RUST = {"uint8_t": "u8", "uint16_t": "u16", "uint32_t": "u32", "size_t": "usize", "_Bool": "bool", "bool": "bool"}
+OF_RUST = {"uint8_t": "u8", "uint16_t": "u16", "uint32_t": "u32", "uint64_t": "u64", "size_t": "usize",
+           "_Bool": "bool", "bool": "bool"}
 
 
 def rust_type(kind: Type) -> str:
@@ -157,8 +176,8 @@ def rust(header: Header) -> str:
 
 # .NET: all is blittable, so a bool of C is a byte. Other languages refuse a process of 32 bits later; it has no size_t.
 
-OF_CSHARP = {"uint8_t": "byte", "uint16_t": "ushort", "uint32_t": "uint", "size_t": "ulong", "_Bool": "byte",
-             "bool": "byte"}
+OF_CSHARP = {"uint8_t": "byte", "uint16_t": "ushort", "uint32_t": "uint", "uint64_t": "ulong", "size_t": "ulong",
+             "_Bool": "byte", "bool": "byte"}
 KEYWORDS = {"object", "out", "in", "ref", "params", "fixed", "byte", "uint", "ulong", "ushort"}
 CSHARP = """\
 // {head}.
@@ -231,12 +250,12 @@ def csharp(header: Header) -> str:
 
 # Python: structs of ctypes, and what each call takes and gives.
 
-OF_CTYPES = {"uint8_t": "c_uint8", "uint16_t": "c_uint16", "uint32_t": "c_uint32", "size_t": "c_size_t",
-             "_Bool": "c_bool", "bool": "c_bool"}
+OF_CTYPES = {"uint8_t": "c_uint8", "uint16_t": "c_uint16", "uint32_t": "c_uint32", "uint64_t": "c_uint64",
+             "size_t": "c_size_t", "_Bool": "c_bool", "bool": "c_bool"}
 USERS_IN_PYTHON = ("python/sdtool/_foreign.py", "tests/library/*.py", "tests/dotnet/*.py")
 PYTHON = """\
 # {head}.
-from ctypes import POINTER, Structure, c_bool, c_char_p, c_size_t, c_uint8, c_uint16, c_uint32, c_void_p
+from ctypes import POINTER, Structure, c_bool, c_char_p, c_size_t, c_uint8, c_uint16, c_uint32, c_uint64, c_void_p
 from typing import Any, Sequence, Tuple
 
 # Those that are asked for.
@@ -315,6 +334,8 @@ def names_of_javascript(header: Header) -> Dict[str, int]:
 
 def javascript(header: Header) -> str:
     text = (preload.TOP / "javascript/sdtool.mjs").read_text(encoding="utf-8")
+    if not REGION.search(text):
+        sys.exit("javascript/sdtool.mjs has no place for what is written from sdtool.h")
     rest = re.sub(r"//.*", "", REGION.sub("", text))
     used = [f"{name} = {number}" for name, number in names_of_javascript(header).items()
             if re.search(rf"(?<![\w.\"]){name}\b", rest)]
@@ -359,22 +380,86 @@ def shown(members: List[Member]) -> str:
 
 
 def judge_wasm(count: preload.Count, header: Header) -> None:
-    """The structs of WASM that are not the header's are the same with 32 bits, and the others have none wider."""
+    """The structs of WASM that are not the header's are the same with 32 bits, and the others have none wider. It needs
+    none that only functions take which it leaves out."""
+    left_out = CALLERS["WebAssembly"][2]
+    used, unused = ({one.type.base for name, function in header.functions.items() if (name in left_out) == is_left_out
+                     for one in function.arguments} for is_left_out in (False, True))
     ours = {struct[len("sdtool_"):] for struct in header.structs}
     found = {name: members for item, name, members in items_of(preload.TOP / WASM, ours.__contains__)
              if item["kind"] == "RecordDecl" and members}
     for struct, members in header.structs.items():
+        if struct in unused - used:
+            continue
         name = struct[len("sdtool_"):]
         right = [Member(one.name, narrow(one.type, set(found))) for one in members]
         count.add(found.get(name, members) == right, f"{WASM}: struct {name} is {shown(found.get(name, []))}")
 
 
+def judge_layout(count: preload.Count, header: Header) -> None:
+    """clang lays the structs out with 32 bits as JavaScript has them."""
+    text = f'#include "{HEADER}"\n'
+    for struct in header.structs:
+        offsets, size, _ = layout(header, struct)
+        text += f'_Static_assert(sizeof(struct {struct}) == {size}, "");\n'
+        text += "".join(f'_Static_assert(offsetof(struct {struct}, {member}) == {offset}, "");\n'
+                        for member, offset in offsets.items())
+    words = ["clang", "--target=wasm32-unknown-unknown", "-ffreestanding", "-fsyntax-only", "-x", "c", "-"]
+    ended = subprocess.run(words, input=text, stderr=subprocess.PIPE, text=True, check=False)
+    count.add(ended.returncode == 0, f"{HEADER} with 32 bits: {ended.stderr}")
+
+
+def constants_in(path: pathlib.Path) -> Dict[str, Any]:
+    """What a file of Python assigns on its top level: what it is, or for what has to run first the expression."""
+    found: Dict[str, Any] = {}
+    for node in ast.parse(path.read_text(encoding="utf-8")).body:
+        if isinstance(node, ast.Assign):
+            target, value = node.targets[0], node.value
+        elif isinstance(node, ast.AnnAssign) and node.value:
+            target, value = node.target, node.value
+        else:
+            continue
+        try:
+            result = eval(compile(ast.Expression(value), path.name, "eval"), {"__builtins__": {}, "range": range})
+        except (AttributeError, NameError, TypeError):
+            result = value
+        names = target.elts if isinstance(target, ast.Tuple) else [target]
+        values = result if isinstance(target, ast.Tuple) and not isinstance(result, ast.AST) else [result] * len(names)
+        found.update((one.id, value) for one, value in zip(names, values) if isinstance(one, ast.Name))
+    return found
+
+
+def judge_python(count: preload.Count, header: Header) -> None:
+    """The numbers of the header that files of Python have by themselves, since _native needs no ctypes."""
+    numbers = {name[len("SDTOOL_"):]: number for name, number in header.numbers.items()}
+    written = {preload.TOP / f"python/sdtool/{name}.py" for name in ("_header", "_windows")}
+    tried: Set[str] = set()
+    for path in sorted({*preload.TOP.glob("python/sdtool/_*.py")} - written):
+        for name, value in constants_in(path).items():
+            number = NAMED_IN_PYTHON.get(name, name.lstrip("_"))
+            if type(value) is int and number in numbers:
+                count.add(value == numbers[number], f"{path.name}: {name} = {value}, not {numbers[number]}")
+                tried.add(name)
+            if name in TABLES_OF_PYTHON and isinstance(value, (dict, tuple)):
+                prefix, others = TABLES_OF_PYTHON[name]
+                rows = value if isinstance(value, dict) else {word: at for at, word in enumerate(value) if word}
+                right = {word: numbers.get(others.get(word) or prefix + spelled(word)) for word in rows}
+                count.add(rows == right, f"{path.name}: {name} has {rows}, not {right}")
+                all_there = sum(bool(prefix) and one.startswith(prefix) for one in numbers)
+                count.add(all_there in (0, len(rows)), f"{path.name}: {name} has {len(rows)} of {all_there} numbers")
+                tried.add(name)
+    expected = {*TABLES_OF_PYTHON, *NAMED_IN_PYTHON}
+    count.add(expected <= tried, f"Python lacks {sorted(expected - tried)}")
+
+
+def spelled(word: str) -> str:
+    return word.upper().replace(" ", "_").replace("-", "_")
+
+
 def judge_change(count: preload.Count, header: Header) -> None:
     """Python's changes have the members of the header's, which the struct module packs."""
-    text = (preload.TOP / "python/sdtool/_changes.py").read_text(encoding="utf-8")
-    found = {target.id: node.value for node in ast.parse(text).body if isinstance(node, ast.Assign)
-             for target in node.targets if isinstance(target, ast.Name)}
-    names = [name for part in ("_NUMBERS", "_BYTES") for name in ast.literal_eval(found[part])]
+    found = constants_in(preload.TOP / "python/sdtool/_changes.py")
+    names = [*found["_NUMBERS"], *found["_BYTES"]]
     members = header.structs["sdtool_change"]
     count.add(names == [one.name for one in members], f"_changes.py has the members {names}")
     letters = [f"{one.type.length}s" if one.type.length else OF_STRUCT[one.type.base] for one in members]
@@ -382,7 +467,7 @@ def judge_change(count: preload.Count, header: Header) -> None:
     for letter, run in itertools.groupby(letters):
         times = len(list(run))
         right += letter * times if letter.endswith("s") else f"{times}{letter}"
-    layout_of = found["_LAYOUT"].args[0].value  # type: ignore[attr-defined]
+    layout_of = found["_LAYOUT"].args[0].value
     count.add(layout_of == right, f"_changes.py packs {layout_of!r}, not {right}")
 
 
@@ -406,7 +491,9 @@ def main() -> int:
     if not is_check:
         return 0
     judge_calls(count, header)
+    judge_layout(count, header)
     judge_wasm(count, header)
+    judge_python(count, header)
     judge_change(count, header)
     return count.end()
 

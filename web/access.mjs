@@ -2,18 +2,14 @@
 // second access check here.
 import {guidBytes, sidBytes} from "./library.mjs";
 import {everybodyClass, meaningOfSid, tableOf} from "./meanings.mjs";
+import {ALLOWS, OWNER_RIGHTS, SYSTEM_SECURITY, MAXIMUM_ALLOWED, GENERIC, DECIDING} from "./well_known.mjs";
 
-const DECIDING = ["A", "D", "OA", "OD"];
 const GRANTING = ["no-dacl", "owner", "privilege", "granted"];
 const OF_ACES = ["granted", "denied"];
-const EVERY_BIT = 0xfeffffff; // but that of the right that no ACE grants
-const SYSTEM_SECURITY = 0x1000000;
-const OF_AN_OWNER = 0xe0000; // to read and change the permissions, and the owner
-const MAXIMUM_ALLOWED = 0x2000000;
-const RESERVED = 0xc000000; // bits that nobody may ask for
-const GENERIC = 0xf0000000;
-const OWNER_RIGHTS = "S-1-3-4";
-const MEDIUM = "S-1-16-8192"; // the level of an object without a label
+const EVERY_BIT = 0xfeffffff;        // but that of the right that no ACE grants
+const OF_AN_OWNER = 0xe0000;         // to read and change the permissions, and the owner
+const RESERVED = 0xc000000;          // bits that nobody may ask for
+export const MEDIUM = "S-1-16-8192"; // the level of an object without a label
 const FIRST_TRUSTEES = 100;
 const MOST_TYPES = 200; // of objects that the page asks about in turn
 
@@ -21,6 +17,9 @@ const MOST_TYPES = 200; // of objects that the page asks about in turn
 export const isBroad = (sid) => everybodyClass(sid) !== null;
 
 const bitsOf = (mask) => Array.from({length: 32}, (_, place) => (1 << place) >>> 0).filter((bit) => (mask & bit) !== 0);
+
+// Numbers, each once.
+export const inOrder = (numbers) => [...new Set(numbers)].sort((one, other) => one - other);
 
 const has = (mask, bit) => (mask & bit) >>> 0 === bit;
 
@@ -88,19 +87,20 @@ export const decidedOf = (row) => row.reasons.split(",").map((reason, place) => 
 // What decided about one.
 export const reasonIn = (row, bit) => ({...decidedOf(row)[Math.log2(bit)], isGranted: has(row.granted, bit)});
 
-// What a trustee has by ACEs of its own, or by a rule. What wider groups have is told of these, unless an ACE denies
-// some of it.
+// What a trustee has by ACEs of its own, also behind those of wider groups, or by a rule. What only wider groups have
+// is told of these, unless an ACE denies some of it.
 export function ownOf(row) {
-    const own = decidedOf(row).filter(({by, number}) => by !== "ace" || row.numbers.includes(number));
-    return row.denied ? row.granted : own.reduce((mask, {bit}) => (mask | (row.granted & bit)) >>> 0, 0);
+    const byRule = decidedOf(row).filter(({by}) => by !== "ace");
+    return row.denied ? row.granted : ((row.given | byRule.reduce((mask, {bit}) => mask | bit, 0)) & row.granted) >>> 0;
 }
 
-// The trustees of a DACL, in the order in which they first occur, and the owner before them.
-function trusteesOf(model) {
+// The trustees of a DACL, in the order in which they first occur, and the owner before them. GIVEN is what ACEs of its
+// own allow a trustee here, of the object type that is asked for, and GIVING are their numbers.
+function trusteesOf(model, object) {
     const rows = new Map();
     const add = (who, isOwner) => {
         if (!rows.has(who.sid)) {
-            rows.set(who.sid, {sid: who.sid, alias: who.alias, isOwner, numbers: []});
+            rows.set(who.sid, {sid: who.sid, alias: who.alias, isOwner, numbers: [], given: 0, giving: []});
         }
     };
     if (model.owner) {
@@ -109,7 +109,12 @@ function trusteesOf(model) {
     for (const ace of model.dacl.aces) {
         if (DECIDING.includes(ace.kind)) {
             add(ace, false);
-            rows.get(ace.sid).numbers.push(ace.number);
+            const row = rows.get(ace.sid);
+            row.numbers.push(ace.number);
+            if (ALLOWS.includes(ace.kind) && !ace.flags.includes("IO") && (!ace.object || ace.object === object)) {
+                row.given = (row.given | ace.meaning) >>> 0;
+                row.giving.push(ace.number);
+            }
         }
     }
     return [...rows.values()];
@@ -141,7 +146,7 @@ export function gridOf(
     library, descriptor, model, {mapping, object, common, all, rights = rightsOfMapping(library, mapping)}) {
     const objectType = guidBytes(library, object);
     const types = typesOf(model, mapping);
-    const trustees = trusteesOf(model);
+    const trustees = trusteesOf(model, object);
     const asked = trustees.filter((row, index) => all || index < FIRST_TRUSTEES || isBroad(row.sid));
     const rows = asked.map((row) => {
         const sids = tokenSids(row.sid, model, common);
@@ -265,4 +270,4 @@ export function meaningOf(library, mask, mapping) {
                                     mask;
 }
 
-export {bitsOf, DECIDING, grantedOf, has};
+export {bitsOf, grantedOf, has};

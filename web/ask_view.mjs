@@ -1,6 +1,6 @@
 // The second view: what a token gets, and what decided about each right.
 import {bitsOf} from "./access.mjs";
-import {box, button, byId, input, labelled, make, select, show} from "./dom.mjs";
+import {box, button, byId, input, labelled, make, scrolling, select, show, tableHead} from "./dom.mjs";
 import {maskText} from "./library.mjs";
 import {reasonKey} from "./look_view.mjs";
 import {faultInWords, rightsInWords, rightsOf, shownName, visible} from "./naming.mjs";
@@ -171,10 +171,8 @@ export function showAsk(result, {kind, names, texts}) {
             make("code", {}, `${isGranted ? "granted" : "denied"} ${maskText(result.verdict.mask)}`)),
         tokenLine(result, names), beside(result),
         result.isForWhole ? make("p", {class: "hint"}, WORDS.ask.whole) : null,
-        make("div", {class: "scroll", tabindex: "0", role: "region", "aria-label": columns.reason},
-            make("table", {class: "reasons"},
-                make("thead", {},
-                    make("tr", {}, Object.values(columns).map((text) => make("th", {scope: "col"}, text)))),
+        scrolling({"aria-label": columns.reason},
+            make("table", {class: "reasons"}, tableHead(columns),
                 make("tbody", {}, decidedBy(result.reasons).map((one) => reasonRow(one, kind, texts, isSome))))));
     return [said];
 }

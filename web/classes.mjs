@@ -1,5 +1,6 @@
 // What is known of a directory object by its entry: its classes, and whether Windows knows its place. Where no class is
 // known, what would be found of each is told with the classes that it depends on.
+import {inOrder} from "./access.mjs";
 import {risksOf} from "./risks.mjs";
 import {guidNames} from "./schema.mjs";
 import {ABILITIES, CONTAINERS, DEFAULTS, PROTECTING} from "./windows.mjs";
@@ -42,8 +43,7 @@ function alike(aces) {
 }
 
 // The numbers of the ACEs of two findings.
-const joined =
-    (one, other) => [...new Set([...(one?.numbers ?? []), ...other.numbers])].sort((first, second) => first - second);
+const joined = (one, other) => inOrder([...(one?.numbers ?? []), ...other.numbers]);
 
 // What the rules find of an object of any class. What isn't found of each has the classes that it is found of alone, or
 // those that it isn't found of.

@@ -46,15 +46,16 @@ const linesOf = (text) => text.split(/\r\n|\r|\n/).filter((line) => line.trim() 
 
 const unfolded = (text) => text.replace(/\r?\n[ \t]/g, "");
 
-// The value of an attribute of an entry, which is in base64 after two colons; of a line that doesn't begin with its
-// name nothing.
-function valueOfEntry(line, pattern) {
-    const [front, colons] = pattern.exec(line) ?? [];
-    if (!front) {
-        return undefined;
-    }
+// The attribute that a line of an entry tells, with what stands in front of its value; null if it tells none.
+function attributeIn(line) {
+    const [front, attribute, colons] = ATTRIBUTE.exec(line) ?? NONE;
+    return front === undefined ? null : {front, attribute, name: attribute.toLowerCase(), isBase64: colons === "::"};
+}
+
+// The text of an attribute of a line.
+function textOf({front, isBase64}, line) {
     const value = line.slice(front.length).trim();
-    if (colons !== "::") {
+    if (!isBase64) {
         return value;
     }
     try {
@@ -69,7 +70,10 @@ const BESIDE = new Map(Object.entries(DESCRIPTORS).map(([name, kind]) => [name.t
 const OF_THE_OBJECT = "ntsecuritydescriptor";
 const HEAD = 20; // bytes of a descriptor
 
-const nameOfEntry = (line) => valueOfEntry(line, /^dn(::?)/i);
+function nameOfEntry(line) {
+    const one = attributeIn(line);
+    return one?.name === "dn" ? textOf(one, line) : undefined;
+}
 
 // Whether a text is base64 of what begins as a descriptor does: its revision, the bit for one block, and a null.
 function looksLikeBytes(text) {
@@ -82,20 +86,13 @@ function looksLikeBytes(text) {
 
 const LOOKS_LIKE_SDDL = /^(?:[OG]:[A-Z0-9-]+)*[DS]:[A-Z_]*\([A-Z]{1,2};/i;
 
-// The descriptor that a line of an entry has, or null: that of the object, or one of another attribute. Where nothing
-// says what its rights mean the kind is empty.
-function ofAttribute(line) {
-    const [front, attribute, colons] = ATTRIBUTE.exec(line) ?? [];
-    if (!front) {
-        return null;
-    }
-    const name = attribute.toLowerCase();
+// The descriptor that an attribute has, or null: that of the object, or another one. Where nothing says what its rights
+// mean the kind is empty.
+function ofAttribute({front, name, isBase64}, line) {
     const kind = name === OF_THE_OBJECT ? "ds" : BESIDE.get(name);
     const value = line.slice(front.length).trim();
-    if (kind === undefined && !(colons === "::" ? looksLikeBytes(value) : LOOKS_LIKE_SDDL.test(value))) {
-        return null;
-    }
-    return {front, attribute, kind: kind ?? "", form: colons === "::" ? "base64" : "sddl", line: value};
+    const isOne = kind !== undefined || (isBase64 ? looksLikeBytes(value) : LOOKS_LIKE_SDDL.test(value));
+    return isOne ? {kind: kind ?? "", form: isBase64 ? "base64" : "sddl", line: value} : null;
 }
 
 // The descriptors of entries of LDIF, each with the classes of its entry and the kind that its attribute tells.
@@ -104,25 +101,29 @@ function ofLdif(text) {
     const folds = /\n[ \t]/.test(text) ? [{what: "folds"}] : [];
     let [name, classes, made, others] = [undefined, [], [], []];
     for (const line of unfolded(text).split(/\r?\n/)) {
-        const named = nameOfEntry(line);
-        [name, classes, made] = named === undefined ? [name, classes, made] : [named, [], []];
-        classes.push(...[valueOfEntry(line, /^>?objectClass(::?)/i)].filter(Boolean));
-        made.push(...[valueOfEntry(line, /^>?lDAPDisplayName(::?)/i)].filter(Boolean)); // of a class, its objects'
-        const has = ofAttribute(line);
+        const one = attributeIn(line);
+        if (one?.name === "dn") {
+            [name, classes, made] = [textOf(one, line), [], []];
+        } else if (one?.name === "objectclass") {
+            classes.push(textOf(one, line));
+        } else if (one?.name === "ldapdisplayname") {
+            made.push(textOf(one, line)); // of a class, its objects'
+        }
+        const has = one && ofAttribute(one, line);
         if (!has) {
             others.push(line);
             continue;
         }
-        const {front, attribute, kind, ...own} = has;
-        const isOwn = attribute.toLowerCase() === OF_THE_OBJECT;
+        const {kind, ...own} = has;
+        const isOwn = one.name === OF_THE_OBJECT;
         found.push({
-            name: isOwn ? name ?? "" : [name, attribute].filter(Boolean).join(": "),
+            name: isOwn ? name ?? "" : [name, one.attribute].filter(Boolean).join(": "),
             ...own,
             ...(name === undefined ? {} : {kind}),
             classes: isOwn    ? classes :
                 kind === "ds" ? made :
                                 NONE,
-            dropped: [...leftOut("before", [...others, front.trim()].join(" ")), ...folds]
+            dropped: [...leftOut("before", [...others, one.front.trim()].join(" ")), ...folds]
         });
         others = [];
     }
@@ -265,9 +266,8 @@ function nameOf(line, own, values, others) {
 function ofSddl(text) {
     const all = spread(text).split(/\r\n|\r|\n/);
     const lines = all.filter((line) => line.trim() !== "");
-    const values = valuesAround(all);
     const found = [];
-    let [others, table] = [[], null];
+    let [others, table, values] = [[], null, null];
     for (let at = 0; at < lines.length; at += 1) {
         const one = ofSddlLine(lines, at);
         if (!one) {
@@ -275,6 +275,7 @@ function ofSddl(text) {
             others.push(lines[at].trim());
             continue;
         }
+        values ??= valuesAround(all);
         one.name = nameOf(lines[at], one.name, table?.(lines[at]) ?? values[at], others);
         const folded = one.isClosed ? [] : continuationOf(one.line, lines, at + 1);
         if (folded.length) {

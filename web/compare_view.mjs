@@ -1,10 +1,10 @@
 // The fourth view: what differs between two descriptors, and whose rights.
-import {linesOf} from "./desk.mjs";
-import {byId, labelled, make, show, showParts, someRows} from "./dom.mjs";
+import {byId, labelled, make, scrolling, show, showParts, someRows} from "./dom.mjs";
 import {kindQuestion} from "./kind_view.mjs";
 import {maskText} from "./library.mjs";
 import {foundText} from "./look_view.mjs";
 import {faultInWords, whereOf} from "./naming.mjs";
+import {linesOf} from "./packing.mjs";
 import {aceRights, faultBox, kindClass, longField, rightsDiffering, rightsSection, who} from "./parts_view.mjs";
 import {valueIn} from "./tables.mjs";
 import {commaed, say, WORDS} from "./words.mjs";
@@ -59,7 +59,7 @@ function aceTable(list, rows, kind, names, later) {
         body);
     const more = someRows(body, linesOf(rows), (line) => aceRow(JSON.parse(line), kind, names),
         (count) => say(WORDS.parts.more, {count}), {later});
-    return [make("div", {class: "scroll", tabindex: "0", role: "region", "aria-label": title}, table), more];
+    return [scrolling({"aria-label": title}, table), more];
 }
 
 const flagsInWords = (flags) => (flags === "absent" ? WORDS.parts.absent : flags || WORDS.compare.noFlags);

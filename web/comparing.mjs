@@ -1,14 +1,10 @@
 // What differs between two descriptors. Same content means the same canonical layout; rights are answers of check.
-import {DECIDING, grantedByType, isBroad, namedRights, tokenOf, tokenSids, typesFor, typesOf} from "./access.mjs";
+import {grantedByType, isBroad, namedRights, tokenOf, tokenSids, typesFor, typesOf} from "./access.mjs";
 import {aceText, aclFlags, hexOf} from "./library.mjs";
+import {EVERYONE, OWNER_RIGHTS, DECIDING} from "./well_known.mjs";
 
 const MOST_CELLS = 4_000_000; // of the table that finds what two lists have in common
 const MOST_WORK = 4_000_000;  // ACEs that all questions together go through
-const OWNER_RIGHTS = "S-1-3-4";
-const EVERYONE = {
-    sid: "S-1-1-0",
-    alias: "WD"
-}; // gets everything where there is no list
 
 // The pairs of places of a longest common subsequence of two lists, which often begin and end alike.
 function commonOf(one, other) {
@@ -75,7 +71,8 @@ function takePairs(ones, others, keyOfOne, keyOfOther) {
 
 const trusteeOf = (ace) => `${ace.kind} ${ace.sid}`;
 
-function compareAces(ones, others) {
+// ORIGINS are the places of ACEs of the first list that are known to have become those of the other one.
+function compareAces(ones, others, origins) {
     const same = commonOf(ones.texts, others.texts);
     const left = new Set(ones.texts.keys());
     const right = new Set(others.texts.keys());
@@ -84,8 +81,10 @@ function compareAces(ones, others) {
         right.delete(other);
     }
     const moved = takePairs(left, right, (one) => ones.texts[one], (other) => others.texts[other]);
-    const changed =
-        takePairs(left, right, (one) => trusteeOf(ones.aces[one]), (other) => trusteeOf(others.aces[other]));
+    const changed = [
+        ...takePairs(left, right, (one) => one, (other) => origins[other]),
+        ...takePairs(left, right, (one) => trusteeOf(ones.aces[one]), (other) => trusteeOf(others.aces[other]))
+    ];
     const row = (state) => ([one, other]) => ({state, one: ones.aces[one] ?? null, other: others.aces[other] ?? null});
     return [
         ...same.map(row("same")),
@@ -105,7 +104,7 @@ function trusteesOf(sides) {
     const trustees = new Map();
     for (const {model} of sides) {
         const aces = model.dacl.aces.filter((ace) => DECIDING.includes(ace.kind));
-        const anyone = model.dacl.state === "list" ? null : EVERYONE;
+        const anyone = model.dacl.state === "list" ? null : {sid: EVERYONE, alias: "WD"}; // has all rights
         for (const who of [model.owner, anyone, ...aces].filter((one) => one && one.sid !== OWNER_RIGHTS)) {
             trustees.set(who.sid, {sid: who.sid, alias: who.alias ?? trustees.get(who.sid)?.alias ?? null});
         }
@@ -169,8 +168,12 @@ export function compareRights(library, sides, {mapping, object, common, rights: 
     };
 }
 
-// SIDES are two of {descriptor, asked, model}: what is compared, and what the library is asked about.
-export function compare(library, sides) {
+// SIDES are two of {descriptor, asked, model}: what is compared, and what the library is asked about. ORIGINS are of an
+// edit, which knows what became of an ACE.
+export function compare(library, sides, origins = {
+    dacl: [],
+    sacl: []
+}) {
     const [one, other] = sides;
     const parts = ["owner", "group"].map((part) => ({
         part,
@@ -193,7 +196,7 @@ export function compare(library, sides) {
         manager: {one: one.model.manager, other: other.model.manager},
         parts,
         flags,
-        dacl: compareAces(listOf(one, "dacl"), listOf(other, "dacl")),
-        sacl: compareAces(listOf(one, "sacl"), listOf(other, "sacl")),
+        dacl: compareAces(listOf(one, "dacl"), listOf(other, "dacl"), origins.dacl),
+        sacl: compareAces(listOf(one, "sacl"), listOf(other, "sacl"), origins.sacl),
     };
 }

@@ -1,15 +1,12 @@
 // The questions of the page, each answered as plain data, so that a worker can send it. Nothing here knows the
 // document.
-import {ask, gridOf, isRefusedRequest, levelOfObject, meaningOf, typesOf} from "./access.mjs";
-import {descriptorsIn, straysIn} from "./clipboard.mjs";
-import {placeOf as placeOfObject} from "./classes.mjs";
+import {ask, gridOf, isRefusedRequest, levelOfObject, typesOf} from "./access.mjs";
 import {compare, compareRights} from "./comparing.mjs";
 import {asIf} from "./conditions.mjs";
 import {aboveOf, edited} from "./editing.mjs";
 import {bytesOf, placeOf} from "./faults.mjs";
 import {inherit} from "./inheriting.mjs";
-import {aceTexts, descriptorOf, guidBytes, hexOf, isFault, maskOfText, modelOf, sidBytes, sidText} from "./library.mjs";
-import {fitsKind, kindByRights, kindIn, kindsOf} from "./kinds.mjs";
+import {aceTexts, descriptorOf, guidBytes, hexOf, maskOfText, modelOf, sidBytes, sidText} from "./library.mjs";
 import {
     hasOwnMapping,
     heirsOf,
@@ -19,131 +16,33 @@ import {
     rightsOfKind,
     withoutGeneric
 } from "./meanings.mjs";
-import {writtenAces} from "./scanning.mjs";
+import {packed} from "./packing.mjs";
 import {commandsFor, forCommand} from "./set_command.mjs";
+import {
+    about,
+    asked,
+    explained,
+    isEmpty,
+    kindOf,
+    openKind,
+    placeIn,
+    plainFault,
+    read,
+    textOf,
+    tried,
+    withMeanings
+} from "./subject.mjs";
 import {valueIn} from "./tables.mjs";
 import {MOST_SIDS, readToken} from "./tokens.mjs";
 import {usualOf, verdictOf, verdictOfConditions, verdictOfKinds} from "./verdict.mjs";
 import {findingsOf, warningsOf} from "./warnings.mjs";
+import {GENERIC} from "./well_known.mjs";
 
-const MOST_SHOWN = 20_000;   // characters of a descriptor as a whole
-const MOST_OF_KIND = 10_000; // characters of a text that tell of the kind of object
-const GENERIC = 0xf0000000;
-const MOST_TEXTS = 2;                            // that are kept
-const MOST_NAMED = 1000;                         // descriptors of a text in a list
-const MOST_PIECE = 60;                           // characters of a text that is refused, for a sentence
-const MOST_DESCRIPTORS = 10_000;                 // of a text, whose verdicts are told together
-const MILLISECONDS_OF_MANY = 150;                // of one question about many
-export const STAND_IN_DOMAIN = "S-1-5-21-0-0-0"; // of relative aliases, where nobody knows the domain
-const [LAST_OF_SPELLING, NEEDS_DOMAIN] = [4, 23];
-
-const plainFault = ({number, name, part, otherPart, place}) => ({number, faultName: name, part, otherPart, place});
-
-// Runs what may be refused: {value} or {fault}. Any other error is one of the page itself and goes on.
-function tried(question) {
-    try {
-        return {value: question()};
-    } catch (fault) {
-        if (isFault(fault)) {
-            return {fault: plainFault(fault)};
-        }
-        throw fault;
-    }
-}
-
-// The domain of the field, as a SID in text and as an option of the library, or why it is none. TRUSTED is the domain
-// whose administrators alone are trusted.
-function domainOf(library, text) {
-    const typed = text.trim();
-    if (!typed) {
-        return {text: "", trusted: "", option: {}};
-    }
-    const {value, fault} = tried(() => sidText(library, typed));
-    return fault ? {fault} : {text: value, trusted: value, option: {domain: sidBytes(library, value)}};
-}
-
-const standIn = (library) => ({...domainOf(library, STAND_IN_DOMAIN), trusted: "", isStandIn: true});
-
-// What the mask of an ACE means for a kind of object: by the library, or by the table where the library has no mapping.
-const meaningFor = (library, mask, kind) =>
-    hasOwnMapping(kind) ? withoutGeneric(mask, kind) : meaningOf(library, mask, mappingOf(kind));
-
-const acesIn = ({dacl, sacl}) => [...dacl.aces, ...sacl.aces];
-
-const withMeanings = (library, model, kind) => {
-    for (const ace of acesIn(model)) {
-        ace.meaning = ace.kind === "ML" ? ace.mask : meaningFor(library, ace.mask, kind);
-    }
-    return model;
-};
-
-const explained = (library, descriptor, domain, kind) =>
-    withMeanings(library, modelOf(library, descriptor, domain.option), kind);
-
-// The descriptor that the library is asked about. Where it has no mapping for a kind, generic rights are replaced.
-function asked(library, descriptor, model, kind) {
-    const {aces} = model.dacl;
-    if (!hasOwnMapping(kind) || aces.every((ace) => ace.meaning === ace.mask)) {
-        return descriptor;
-    }
-    const parts = library.parts(descriptor);
-    return library.build({...parts, dacl: parts.dacl.aces.map((ace, at) => ({...ace, mask: aces[at].meaning}))});
-}
-
-const kindTold = (text) => kindIn(text.slice(0, MOST_OF_KIND));
-
-// What was found in the last two texts, of which a comparison has as many: each text is read once.
-const texts = [];
-
-function textOf(text, form) {
-    const at = texts.findIndex((one) => one.text === text && one.form === form);
-    const found = at < 0 ? descriptorsIn(text, form) : null;
-    const [one] = at < 0 ? [{
-        text,
-        form,
-        found,
-        names: found.slice(0, MOST_NAMED).map(({name}) => name),
-        kind: kindTold(text),
-        strays: straysIn(found)
-    }] :
-                           texts.splice(at, 1);
-    texts.unshift(one);
-    texts.splice(MOST_TEXTS);
-    return one;
-}
-
-// A descriptor of a text: what was found in it, and either the descriptor or its fault with the place.
-function read(library, {text, form, chosen}, domain) {
-    const {found, names, kind} = textOf(text, form);
-    const at = Math.min(chosen ?? 0, found.length - 1);
-    const one = found[at];
-    const about = {
-        found: found.length,
-        names,
-        told: kind,
-        entry: {name: one.name, classes: one.classes, kind: one.kind},
-        chosen: at,
-        form: one.form,
-        line: one.line,
-        dropped: one.dropped,
-        other: one.other,
-        domain
-    };
-    const {value, fault} = tried(() => descriptorOf(library, one.form, one.line, domain.option));
-    if (fault?.number === NEEDS_DOMAIN && !domain.text) {
-        return read(library, {text, form, chosen}, standIn(library));
-    }
-    const place = fault && placeOf(library, one.form, one.line, fault);
-    const written = packed(fault && one.form === "sddl" ? writtenAces(one.line) : []);
-    const outcome = fault ? {fault, place, written} : {descriptor: value};
-    return {...about, ...outcome};
-}
-
-// A browser copies a text from the worker at once, but objects one by one. So a list that may be long is sent as one
-// text, with an item of JSON in each line, and only what is shown is read again.
-const packed = (items) => items.map((item) => JSON.stringify(item)).join("\n");
-
-export const linesOf = (text) => (text ? text.split("\n") : []);
+const MOST_SHOWN = 20_000;        // characters of a descriptor as a whole
+const MOST_PIECE = 60;            // characters of a text that is refused, for a sentence
+const MOST_DESCRIPTORS = 10_000;  // of a text, whose verdicts are told together
+const MILLISECONDS_OF_MANY = 150; // of one question about many
+const LAST_OF_SPELLING = 4;       // the numbers of errors up to it are about how bytes are spelled
 
 // A list of a descriptor, with the text of each ACE.
 const packedList = ({state, aces}, texts) =>
@@ -154,13 +53,6 @@ const marked = (model, options) => {
     const usual = usualOf(model, {...options, ...options.place});
     return {...model.dacl, aces: model.dacl.aces.map((ace) => ({...ace, usual: usual.has(ace.number)}))};
 };
-
-const isEmpty = (text) => text.trim() === "";
-
-// The place of a directory object: the entry in the text tells it, or a report, a link or the user.
-const placeIn = ({name, classes}, {entry}) => (entry.classes.length ?
-        placeOfObject(entry.name, entry.classes) :
-        placeOfObject(name || entry.name, classes.split(",").map((one) => one.trim()).filter(Boolean)));
 
 function optionsOf(library, state, domain) {
     const object = isDirectory(state.kind) ? state.object.trim().toLowerCase() : "";
@@ -175,57 +67,6 @@ function optionsOf(library, state, domain) {
         all: state.all,
         place: state.place,
         domain: domain.trusted
-    };
-}
-
-// The kind that the user has chosen, or that an entry of LDIF, the name of one of several, the text or the rights tell
-// of, or else a folder; and whether it is certain, or nothing tells it. icacls lists files alone.
-function kindOf({kind, isKindChosen}, {found, dropped, entry, told: ofText}, model) {
-    if (isKindChosen || dropped.some(({what}) => what === "listing")) {
-        return {kind: isKindChosen ? kind : "folder", isKindSure: true};
-    }
-    if (entry.kind === "") {
-        return {kind: "folder", isKindOpen: true, isKindSure: false};
-    }
-    const told = entry.kind ?? kindTold(found > 1 ? entry.name : "") ?? ofText;
-    const byRights = told ?? kindByRights(acesIn(model));
-    return {kind: byRights ?? "folder", isKindOpen: !byRights, isKindSure: (told ?? "folder") !== "folder"};
-}
-
-// The question for the kind that each view has to ask, or nothing: nobody chose it, and a second text tells of another
-// one, or several kinds have the rights and nothing tells which it is. A path alone may be that of a program.
-function openKind({kind, isKindChosen, isKindOpen, isKindSure}, models, other = "") {
-    const otherKind = kindTold(other);
-    const isOther = !isKindChosen && (otherKind ?? kind) !== kind;
-    if (!isOther && !isKindOpen && (isKindSure || models.every((model) => fitsKind(kind, acesIn(model))))) {
-        return null;
-    }
-    const told =
-        [isKindOpen ? null : kind, otherKind, ...models.map((model) => kindByRights(acesIn(model)))].filter(Boolean);
-    return {asksKind: isOther ? "texts" : "rights", kinds: [...new Set([...told, ...kindsOf(models.flatMap(acesIn))])]};
-}
-
-// A question about a text: about the descriptor in it, what that says, and its kind. A text without one, or that is
-// refused, is asked about in its own way.
-function about(library, given, question, ofRefused = (found, _) => found) {
-    const typed = domainOf(library, given.domain);
-    if (typed.fault) {
-        return {domainFault: typed.fault};
-    }
-    if (isEmpty(given.text)) {
-        return {isEmpty: true};
-    }
-    const {descriptor, domain, ...found} = read(library, given, typed);
-    const isStandIn = Boolean(domain.isStandIn);
-    if (found.fault) {
-        return {...ofRefused({...found, isStandIn}, domain), descriptorFault: found.fault};
-    }
-    const model = modelOf(library, descriptor, domain.option);
-    const state = {...given, ...kindOf(given, found, model), place: placeIn(given, found)};
-    return {
-        kind: state.kind,
-        isStandIn,
-        ...question({state, descriptor, found, model: withMeanings(library, model, state.kind), domain})
     };
 }
 
@@ -263,7 +104,7 @@ function verdictOfRefused(library, given, found, domain) {
         return {judged: {verdict: "unknown", key: "refused"}};
     }
     const state = {...given, ...kindOf(given, found, most.model), place: placeIn(given, found)};
-    const open = openKind(state, [most.model]);
+    const open = openKind(state, [most.model, least.model]);
     const verdicts =
         parts.map(({descriptor, model}) => verdictOfAny(library, descriptor, model, state, domain, open?.kinds));
     const {numbers} = most;
@@ -294,7 +135,7 @@ const look = (library, given) => about(library, given, ({state, descriptor, foun
         judged: verdictAs(library, descriptor, model, {kind, place}, domain, findings),
         model: {...model, dacl: packedList(marked(model, options), dacl), sacl: packedList(model.sacl, sacl)},
         grid,
-        sddl: sddl.slice(0, MOST_SHOWN),
+        sddl,
         hex: hexOf(descriptor.subarray(0, MOST_SHOWN / 2 + 1)),
         texts: dacl.join("\n"),
         objectFault: options.objectFault,
@@ -351,11 +192,11 @@ function ofEach({state, from}, answer) {
 
 // The verdicts.
 const many = (library, asked) => ofEach(asked, (one) => {
-    const {kind, asksKind, judged, ...found} = about(library, one, ({state, descriptor, model, domain}) => {
+    const {kind, asksKind, judged, isStandIn, ...found} = about(library, one, ({state, descriptor, model, domain}) => {
         const open = openKind(state, [model]);
         return {asksKind: open?.asksKind, judged: verdictOfAny(library, descriptor, model, state, domain, open?.kinds)};
-    }, (read, domain) => ({...read, ...verdictOfRefused(library, one, read, domain)}));
-    return {kind: asksKind ? "" : kind, judged, ...(found.fault ? shortFault(found) : {})};
+    }, (refused, domain) => ({...refused, ...verdictOfRefused(library, one, refused, domain)}));
+    return {kind: asksKind ? "" : kind, judged, isStandIn, ...(found.fault ? shortFault(found) : {})};
 });
 
 // What a token gets of each, without what decided.
@@ -538,7 +379,8 @@ function compareWith(library, {state: given, other}) {
                 dropped: second.dropped,
                 found: second.found,
                 form: second.form,
-                chosen: second.chosen
+                chosen: second.chosen,
+                isStandIn: second.isStandIn
             },
             ...belowOf(found, state.kind),
             ...inLists((list) => found[list]),
@@ -564,18 +406,19 @@ const belowOf = ({dacl}, kind) => ({areBelowSame: !dacl.some((row) => isBelow(ro
 const isBelow = ({state, one, other}, inherited) =>
     state !== "same" && [one, other].some((ace) => ace && inherited.some((flag) => ace.flags.includes(flag)));
 
-// An edit: NOW is the descriptor so far, or null, and STEPS are those to come. The answer has the descriptor after
-// each, and tells the last one beside that of the text.
-function edit(library, {state: given, now, steps}) {
+// An edit: NOW is the descriptor so far, or null, ORIGINS says where its ACEs come from, and STEPS are those to come.
+// The answer has what each makes, and tells the last descriptor beside that of the text.
+function edit(library, {state: given, now, origins, steps}) {
     return about(library, given, ({state, descriptor, found, model, domain}) => {
         const open = openKind(state, [model]);
         if (open) {
             return open;
         }
-        const {made, last, refused} = edited(library, now ?? descriptor, steps, domain.text);
+        const {made, last: {descriptor: last, origins: from}, refused} =
+            edited(library, {descriptor: now ?? descriptor, origins}, steps, domain.text);
         const after = explained(library, last, domain, state.kind);
         const sides = sidesOf(library, [[descriptor, model], [last, after]], state.kind);
-        const differing = compare(library, sides);
+        const differing = compare(library, sides, from);
         const written = writtenIn(library, after, domain);
         const texts = sides.map((side) => library.toSddl(side.descriptor, domain.option));
         const name = state.name || found.entry.name;

@@ -115,6 +115,14 @@ export function box(id, text, checked, onchange) {
 export const button = (text, onclick, attributes = {}) =>
     make("button", {type: "button", ...attributes, onclick}, text);
 
+// The headings of a table.
+export const tableHead = (columns, attributes = {}) =>
+    make("thead", attributes, make("tr", {}, Object.values(columns).map((text) => make("th", {scope: "col"}, text))));
+
+// What scrolls by itself, with its name for a screen reader.
+export const scrolling = (name, ...children) =>
+    make("div", {class: "scroll", tabindex: "0", role: "region", ...name}, children);
+
 const ROWS_OF_A_TURN = 20;
 const AT_ONCE = 300; // rows and cells that are shown in one turn of the page
 

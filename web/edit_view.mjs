@@ -1,87 +1,41 @@
 // The view that changes a descriptor: its ACEs, owner and inheritance, with the verdict, and who gains and who loses.
-import {has} from "./access.mjs";
-import {linesOf} from "./desk.mjs";
-import {box, button, byId, input, labelled, make, moveByArrows, select, show, someRows} from "./dom.mjs";
-import {inheritedBy, isDirectory, tableOf} from "./meanings.mjs";
-import {maskText} from "./library.mjs";
-import {
-    faultInWords,
-    guidInWords,
-    nameOf,
-    placeInWords,
-    rightsInWords,
-    rightsOf,
-    shortened,
-    sidNamed,
-    whereOf
-} from "./naming.mjs";
-import {
-    aceRights,
-    kindClass,
-    rightBoxes,
-    rightsDiffering,
-    rightsOfAce,
-    rightsSection,
-    who,
-    wordOfKind
-} from "./parts_view.mjs";
-import {knownGuids} from "./schema.mjs";
+import {button, byId, make, moveByArrows, scrolling, show, someRows, tableHead} from "./dom.mjs";
+import {aceFields, listOf, sidField} from "./edit_fields.mjs";
+import {inheritedBy, tableOf} from "./meanings.mjs";
+import {faultInWords, guidInWords, nameOf, placeInWords, shortened, whereOf} from "./naming.mjs";
+import {itemsOf} from "./packing.mjs";
+import {aceRights, kindClass, rightsDiffering, rightsOfAce, rightsSection, who, wordOfKind} from "./parts_view.mjs";
 import {acesIn, sentenceOf} from "./sentences.mjs";
+import {commandsSection, textSection} from "./set_view.mjs";
 import {valueIn} from "./tables.mjs";
 import {showSentence, takeButton, verdictLine} from "./verdict_view.mjs";
 import {commaed, formatted, say, WORDS} from "./words.mjs";
 
 const words = WORDS.edit;
 const LISTS = ["dacl", "sacl"];
-const KINDS = {
-    dacl: ["A", "D"],
-    sacl: ["AU", "ML"]
-};
-const TYPED = {
-    A: "OA",
-    D: "OD",
-    AU: "OU"
-}; // with an object type
 const PROTECTED = {
     dacl: "PD",
     sacl: "PS"
-}; // from what is above
-const PLACES = ["", "OICI", "CI", "OI", "OICIIO", "CIIO", "OIIO"];
-const POLICIES = [[1, "NW"], [2, "NR"], [4, "NX"]]; // of a label
-const MOST_SDDL = 4000;                             // characters of the new text
-const MOST_NAMES = 200;                             // that are offered
-const MILLISECONDS_TO_WAIT = 20;                    // for a pointer
+};                               // from what is above
+const MOST_NAME = 4000;          // characters of the object above
+const MOST_NAMES = 200;          // that are offered
+const MILLISECONDS_TO_WAIT = 20; // for a pointer
 const MOST_WAITS = 50;
 const NEW = "edit-new"; // the row of an ACE that a step adds
 const OF_ROW = /^edit-([ds]acl)-(\d+)$/;
-
-const plainKind = (kind) => Object.keys(TYPED).find((one) => valueIn(TYPED, one) === kind) ?? kind;
-
-// The type of an ACE, which depends on whether it has object types.
-const typedKind = ({kind, object, inherited}) => {
-    const plain = plainKind(kind);
-    return object || inherited ? valueIn(TYPED, plain) ?? plain : plain;
-};
-
-const isAudit = ({kind}) => plainKind(kind) === "AU";
-
-// The GUID that a text names, or the text.
-const guidNamed = (text) =>
-    knownGuids().find(({name}) => name.toLowerCase() === text.trim().toLowerCase())?.guid ?? text.trim();
 
 const isSelect = (target) => Boolean(target.closest?.("select"));
 
 export class EditView {
     // ACTS are what the page does: 'step' does one, 'undo' and 'redo', and 'copy' copies a text with what it is.
-    constructor(acts) {
+    constructor(editing, acts) {
+        this.editing = editing;
         this.acts = acts;
         this.about = this.result = this.context = null;
         this.chosen = this.draft = null;
         this.said = this.focus = "";
-        this.isOpen = false; // the boxes of rights
-        this.tool = "";
         this.shown = {dacl: [], sacl: []};
-        this.isHeld = false;
+        this.isHeld = this.isStill = false;
         // The list that a select opens keeps what comes after a pointer is down.
         window.addEventListener("pointerdown", ({target}) => { this.isHeld = !isSelect(target); }, true);
         ["pointerup", "pointercancel"].forEach(
@@ -100,16 +54,27 @@ export class EditView {
         this.acts.step(step);
     }
 
+    // Whether the numbers that are shown are those of before a step that waits: what is pressed now means other ACEs.
+    get isBehind() { return this.editing.isRenumbering; }
+
     take(list, numbers) {
+        if (this.isBehind) {
+            return;
+        }
         this.chosen = null;
         const aces = acesIn(numbers, WORDS.verdict.ace, WORDS.verdict.aces);
         this.step({does: "take", list, numbers}, say(words.did.take, {aces}), idOf(list, numbers[0]));
     }
 
+    // Takes those of the verdict, which stays in view.
+    takeOfVerdict(numbers) {
+        this.isStill = true;
+        this.take("dacl", numbers);
+    }
+
     move({list, number}, by) {
         const isThere = number + by >= 1 && number + by <= this.rows(list).length;
-        // A key that repeats faster than the answers come would move another one.
-        if (!isThere || this.context.editing.waiting.length) {
+        if (!isThere || this.isBehind) {
             return;
         }
         this.chosen = this.isChosen({list, number}) ? {list, number: number + by} : null;
@@ -119,8 +84,11 @@ export class EditView {
 
     // Changes an ACE, or what a step makes of it that still waits.
     replace(ace, changeOf) {
+        if (this.isBehind) {
+            return;
+        }
         const {list, number} = ace;
-        const last = this.context.editing.waiting.at(-1);
+        const last = this.editing.waiting.at(-1);
         const isWaiting = last?.does === "replace" && last.list === list && last.number === number;
         const now = isWaiting ? last.ace : ace;
         this.step({does: "replace", list, number, ace: {...now, ...changeOf(now)}}, say(words.did.replace, {number}));
@@ -135,10 +103,10 @@ export class EditView {
      * Shows an answer. BEFORE is the verdict on the descriptor before all steps. Gives what a screen reader says of it.
      */
     show(result, context) {
-        const {about} = context.editing;
+        const {about} = this.editing;
         const isSame = this.about === about;
         const before = isSame ? LISTS.flatMap((list) => this.rows(list)) : [];
-        const [dacl, sacl] = LISTS.map((list) => linesOf(result[list]).map((line) => JSON.parse(line)));
+        const [dacl, sacl] = LISTS.map((list) => itemsOf(result[list]));
         Object.assign(
             this, {result, context, about, shown: {dacl, sacl}, ...(isSame ? {} : {chosen: null, draft: null})});
         const {refused} = result;
@@ -151,32 +119,32 @@ export class EditView {
                 verdictLine("edit-", this.undoButtons())),
             make("div", {class: "split"}, make("div", {}, this.acesSection()),
                 make("div", {class: "told"}, rightsSection("edit-gains", words.rights, result, context),
-                    this.commandsSection(), this.textSection())));
+                    commandsSection(result, this.acts.copy), textSection(result, this.acts.copy))));
         const sentence = this.showSentence();
         this.restore(kept, before);
         const said = [
             this.said, refused ? this.refuse(refused) : "", sentence,
-            context.editing.done.length ? rightsDiffering(result) : ""
+            this.editing.done.length ? rightsDiffering(result) : ""
         ];
         this.said = "";
         return [said.filter(Boolean).join(" ")];
     }
 
     undoButtons() {
-        const {editing} = this.context;
+        const {editing} = this;
         return [
             button(words.undo, this.acts.undo,
                 {id: "edit-undo", disabled: !editing.done.length, "aria-keyshortcuts": "Control+Z"}),
             button(words.redo, this.acts.redo,
                 {id: "edit-redo", disabled: !editing.undone.length, "aria-keyshortcuts": "Control+Y"}),
-            takeButton(this.result.judged, (numbers) => this.take("dacl", numbers), "edit-take")
+            takeButton(this.result.judged, (numbers) => this.takeOfVerdict(numbers), "edit-take")
         ];
     }
 
     // The verdict after the steps, and the one before.
     showSentence() {
-        const {names, editing, judged} = this.context;
-        const {length} = editing.done;
+        const {names, judged} = this.context;
+        const {length} = this.editing.done;
         const after = sentenceOf(this.result.judged, names, this.result);
         if (!length) {
             return showSentence(this.result.judged.verdict, after, [words.nothing], "edit-");
@@ -193,14 +161,14 @@ export class EditView {
             wrong.map((list) => say(words.disorder, {number: order[list] + 1, part: valueIn(WORDS.parts, list)})) :
             [words.inOrder];
         const isDropped = (list) =>
-            this.context.editing.done.some(({step}) => step.does === "stop" && step.list === list && !step.keeps);
+            this.editing.done.some(({step}) => step.does === "stop" && step.list === list && !step.keeps);
         const inherited = LISTS.filter((list) => stopped[list].length && !isDropped(list))
                               .map((list) => make("p", {class: "warning caution"}, say(words.stopped, {
                                   aces: acesIn(stopped[list], WORDS.verdict.ace, WORDS.verdict.aces),
                                   part: valueIn(WORDS.parts, list)
                               }),
                                        " ",
-                                       above ? [words.above, " ", make("bdi", {}, shortened(above, MOST_SDDL))] :
+                                       above ? [words.above, " ", make("bdi", {}, shortened(above, MOST_NAME))] :
                                                words.aboveUnknown));
         const none = ["absent", "null"].includes(states.dacl) &&
             make("p", {class: "warning danger"}, words.noList, " ",
@@ -227,13 +195,10 @@ export class EditView {
             "aria-describedby": "edit-hint",
             onkeydown: (event) => this.key(event)
         },
-            make("thead", {},
-                make("tr", {}, Object.values(words.columns).map((text) => make("th", {scope: "col"}, text)))),
-            body);
+            tableHead(words.columns), body);
         body.querySelector("tr.ace")?.setAttribute("tabindex", "0");
         moveByArrows(table, "tr.ace");
-        return make(
-            "div", {class: "scroll", tabindex: "0", role: "region", "aria-labelledby": "edit-aces"}, table, more);
+        return scrolling({"aria-labelledby": "edit-aces"}, table, more);
     }
 
     // An ACE in a row, with what it was before the steps, or one that is gone. Below the chosen one are its fields.
@@ -249,11 +214,11 @@ export class EditView {
         const cells = [
             make("th", {scope: "row"}, number),
             make("td", {"data-label": columns.type}, make("span", {class: "badge"}, wordOfKind(ace))),
-            make("td", {"data-label": columns.who}, who(ace.sid, ace.alias, names)),
+            make("td", {"data-label": columns.who}, who(ace.sid, ace.alias, names),
+                changed && make("div", {class: "change"}, changed)),
             make("td", {"data-label": columns.can}, aceRights(ace, kind)),
             make("td", {"data-label": columns.where}, whereOf(kind, ace),
-                ace.flags.includes("ID") ? make("span", {class: "tag"}, WORDS.origin.inherited) : null),
-            make("td", {"data-label": columns.state}, changed)
+                ace.flags.includes("ID") ? make("span", {class: "tag"}, WORDS.origin.inherited) : null)
         ];
         if (!other) {
             return make("tr", {class: `removed compared ${kindClass(ace.kind)}`}, cells, make("td"));
@@ -332,7 +297,7 @@ export class EditView {
         return make("tr", {class: "panel"},
             make("td", {colspan: Object.keys(words.columns).length},
                 make("div", {role: "group", "aria-label": say(WORDS.verdict.ace, {numbers: number})},
-                    this.fields(ace, valueIn(KINDS, list), (changeOf) => this.replace(ace, changeOf)),
+                    aceFields(ace, [list], this.context, (changeOf) => this.replace(ace, changeOf)),
                     make("div", {class: "adds"}, act(words.removeThis, () => this.take(list, [number]), "edit-remove"),
                         act(words.up, () => this.move(ace, -1), "edit-up"),
                         act(words.down, () => this.move(ace, 1), "edit-down"),
@@ -372,94 +337,17 @@ export class EditView {
             show(byId("edit-draft"));
             byId("edit-add").focus();
         };
-        const add = () => {
-            const list = ["AU", "ML"].includes(plainKind(this.draft.kind)) ? "sacl" : "dacl";
-            this.step({does: "put", list, ace: {...this.draft}}, words.did.put, NEW);
-        };
+        const add = () => { this.step({does: "put", list: listOf(draft), ace: {...draft}}, words.did.put, NEW); };
         return make("div", {class: "form", role: "group", "aria-label": words.newAce}, make("h4", {}, words.newAce),
-            this.fields(this.draft, LISTS.flatMap((list) => valueIn(KINDS, list)), change),
+            aceFields(draft, LISTS, this.context, change),
             make("div", {class: "adds"}, button(words.put, add, {class: "primary", id: "edit-put"}),
                 button(words.cancel, end, {id: "edit-cancel"})));
     }
 
-    // What an ACE has, each in a field. KINDS are the types that it may have.
-    fields(ace, kinds, change) {
-        const {kind} = this.context;
-        const types = [...new Set([...kinds, plainKind(ace.kind)])].map((one) => [one, valueIn(WORDS.aceKinds, one)]);
-        const isLabel = ace.kind === "ML";
-        return [
-            make("div", {class: "row"},
-                labelled(words.columns.type,
-                    select("edit-kind", types, plainKind(ace.kind),
-                        (value) => change((one) => ({kind: typedKind({...one, kind: value})})))),
-                this.sidField("edit-sid", words.columns.who, ace.sid, (sid) => change(() => ({sid}))),
-                isLabel ? null : setField(ace, kind, change), this.whereField(ace, change)),
-            make("div", {class: "row"},
-                labelled(words.mask,
-                    wholeField("edit-rights", ace.rights ?? maskText(ace.mask),
-                        (text) => change(() => rightsChange(text)), {"aria-describedby": "edit-rights-hint"}),
-                    words.maskHint),
-                this.objectFields(ace, change)),
-            isAudit(ace) ? ["SA", "FA"].map((flag) => flagBox(ace, flag, valueIn(WORDS.audits, flag), change)) : null,
-            make("details",
-                {id: "edit-boxes", open: this.isOpen, ontoggle: ({target}) => { this.isOpen = target.open; }},
-                make("summary", {}, words.boxes),
-                make("div", {class: "boxes"},
-                    rightBoxes("edit-right",
-                        isLabel ? POLICIES.map(([bit, name]) => ({bit, name: valueIn(WORDS.label, name)})) :
-                                  rightsOf(kind),
-                        (bit) => has(ace.mask, bit),
-                        (bit, isSet) => change(({mask}) => maskChange((isSet ? mask | bit : mask & ~bit) >>> 0)))))
-        ];
-    }
-
-    // A field for a SID, or for a name that stands for one.
-    sidField(id, label, sid, take) {
-        const {names} = this.context;
-        const name = sid ? nameOf(sid, names) : "";
-        const value = name && sidNamed(name, names) === sid ? name : sid;
-        return labelled(label,
-            wholeField(
-                id, value, (text) => take(sidNamed(text, names)), {dir: "auto", list: "edit-names", title: sid}));
-    }
-
-    whereField(ace, change) {
-        const {kind} = this.context;
-        const own = ["OI", "CI", "IO"].filter((flag) => ace.flags.includes(flag)).join("");
-        const by = inheritedBy(kind);
-        const isFitting = (place) => (place.match(/../g) ?? []).every((flag) => flag === "IO" || by.includes(flag));
-        const places = [...new Set([...PLACES.filter(isFitting), own])];
-        const take = (place) => change(({flags}) => {
-            const others = flags.filter((flag) => !["OI", "CI", "IO", ...(place === "" ? ["NP"] : [])].includes(flag));
-            return {flags: [...(place.match(/../g) ?? []), ...others]};
-        });
-        return places.length < 2 ? null : [
-            labelled(words.columns.where,
-                select("edit-where", places.map((place) => [place, whereOf(kind, {flags: place.match(/../g) ?? []})]),
-                    own, take)),
-            own === "" ? null : flagBox(ace, "NP", WORDS.where.oneLevel, change)
-        ];
-    }
-
-    objectFields(ace, change) {
-        if (ace.kind === "ML" || !(isDirectory(this.context.kind) || ace.object || ace.inherited)) {
-            return null;
-        }
-        const take = (name) => (text) => change((one) => {
-            const guid = guidNamed(text) || null;
-            return {[name]: guid, kind: typedKind({...one, [name]: guid})};
-        });
-        const field = (name) => labelled(valueIn(words, name),
-            wholeField(
-                `edit-${name}`, ace[name] ?? "", take(name), {list: "guids", "aria-describedby": `edit-${name}-hint`}),
-            ace[name] ? guidInWords(ace[name], name === "object" ? ace.mask : undefined) : words.noType);
-        return ["object", "inherited"].map(field);
-    }
-
     ownerFields() {
         const {names} = this.context;
-        const field = (part) => this.sidField(`edit-${part}`, valueIn(WORDS.parts, part), this.result[part]?.sid ?? "",
-            (sid) => this.step({does: part, sid}, valueIn(words.did, part)));
+        const field = (part) => sidField(`edit-${part}`, valueIn(WORDS.parts, part), this.result[part]?.sid ?? "",
+            names, (sid) => this.step({does: part, sid}, valueIn(words.did, part)));
         const shown = LISTS.flatMap((list) => this.rows(list)).map(({other}) => nameOf(other.sid, names));
         const offered = [...new Set([...shown, ...names.values(), ...Object.values(WORDS.names)])];
         return make("div", {class: "row"}, field("owner"), field("group"),
@@ -483,55 +371,6 @@ export class EditView {
             isProtected      ? act("again", {does: "inherit"}) :
                 hasInherited ? [act("keep", {does: "stop", keeps: true}), act("drop", {does: "stop", keeps: false})] :
                                act("stop", {does: "stop", keeps: true}));
-    }
-
-    textSection() {
-        const {sddl, before} = this.result;
-        const copy = (text, what) => this.acts.copy(text, what, byId("edit-copied"));
-        return make("section", {"aria-labelledby": "edit-text"}, make("h3", {id: "edit-text"}, words.text),
-            make("p", {}, make("code", {class: "whole", id: "edit-sddl"}, shortened(sddl, MOST_SDDL))),
-            make("p", {class: "adds"},
-                button(words.copyNew, () => copy(sddl, words.copyNew), {class: "primary", id: "edit-copy"}),
-                button(words.copyOld, () => copy(before, words.copyOld), {id: "edit-copy-old"})),
-            make("div", {id: "edit-copied", hidden: true}));
-    }
-
-    // The commands that set the descriptor, one at a time, with what each leaves out.
-    commandsSection() {
-        if (this.result.isSame) {
-            return null;
-        }
-        const section = make("section", {id: "edit-commands", "aria-labelledby": "edit-set-it"});
-        this.showCommands(section);
-        return section;
-    }
-
-    showCommands(section) {
-        const {commands} = this.result;
-        const at = Math.max(0, commands.findIndex(({tool}) => tool === this.tool));
-        const {tool, text, leavesOut, notes, why} = commands[at] ?? {why: WORDS.setCommands.none};
-        const choose = (number) => {
-            this.tool = commands[number].tool;
-            this.showCommands(section);
-            byId(`edit-tool-${number}`).focus();
-        };
-        const tools =
-            commands.map((one, number) => button(one.tool, () => choose(number),
-                             {class: "add", id: `edit-tool-${number}`, "aria-pressed": String(number === at)}));
-        const copy = () => this.acts.copy(text, words.copyCommand, byId("edit-copied"));
-        show(section, [
-            make("h3", {id: "edit-set-it"}, words.setIt), tool && make("div", {class: "adds"}, tools),
-            why && make("p", {}, why),
-            text &&
-                [
-                    make("pre", {class: "place"}, text),
-                    make("p", {class: "adds"},
-                        button(words.copyCommand, copy, {class: "primary", id: "edit-copy-command"})),
-                    make("p", {class: "hint"},
-                        leavesOut.length ? say(WORDS.setCommands.leavesOut, {what: commaed(leavesOut)}) : words.setsAll,
-                        " ", notes.join(" "))
-                ]
-        ]);
     }
 
     // Why a step can't be done, with its place. What was typed stays.
@@ -563,7 +402,11 @@ export class EditView {
         const [id, list, number] = OF_ROW.exec(this.focus || kept.id) ?? [this.focus || kept.id];
         this.focus = "";
         const row = list && rowOf(list, Math.min(Number(number), this.rows(list).length));
-        putFocus(id.startsWith("edit-") ? row || byId(id) || byId("edit-add") : null, kept);
+        putFocus(id.startsWith("edit-") ? row || byId(id) || byId("edit-add") : null, kept, this.isStill);
+        if (this.isStill) {
+            byId("edit-first").scrollIntoView({block: "nearest"});
+        }
+        this.isStill = false;
     }
 }
 
@@ -581,23 +424,6 @@ function rowOf(list, number) {
 
 const partRow = (list) => make("tr", {class: "part"},
     make("th", {scope: "rowgroup", colspan: Object.keys(words.columns).length}, valueIn(WORDS.parts, list)));
-
-const maskChange = (mask) => ({mask, rights: undefined});
-
-// What somebody typed: a number, or names, which the library reads.
-const rightsChange = (text) => (/^\s*0x[0-9a-f]{1,8}\s*$/i.test(text) ? maskChange(Number(text)) : {rights: text});
-
-// The sets of rights that have a name, and the one of an ACE.
-function setField({mask, rights}, kind, change) {
-    const sets = valueIn(WORDS.masks, kind).map(([bits, name]) => [String(bits), name]);
-    const value = rights ?? String(mask);
-    const own = sets.some(([bits]) => bits === value) ? [] : [[value, rights ?? commaed(rightsInWords(kind, mask))]];
-    return labelled(words.columns.can,
-        select("edit-set", [...sets, ...own], value, (bits) => change(() => maskChange(Number(bits)))));
-}
-
-const flagBox = ({flags}, flag, text, change) => box(`edit-${flag}`, text, flags.includes(flag),
-    (isSet) => change((ace) => ({flags: [...ace.flags.filter((one) => one !== flag), ...(isSet ? [flag] : [])]})));
 
 const aceInWords = (ace, kind, names, state) => [say(WORDS.verdict.ace, {numbers: ace.number}), wordOfKind(ace),
     nameOf(ace.sid, names), commaed(rightsOfAce(ace, kind)), whereOf(kind, ace),
@@ -627,8 +453,9 @@ function keptField() {
     return {id: one?.id ?? "", typed: isTyped ? one.value : null};
 }
 
-// Puts the focus on a control, or if it is of no use on one that always is, and what was typed into it.
-function putFocus(target, {id, typed}) {
+// Puts the focus on a control, or if it is of no use on one that always is, and what was typed into it. ISSTILL says
+// that nothing scrolls for it.
+function putFocus(target, {id, typed}, isStill = false) {
     if (!target) {
         return;
     }
@@ -637,17 +464,8 @@ function putFocus(target, {id, typed}) {
         document.querySelectorAll("table.edit tr.ace").forEach((row) => row.setAttribute("tabindex", "-1"));
         target.setAttribute("tabindex", "0");
     }
-    (isUsable ? target : byId("edit-add")).focus();
+    (isUsable ? target : byId("edit-add")).focus({preventScroll: isStill});
     if (typed !== null && target.id === id) {
         target.value = typed;
     }
 }
-
-// A field whose text is taken as a whole.
-const wholeField = (id, value, take, attributes) => input(id, value, () => {}, {
-    ...attributes,
-    onchange: ({target}) => {
-        target.defaultValue = target.value;
-        take(target.value);
-    }
-});

@@ -29,17 +29,22 @@ export class Editing {
         }
     }
 
-    // The descriptor so far, or null before the first step.
+    // The descriptor so far, or null before the first step, and where its ACEs come from.
     get now() { return this.done.at(-1)?.descriptor ?? null; }
+
+    get origins() { return this.done.at(-1)?.origins ?? null; }
 
     get last() { return this.done.at(-1)?.step ?? null; }
 
+    // Whether a step that waits gives ACEs other numbers than those that are shown.
+    get isRenumbering() { return this.waiting.some(({does}) => valueIn(ORIGINS, does)); }
+
     add(step) { this.waiting.push(step); }
 
-    // Takes an answer: the descriptors after the steps that waited, as far as they could be done.
+    // Takes an answer: what the steps that waited made, as far as they could be done.
     take({made = []}) {
         const steps = this.waiting.splice(0);
-        this.done.push(...made.map((descriptor, at) => ({step: steps[at], descriptor})));
+        this.done.push(...made.map((one, at) => ({step: steps[at], ...one})));
         if (made.length) {
             this.undone = [];
         }
@@ -124,16 +129,52 @@ const STEPS = {
 
 const sidOrNone = (library, sid, domain) => (sid === "" ? null : sidBytes(library, sid, domain));
 
+const keyOf = (ace) => Object.values(ace ?? {}).join(";");
+
+const without = (items, at) => [...items.slice(0, at), ...items.slice(at + 1)];
+
+const withItem = (items, at, item) => [...items.slice(0, at), item, ...items.slice(at)];
+
+// Where the ACEs of a list come from after a step: their places before all steps, or -1. BEFORE and AFTER are the lists
+// around the step. Those that a step changes stay the same ones.
+const ORIGINS = {
+    take: (origins, {numbers}) => origins.filter((_, at) => !numbers.includes(at + 1)),
+    put: (origins, step, before, after) =>
+        withItem(origins, after.findIndex((ace, at) => keyOf(ace) !== keyOf(before[at])), -1),
+    move: (origins, {number, by}) => withItem(without(origins, number - 1), number - 1 + by, origins[number - 1]),
+    sort: (origins, step, before, after) => {
+        const places = new Map(before.map((ace) => [keyOf(ace), []]));
+        before.forEach((ace, at) => places.get(keyOf(ace)).push(at));
+        return after.map((ace) => origins[places.get(keyOf(ace)).shift()]);
+    },
+    stop: (origins, {keeps}, before) => origins.filter((_, at) => keeps || (before[at].flags & INHERITED) === 0),
+};
+
+function originsAfter(library, step, before, after, origins) {
+    const change = valueIn(ORIGINS, step.does);
+    const acesOf = (descriptor) => library.parts(descriptor)[step.list].aces ?? [];
+    return change ? {...origins, [step.list]: change(origins[step.list], step, acesOf(before), acesOf(after))} :
+                    origins;
+}
+
+// Each ACE comes from its own place.
+function ownOrigins(library, descriptor) {
+    const {dacl, sacl} = library.parts(descriptor);
+    return {dacl: [...(dacl.aces ?? []).keys()], sacl: [...(sacl.aces ?? []).keys()]};
+}
+
 /**
- * The descriptors after each of some steps, as far as they can be done, and why the next one can't: {made, refused}.
- * DOMAIN is that of aliases.
+ * What each of some steps makes, {descriptor, origins}, as far as they can be done, and why the next one can't:
+ * {made, last, refused}. DOMAIN is that of aliases.
  */
-export function edited(library, descriptor, steps, domain) {
+export function edited(library, first, steps, domain) {
     const made = [];
-    let last = descriptor;
+    let last = {descriptor: first.descriptor, origins: first.origins ?? ownOrigins(library, first.descriptor)};
     for (const step of steps) {
         try {
-            last = library.edit(last, valueIn(STEPS, step.does)(library, last, step, domain)).descriptor;
+            const changes = valueIn(STEPS, step.does)(library, last.descriptor, step, domain);
+            const {descriptor} = library.edit(last.descriptor, changes);
+            last = {descriptor, origins: originsAfter(library, step, last.descriptor, descriptor, last.origins)};
         } catch (fault) {
             if (!isFault(fault)) {
                 throw fault;

@@ -1,13 +1,14 @@
 // One property, right or class of a directory object, which a field finds by its name: who gets what of it.
-import {bitsOf, ownOf, reasonIn} from "./access.mjs";
-import {linesOf} from "./desk.mjs";
-import {input, labelled, make, show} from "./dom.mjs";
+import {bitsOf, inOrder, ownOf, reasonIn} from "./access.mjs";
+import {input, labelled, make, show, tableHead} from "./dom.mjs";
 import {isTrusted} from "./meanings.mjs";
 import {rightsInWords} from "./naming.mjs";
+import {itemsOf} from "./packing.mjs";
 import {who} from "./parts_view.mjs";
 import {knownGuids} from "./schema.mjs";
 import {ABILITIES} from "./windows.mjs";
 import {commaed, say, WORDS} from "./words.mjs";
+import {errorInWords} from "./worker.mjs";
 
 const MOST_FOUND = 8;
 const MOST_NAMES = 6; // of those who get the same
@@ -46,15 +47,12 @@ function groupsOf(rows, bits) {
 }
 
 // The numbers of the ACEs that give some rights to trustees.
-const numbersOf =
-    (rows, mask) => [...new Set(rows.flatMap((row) => bitsOf(mask).map((bit) => reasonIn(row, bit).number)))]
-                        .filter((number) => number !== null)
-                        .sort((one, other) => one - other);
+const numbersOf = (rows, mask) =>
+    rows.flatMap((row) => bitsOf(mask).map((bit) => reasonIn(row, bit).number)).filter((number) => number !== null);
 
 function foundRow({name, typeName, bits}, rows, names) {
     const groups = groupsOf(rows, bits);
-    const numbers =
-        [...new Set(groups.flatMap(([mask, some]) => numbersOf(some, mask)))].sort((one, other) => one - other);
+    const numbers = inOrder(groups.flatMap(([mask, some]) => numbersOf(some, mask)));
     const left = (some) =>
         (some.length > MOST_NAMES ? ` ${say(WORDS.summary.left, {count: some.length - MOST_NAMES})}` : "");
     const columns = words.columns;
@@ -84,15 +82,14 @@ export function findSection({names, found, onFind}, named) {
         }
         const isAsked = text.trim() !== "";
         status.textContent = !isAsked ? "" :
+            answer?.error             ? errorInWords(answer.error) :
             !all.length               ? words.none :
             all.length > some.length  ? say(words.count, {count: some.length, all: all.length}) :
                                         say(all.length === 1 ? words.one : words.found, {count: all.length});
-        const rows = answer?.found ? linesOf(answer.found).map((line) => JSON.parse(line)) : [];
+        const rows = answer?.found ? itemsOf(answer.found) : [];
         show(place,
             rows.length > 0 &&
-                make("table", {class: "trustees", "aria-labelledby": "find-heading"},
-                    make("thead", {},
-                        make("tr", {}, Object.values(words.columns).map((one) => make("th", {scope: "col"}, one)))),
+                make("table", {class: "trustees", "aria-labelledby": "find-heading"}, tableHead(words.columns),
                     make("tbody", {}, rows.map((one, at) => foundRow(some[at], one, names)))));
     };
     const field = input("find", found.text, search, {"aria-describedby": "find-hint"});

@@ -2,45 +2,26 @@
 // so the page says that it was translated; a line with a name or a letter that is not in the tables here stays as it
 // is, and then nothing of the listing is taken.
 
-const ACCOUNTS = new Map(Object.entries({
-    "everyone": "WD",
-    "creator owner": "CO",
-    "creator group": "CG",
-    "owner rights": "OW",
-    "builtin\\administrators": "BA",
-    "builtin\\users": "BU",
-    "builtin\\guests": "BG",
-    "builtin\\power users": "PU",
-    "builtin\\backup operators": "BO",
-    "builtin\\account operators": "AO",
-    "builtin\\server operators": "SO",
-    "builtin\\print operators": "PO",
-    "builtin\\replicator": "RE",
-    "builtin\\remote desktop users": "RD",
-    "builtin\\network configuration operators": "NO",
-    "builtin\\iis_iusrs": "IS",
-    "builtin\\event log readers": "ER",
-    "builtin\\performance log users": "LU",
-    "builtin\\performance monitor users": "MU",
-    "builtin\\pre-windows 2000 compatible access": "RU",
-    "nt authority\\system": "SY",
-    "nt authority\\authenticated users": "AU",
-    "nt authority\\interactive": "IU",
-    "nt authority\\network": "NU",
-    "nt authority\\service": "SU",
-    "nt authority\\anonymous logon": "AN",
-    "nt authority\\local service": "LS",
-    "nt authority\\network service": "NS",
-    "nt authority\\self": "PS",
-    "nt authority\\restricted": "RC",
-    "nt authority\\enterprise domain controllers": "ED",
-    "nt authority\\batch": "S-1-5-3",
-    "nt authority\\dialup": "S-1-5-1",
-    "nt authority\\iusr": "S-1-5-17",
-    "nt authority\\local account": "S-1-5-113",
-    "nt service\\trustedinstaller": "S-1-5-80-956008885-3418522649-1831038044-1853292631-2271478464",
-    "application package authority\\all application packages": "AC",
-    "application package authority\\all restricted application packages": "S-1-15-2-2",
+import {valueIn} from "./tables.mjs";
+import {GENERIC} from "./well_known.mjs";
+import {SIDS} from "./windows.mjs";
+
+// What Windows puts before the names of SIDs that begin so, and what it calls those whose names here are others.
+const AUTHORITIES = [
+    ["S-1-5-32-", "builtin\\"], ["S-1-5-80-", "nt service\\"], ["S-1-5-", "nt authority\\"],
+    ["S-1-15-2-", "application package authority\\"], ["S-1-1-", ""], ["S-1-3-", ""]
+];
+const OTHERS = {
+    "S-1-5-7": "anonymous logon",
+    "S-1-5-10": "self",
+    "S-1-5-12": "restricted",
+    "S-1-5-18": "system",
+    "S-1-5-32-568": "iis_iusrs",
+};
+const MOST_WORDS = 8; // of a name
+const ACCOUNTS = new Map(Object.entries(SIDS).flatMap(([sid, [alias, name]]) => {
+    const [, authority] = AUTHORITIES.find(([begins]) => sid.startsWith(begins)) ?? [];
+    return authority === undefined ? [] : [[`${authority}${valueIn(OTHERS, sid) ?? name}`.toLowerCase(), alias || sid]];
 }));
 // Masks of the simple rights and of the special ones.
 const RIGHTS = new Map(Object.entries({
@@ -75,12 +56,17 @@ const FLAGS = new Map([["OI", "OI"], ["CI", "CI"], ["NP", "NP"], ["IO", "IO"], [
 const GROUPS = /:((?:\([A-Z,]+\)){1,20})$/;
 const LAST = /^(?:Successfully processed \d+ files?.*)?$/;
 
-// The account at the end of a text: what is before it is the path, which only the first line has.
+// The account at the end of a text, by its longest name: what is before it is the path, which only the first line has.
 function accountIn(text) {
     const lower = text.toLowerCase();
-    const names = [...ACCOUNTS.keys()].filter((name) => lower === name || lower.endsWith(` ${name}`));
-    const [longest] = names.sort((one, other) => other.length - one.length);
-    return longest ? {sid: ACCOUNTS.get(longest), path: text.slice(0, text.length - longest.length).trim()} : null;
+    let found = null;
+    for (let [at, words] = [lower.length, 0]; at > 0 && words < MOST_WORDS; words += 1) {
+        at = lower.lastIndexOf(" ", at - 1);
+        const name = lower.slice(at + 1);
+        const path = text.slice(0, text.length - name.length).trim();
+        found = ACCOUNTS.has(name) ? {sid: ACCOUNTS.get(name), path} : found;
+    }
+    return found;
 }
 
 function aceOf(account, groups) {
@@ -119,7 +105,6 @@ export function listingIn(text) {
 // What icacls does to a list of ACEs, one operation a line, where that gives exactly another list.
 
 const SIMPLE = ["F", "M", "RX", "R"]; // of which a listing and a grant have the same mask
-const GENERIC = 0xf0000000;
 const LEVELS = new Map([["S-1-16-4096", "L"], ["S-1-16-8192", "M"], ["S-1-16-12288", "H"]]);
 const keyOf = ({flags}) => flags.join("");
 const textOf =

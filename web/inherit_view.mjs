@@ -1,7 +1,7 @@
 // The third view: what a new file or folder gets, with an arrow from each ACE to the one that it came from.
-import {linesOf} from "./desk.mjs";
 import {afterwards, byId, input, labelled, make, select, show, showParts, someRows} from "./dom.mjs";
 import {faultInWords, shortened, whereOf} from "./naming.mjs";
+import {linesOf} from "./packing.mjs";
 import {aceRights, faultBox, kindClass, longField, who} from "./parts_view.mjs";
 import {valueIn} from "./tables.mjs";
 import {say, WORDS} from "./words.mjs";

@@ -1,11 +1,11 @@
 // The pane of the text: the field, or in its place the text line by line, what can be done with it, and the options.
 import {unreadInWords} from "./address.mjs";
-import {linesOf} from "./desk.mjs";
 import {box, button, byId, input, isField, labelled, make, select, show} from "./dom.mjs";
 import {EXAMPLES} from "./examples.mjs";
 import {rangeIn} from "./faults.mjs";
 import {isDirectory} from "./meanings.mjs";
 import {visible} from "./naming.mjs";
+import {linesOf} from "./packing.mjs";
 import {longField} from "./parts_view.mjs";
 import {knownGuids} from "./schema.mjs";
 import {MOST_LIST} from "./state.mjs";

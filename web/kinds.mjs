@@ -2,9 +2,9 @@
 // and object types that only one kind has.
 import {isDirectory, tableOf} from "./meanings.mjs";
 import {isOfShare, tableBelow, valuesAround} from "./titles.mjs";
+import {SYNCHRONIZE} from "./well_known.mjs";
 import {DESCRIPTORS, HINTS, KINDS} from "./windows.mjs";
 
-const SYNCHRONIZE = 0x100000;
 const SPECIFIC = 0xffff;   // the rights that each kind has its own of
 const OF_ALL = 0xf30f0000; // generic and standard ones, and two that a token alone has
 const INHERITS = ["OI", "CI", "ID"];
@@ -49,8 +49,7 @@ export function kindIn(text) {
         return "service";
     }
     const lines = text.split(/\r\n|\r|\n/);
-    if ([...valuesAround(lines), ...lines.map((line) => tableBelow(line)?.(line))].some(
-            (one) => one && isOfShare(one))) {
+    if (valuesAround(lines).some(isOfShare) || lines.some((line) => isOfShare(tableBelow(line)?.(line)))) {
         return "share";
     }
     const around = AROUND.find(({patterns}) => patterns.every((pattern) => pattern.test(text)));

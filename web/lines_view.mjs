@@ -1,5 +1,5 @@
 // The fifth view: a file of descriptors, answered in a worker, as a table with filters and as a file of answers.
-import {box, button, byId, input, labelled, make, select, show} from "./dom.mjs";
+import {box, button, byId, input, labelled, make, scrolling, select, show, tableHead} from "./dom.mjs";
 import {FLAGS} from "./lines.mjs";
 import {shownName, visible} from "./naming.mjs";
 import {pagesBar} from "./parts_view.mjs";
@@ -342,10 +342,8 @@ export class LinesView {
         }
         const cut = (text) =>
             visibleLines(text.length > MOST_SHOWN ? say(WORDS.lines.tooLong, {text: text.slice(0, MOST_SHOWN)}) : text);
-        return make("div", {class: "scroll", tabindex: "0", role: "region", "aria-label": WORDS.lines.heading},
-            make("table", {class: "lines"},
-                make("thead", {},
-                    make("tr", {}, Object.values(columns).map((text) => make("th", {scope: "col"}, text)))),
+        return scrolling({"aria-label": WORDS.lines.heading},
+            make("table", {class: "lines"}, tableHead(columns),
                 make("tbody", {},
                     rows.map(
                         ({line, input: given, answer}) => make("tr", {class: answer.startsWith("error ") ? "deny" : ""},

@@ -1,10 +1,10 @@
 // The first view: who can do what, warnings, and a grid of rights.
-import {bitsOf, cellOf, decidedOf, has, ownOf, reasonIn} from "./access.mjs";
-import {linesOf} from "./desk.mjs";
-import {button, byId, make, moveByArrows, show, showParts, someRows} from "./dom.mjs";
+import {bitsOf, cellOf, decidedOf, has, inOrder, ownOf, reasonIn} from "./access.mjs";
+import {button, byId, make, moveByArrows, scrolling, show, showParts, someRows, tableHead} from "./dom.mjs";
 import {findSection} from "./find_view.mjs";
 import {doing as maskDoing, isDirectory, isTrusted} from "./meanings.mjs";
 import {guidInWords, labelInWords, rightName, rightsInWords, rightsOf, shortened, visible} from "./naming.mjs";
+import {itemsOf, linesOf} from "./packing.mjs";
 import {faultBox, plainName, who} from "./parts_view.mjs";
 import {verbsOf} from "./sentences.mjs";
 import {valueIn} from "./tables.mjs";
@@ -61,8 +61,8 @@ function canInWords(row, granted, kind, rights) {
 function becauseOf(row, granted, inherited) {
     const decided = decidedOf(row).filter(({by}) => by === "ace");
     const numbersOf = (mask) => decided.filter(({bit}) => has(mask, bit)).map(({number}) => number);
-    const granting = [...numbersOf(granted), ...(row.typed.length ? row.numbers : [])];
-    const inOrder = (numbers) => [...new Set(numbers)].sort((one, other) => one - other);
+    const own = (granted & row.given) === 0 ? [] : row.giving;
+    const granting = [...own, ...numbersOf((granted & ~row.given) >>> 0), ...(row.typed.length ? row.numbers : [])];
     const numbers = inOrder(granting);
     return {
         numbers,
@@ -74,8 +74,8 @@ function becauseOf(row, granted, inherited) {
 // The same of several trustees in words. Of many it is only told how many ACEs these are.
 function becauseInWords(all, rows) {
     const {summary: words} = WORDS;
-    const inOrder = (key) => [...new Set(all.flatMap((one) => one[key]))].sort((one, other) => one - other);
-    const [numbers, denying] = [inOrder("numbers"), inOrder("denying")];
+    const numbers = inOrder(all.flatMap((one) => one.numbers));
+    const denying = inOrder(all.flatMap((one) => one.denying));
     const inWords = (some) => (some.length > MOST_SHOWN ?
             say(WORDS.parts.list, {count: some.length}) :
             say(some.length === 1 ? WORDS.verdict.ace : WORDS.verdict.aces, {numbers: commaed(some)}));
@@ -98,8 +98,7 @@ function orderOf({granted, typed, sid}, {change, read}, isUsual) {
 // ACE names it.
 function rankedRows(result, kind) {
     const masks = {change: maskDoing(kind, "change"), read: maskDoing(kind, "read")};
-    const aces =
-        new Map(linesOf(result.model.dacl.aces).map((text) => JSON.parse(text)).map((ace) => [ace.number, ace]));
+    const aces = new Map(itemsOf(result.model.dacl.aces).map((ace) => [ace.number, ace]));
     const inherited = new Set([...aces.values()].filter(({flags}) => flags.includes("ID")).map(({number}) => number));
     return result.grid.rows.map((row) => {
         const granted = ownOf(row);
@@ -164,10 +163,7 @@ function trustees(result, kind, names, ranked) {
     return make("section", {class: "summary", "aria-labelledby": "summary-heading"},
         heading(words.heading, "summary-heading", words.note),
         groups.length ?
-            make("table", {class: "trustees", "aria-labelledby": "summary-heading"},
-                make("thead", {},
-                    make("tr", {}, Object.values(words.columns).map((text) => make("th", {scope: "col"}, text)))),
-                body) :
+            make("table", {class: "trustees", "aria-labelledby": "summary-heading"}, tableHead(words.columns), body) :
             make("p", {}, words.nobody),
         more);
 }
@@ -285,7 +281,7 @@ function gridSection(result, context, ranked, later) {
     moveByArrows(table, "button.cell");
     return make("section", {"aria-labelledby": "grid-heading"}, heading(WORDS.grid.heading, "grid-heading"),
         legend(grid), make("p", {class: "hint", id: "grid-hint"}, caption),
-        make("div", {class: "scroll", tabindex: "0", role: "region", "aria-labelledby": "grid-heading"}, table), more,
+        scrolling({"aria-labelledby": "grid-heading"}, table), more,
         grid.left ? make("p", {}, button(WORDS.grid.all, context.onAll, {id: "grid-all"})) : null,
         make("div", {id: "why", class: "why", role: "status", "aria-live": "polite"}));
 }
@@ -388,7 +384,7 @@ export function showFault(place, result, {onSelect}) {
 }
 
 // The object types that ACEs name.
-const objectsOf = ({model}) => new Set(linesOf(model.dacl.aces).map((line) => JSON.parse(line).object));
+const objectsOf = ({model}) => new Set(itemsOf(model.dacl.aces).map(({object}) => object));
 
 // The promise ends when all is shown.
 export function showLook(place, result, context, isOver) {

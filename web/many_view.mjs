@@ -1,15 +1,16 @@
 // Several descriptors of a text: the verdict on all, a table with that on each, those alike together, and what a token
 // gets of each.
 import {answerInWords, faultsOf} from "./ask_view.mjs";
-import {linesOf} from "./desk.mjs";
-import {button, byId, make, show, someRows} from "./dom.mjs";
+import {button, byId, make, scrolling, show, someRows, tableHead} from "./dom.mjs";
 import {everybodyClass, hasOwnMapping, mappingOf} from "./meanings.mjs";
 import {faultInWords, shownName} from "./naming.mjs";
-import {sentenceOf} from "./sentences.mjs";
+import {itemsOf} from "./packing.mjs";
+import {reasonsOf, sentenceOf} from "./sentences.mjs";
 import {speak} from "./speech.mjs";
 import {valueIn} from "./tables.mjs";
 import {showSentence} from "./verdict_view.mjs";
 import {formatted, say, WORDS} from "./words.mjs";
+import {errorInWords} from "./worker.mjs";
 
 const MOST_ROWS = 20;
 const words = WORDS.many;
@@ -24,15 +25,18 @@ const ANSWERS = {
 };
 
 // All rows of a question about some at a time, which ASK gives from a number on, with how many descriptors there are;
-// null if there is no answer, or it is over.
+// {error} if one has no answer; null if it is over.
 async function gathered(ask, isOver) {
     const all = {rows: [], next: 0, most: 1, all: 0, strays: []};
     while (all.next < all.most) {
-        const got = await ask(all.next).catch(() => null);
+        const got = await ask(all.next).catch((error) => ({error}));
         if (!got || isOver()) {
             return null;
         }
-        all.rows.push(...linesOf(got.rows).map((text) => JSON.parse(text)));
+        if (got.error) {
+            return got;
+        }
+        all.rows.push(...itemsOf(got.rows));
         Object.assign(all, {...got, rows: all.rows});
     }
     return all;
@@ -157,16 +161,13 @@ class TableOfMany {
         const body = make("tbody");
         const more = someRows(body, this.groups(), (group) => this.groupRow(group),
             (some) => say(WORDS.grid.more, {count: some}), {step: MOST_ROWS});
-        const columns = Object.values(words.columns).map((text) => make("th", {scope: "col"}, text));
         const about = {"aria-labelledby": `${id}-heading`};
         this.comparePlace = make("span");
         this.showCompare();
         show(byId(id),
             make("section", about, make("h2", {id: `${id}-heading`}, heading),
                 make("p", {class: "adds"}, this.filters(), this.comparePlace),
-                make("div", {class: "scroll", tabindex: "0", role: "region", ...about},
-                    make("table", {class: "many", ...about}, make("thead", {}, make("tr", {}, columns)), body)),
-                more));
+                scrolling(about, make("table", {class: "many", ...about}, tableHead(words.columns), body)), more));
     }
 }
 
@@ -214,9 +215,16 @@ export class ManyView {
         return isOther;
     }
 
+    // Until the verdicts have come the first line tells of none.
     async ask(found) {
         const {about} = this;
-        if (found > 1 && !this.isAsked) {
+        if (found < 2) {
+            return;
+        }
+        if (!this.told) {
+            showSentence("unknown", WORDS.busy);
+        }
+        if (!this.isAsked) {
             this.isAsked = true;
             const told = await gathered(this.askFrom, () => this.about !== about);
             if (this.about !== about) {
@@ -231,16 +239,21 @@ export class ManyView {
 
     show() {
         const {names, state} = this.store;
+        if (this.told.error) {
+            speak(showSentence("unknown", errorInWords(this.told.error)));
+            return;
+        }
         speak(showVerdictOfMany(this.told));
         const rows = this.told.rows.map(
             (row) => ({...row, verdict: row.judged.verdict, sentence: sentenceOf(row.judged, names, row)}));
         const strays =
             this.told.strays.map((name) => ({at: null, name, kind: "", verdict: "unknown", sentence: words.stray}));
         const one = rows[state.chosen];
-        show(byId("one"),
-            one &&
-                say(words.one,
-                    {name: shownName(one.name) || say(words.noName, {number: one.at + 1}), sentence: one.sentence}));
+        show(byId("one"), one && [
+            say(words.one,
+                {name: shownName(one.name) || say(words.noName, {number: one.at + 1}), sentence: one.sentence}),
+            make("small", {}, reasonsOf(one.judged, names, one).join(" "))
+        ]);
         // A table that says the same stays, and keeps the focus.
         if (this.shown[0] !== this.told || this.shown[1] !== names) {
             this.shown = [this.told, names];
@@ -271,7 +284,9 @@ function rowOfAnswer(told, kindOfRights) {
 // none.
 export async function askAll(ask, isOver, onOpen, kindOfRights) {
     const told = await gathered(ask, isOver);
-    if (told) {
+    if (told?.error) {
+        show(byId("ask-all"), make("p", {class: "fault-name"}, errorInWords(told.error)));
+    } else if (told) {
         new TableOfMany("ask-all", ANSWERS, words.askHeading, {onOpen})
             .show(told.rows.map((row) => rowOfAnswer(row, kindOfRights)));
     }

@@ -1,9 +1,9 @@
 // A view as Markdown: the verdict, who has which rights, the ACEs, and what stands out. Nothing of a name becomes
 // markup, a link or the end of a cell.
 import {cellOf, has} from "./access.mjs";
-import {linesOf} from "./desk.mjs";
 import {alikeRows, stateWord, warningText} from "./look_view.mjs";
 import {faultInWords, guidInWords, labelInWords, nameOf, rightsInWords, rightsOf, visible, whereOf} from "./naming.mjs";
+import {itemsOf} from "./packing.mjs";
 import {wordOfKind} from "./parts_view.mjs";
 import {reasonsOf, sentenceOf} from "./sentences.mjs";
 import {valueIn} from "./tables.mjs";
@@ -52,7 +52,7 @@ function acesOf({model}, {kind, names}) {
     const {columns} = WORDS.summary;
     const {number, sign, text} = WORDS.text.columns;
     return ["dacl", "sacl"].flatMap((list) => {
-        const aces = linesOf(model[list].aces).map((line) => JSON.parse(line));
+        const aces = itemsOf(model[list].aces);
         const head = [number, sign, columns.who, columns.can, text];
         return aces.length ?
             [
@@ -64,7 +64,7 @@ function acesOf({model}, {kind, names}) {
 }
 
 function findingsOf({warnings}, {kind, names}) {
-    const all = linesOf(warnings).map((line) => JSON.parse(line));
+    const all = itemsOf(warnings);
     const items = all.slice(0, MOST).map((warning) => `- **${valueIn(WORDS.warningLevels, warning.level)}** ` +
             escaped(warningText(warning, kind, names)));
     const left = all.length > MOST ? [say(WORDS.summary.left, {count: all.length - MOST})] : [];
@@ -78,7 +78,7 @@ export function markdownOf(result, context) {
     const {judged, entry, fault, written = ""} = result;
     const {kind, names} = context;
     const word = escaped(valueIn(WORDS.verdict.words, judged.verdict));
-    const texts = linesOf(written).slice(0, MOST).map((line) => `- ${code(JSON.parse(line).text)}`);
+    const texts = itemsOf(written).slice(0, MOST).map(({text}) => `- ${code(text)}`);
     const about = [[WORDS.print.name, entry?.name], [WORDS.kindLabel, result.kind && valueIn(WORDS.kinds, kind)]];
     return [
         `**${word}** ${escaped(sentenceOf(judged, names, result))}`, "",

@@ -1,13 +1,11 @@
 // What the tables of windows.mjs say of a SID and of the rights of a kind: names, who has a SID, what is a risk.
 import {valueIn} from "./tables.mjs";
+import {DELETE, SYNCHRONIZE, GENERIC} from "./well_known.mjs";
 import {FAMILIES, KINDS, OF_A_DOMAIN, PLURAL, RULE_OF, SIDS, USUAL} from "./windows.mjs";
 
 const RELATIVE = /^(S-1-5-21-\d+-\d+-\d+)-(\d+)$/;
 const BUILT_IN_BELOW = 1000; // numbers from here on are those of accounts that somebody made
 const GENERIC_BITS = [0x80000000, 0x40000000, 0x20000000, 0x10000000]; // read, write, execute, all
-const GENERIC = 0xf0000000;
-const DELETE = 0x10000;
-const SYNCHRONIZE = 0x100000;
 
 // The domain and the last number of a SID, or null.
 export function relativeOf(sid) {

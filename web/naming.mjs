@@ -4,6 +4,7 @@ import {maskText} from "./library.mjs";
 import {isForNothing, relativeOf} from "./meanings.mjs";
 import {guidNames} from "./schema.mjs";
 import {valueIn} from "./tables.mjs";
+import {SYNCHRONIZE, SYSTEM_SECURITY, MAXIMUM_ALLOWED} from "./well_known.mjs";
 import {KINDS} from "./windows.mjs";
 import {say, WORDS} from "./words.mjs";
 
@@ -74,10 +75,10 @@ const RIGHTS = Object.fromEntries(
 export const rightsOf = (kind) => valueIn(RIGHTS, kind);
 
 export function rightName(kind, bit) {
-    if (bit === 0x1000000) {
+    if (bit === SYSTEM_SECURITY) {
         return WORDS.systemSecurity;
     }
-    if (bit === 0x2000000) {
+    if (bit === MAXIMUM_ALLOWED) {
         return WORDS.maximumAllowed;
     }
     return valueIn(valueIn(WORDS.rights, kind), bit)?.[0] ?? valueIn(WORDS.generic, bit) ??
@@ -95,9 +96,10 @@ export function rightsInWords(kind, mask) {
     const rest = compound ? (mask & ~compound[0]) >>> 0 : mask;
     const named = rightsOf(
         kind).filter((right) => has(rest, right.bit))
-                      .sort((one, other) => Number(one.bit === 0x100000) - Number(other.bit === 0x100000));
+                      .sort((one, other) => Number(one.bit === SYNCHRONIZE) - Number(other.bit === SYNCHRONIZE));
     const special = bitsOf(rest).filter((bit) => !named.some((right) => right.bit === bit));
-    const known = special.filter((bit) => valueIn(WORDS.generic, bit) || bit === 0x1000000 || bit === 0x2000000);
+    const known =
+        special.filter((bit) => valueIn(WORDS.generic, bit) || bit === SYSTEM_SECURITY || bit === MAXIMUM_ALLOWED);
     const unknown = special.filter((bit) => !known.includes(bit)).reduce((all, bit) => (all | bit) >>> 0, 0);
     return [
         ...(compound ? [compound[1]] : []),
@@ -107,9 +109,10 @@ export function rightsInWords(kind, mask) {
     ];
 }
 
+export const POLICIES = [[1, "NW"], [2, "NR"], [4, "NX"]]; // of a label
+
 export function labelInWords(mask) {
-    const policies = [[1, "NW"], [2, "NR"], [4, "NX"]].filter(([bit]) => has(mask, bit)).map(([,
-        name]) => valueIn(WORDS.label, name));
+    const policies = POLICIES.filter(([bit]) => has(mask, bit)).map(([, name]) => valueIn(WORDS.label, name));
     const rest = (mask & ~7) >>> 0;
     return [
         ...policies, ...(rest ? [say(WORDS.unnamed, {mask: maskText(rest)})] : []),

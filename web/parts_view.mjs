@@ -1,5 +1,4 @@
 // Pieces that several views share: a SID, an ACE, a list of ACEs, a fault.
-import {linesOf} from "./desk.mjs";
 import {area, box, button, make, show, someRows, tooLong} from "./dom.mjs";
 import {maskText} from "./library.mjs";
 import {
@@ -12,8 +11,10 @@ import {
     rightsInWords,
     visible
 } from "./naming.mjs";
+import {linesOf} from "./packing.mjs";
 import {MOST_TEXT} from "./state.mjs";
 import {valueIn} from "./tables.mjs";
+import {ALLOWS, DENIES} from "./well_known.mjs";
 import {commaed, formatted, say, WORDS} from "./words.mjs";
 
 const LARGE = 20_000; // characters; a longer text is kept beside its field
@@ -68,13 +69,10 @@ export function pagesBar(name, {page, rows, count}, go) {
         move(words.next, page + 1, `${name}-next`), move(words.last, last, `${name}-last`));
 }
 
-const DENY = ["D", "OD"];
-const ALLOW = ["A", "OA"];
-
-export const kindClass = (kind) => (ALLOW.includes(kind) ? "allow" :
-        DENY.includes(kind)                              ? "deny" :
-        kind === "ML"                                    ? "label" :
-                                                           "audit");
+export const kindClass = (kind) => (ALLOWS.includes(kind) ? "allow" :
+        DENIES.includes(kind)                             ? "deny" :
+        kind === "ML"                                     ? "label" :
+                                                            "audit");
 
 // A SID: its name, and the exact text beside it.
 export function who(sid, alias, names) {

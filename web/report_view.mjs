@@ -1,5 +1,5 @@
 // The view of a report: its objects as a table with filters, each with the page's own view of its descriptor.
-import {button, byId, input, labelled, make, select, show} from "./dom.mjs";
+import {button, byId, input, labelled, make, scrolling, select, show, tableHead} from "./dom.mjs";
 import {tableOf} from "./meanings.mjs";
 import {shortened, visible} from "./naming.mjs";
 import {pagesBar} from "./parts_view.mjs";
@@ -145,10 +145,8 @@ export class ReportView {
                 make("td", {"data-label": columns.count}, formatted(objects)),
                 make("td", {"data-label": columns.what}, severityBadge(severity),
                     make("span", {class: "badge"}, cut(rule)), " ", cut([text, place].filter(Boolean).join(". "))));
-        return make("div", {class: "scroll", tabindex: "0", role: "region", "aria-label": heading},
-            make("table", {class: "report groups"}, make("caption", {}, heading),
-                make("thead", {},
-                    make("tr", {}, Object.values(columns).map((text) => make("th", {scope: "col"}, text)))),
+        return scrolling({"aria-label": heading},
+            make("table", {class: "report groups"}, make("caption", {}, heading), tableHead(columns),
                 make("tbody", {}, rows.map(row))));
     }
 
@@ -206,10 +204,8 @@ export class ReportView {
         if (!rows.length) {
             return make("p", {}, none);
         }
-        return make("div", {class: "scroll", tabindex: "0", role: "region", "aria-label": heading},
-            make("table", {class: "report"}, make("caption", {class: "unseen"}, heading),
-                make("thead", {},
-                    make("tr", {}, Object.values(columns).map((text) => make("th", {scope: "col"}, text)))),
+        return scrolling({"aria-label": heading},
+            make("table", {class: "report"}, make("caption", {class: "unseen"}, heading), tableHead(columns),
                 make("tbody", {}, rows.map((object) => this.row(object)))));
     }
 

@@ -1,7 +1,7 @@
 // What is risky about a descriptor: the rules of windows/, which sdtool-audit has too. Whether somebody gets a right is
 // always an answer of check, about the descriptor or about one without the ACEs that Windows itself gives.
 import {abilitiesOf, classesOf, isHarmless, isOwn, mayGive, partsOf, restOf} from "./abilities.mjs";
-import {grantedOf, reasonsOf, tokenOf, typesBySid, typesFor} from "./access.mjs";
+import {grantedOf, inOrder, reasonsOf, tokenOf, typesBySid, typesFor} from "./access.mjs";
 import {aceText, guidBytes} from "./library.mjs";
 import {
     atRisk,
@@ -21,16 +21,11 @@ import {
     withoutGeneric
 } from "./meanings.mjs";
 import {valueIn} from "./tables.mjs";
+import {EVERYONE, OWNER_RIGHTS, WRITE_DAC, TAKE_OVER, ALLOWS, DENIES, DECIDING} from "./well_known.mjs";
 import {DEFAULTS, QUIET, RISKS_OF, RULE_OF, RULES, SEVERITIES, SIDS} from "./windows.mjs";
 
-const WRITE_DAC = 0x40000;
-const TAKE_OVER = 0xc0000;
-const EVERYONE = "S-1-1-0";
 const ANONYMOUS = "S-1-5-7";
-const OWNER_RIGHTS = "S-1-3-4";
 const PRINCIPAL_SELF = "S-1-5-10";
-const ALLOWS = ["A", "OA"];
-const DENIES = ["D", "OD"];
 const MOST_TYPED = 20_000; // checks of a descriptor for object types
 const USUALLY = Object.fromEntries(RULES.map(([name, severity]) => [name, severity]));
 const OF_DIRECTORY = Object.fromEntries(RULES.map(([name, , , severity]) => [name, severity]));
@@ -154,7 +149,7 @@ class View {
         const aces = reasonsOf(this.library, this.descriptor, token, request)
                          .filter(({bit, isGranted, number}) => isGranted && number !== null && (mask & bit) !== 0)
                          .map(({number}) => this.numbers[number - 1]);
-        return [...new Set(aces)].sort((one, other) => one - other);
+        return inOrder(aces);
     }
 }
 
@@ -164,8 +159,7 @@ const sidsOf = (sid) => [sid, ...meaningOfSid(sid).also];
 function viewOf(library, kind, owner, all, flags) {
     const aces = all.map(({ace, mask}) => aceText({...ace, flags: flags ?? ace.flags, mask}));
     const deciding =
-        all.map(({ace}) => ace)
-            .filter((ace) => [...ALLOWS, ...DENIES].includes(ace.kind) && !(flags ?? ace.flags).includes("IO"));
+        all.map(({ace}) => ace).filter((ace) => DECIDING.includes(ace.kind) && !(flags ?? ace.flags).includes("IO"));
     const descriptor = library.fromSddl(`${owner ? `O:${owner}` : ""}D:${aces.join("")}`);
     return new View(library, descriptor, kind, deciding, all.map(({ace}) => ace.number));
 }
@@ -379,9 +373,8 @@ function ofList(library, model, options) {
 const answersOf = (view, whole, sid, {own}) => ({
     gives: (right, types) => view.keeps(sid, own, right, types),
     givesAll: (right, types) => whole.gives(sid, own, right, types),
-    numbersOf: (mask,
-        types) => [...new Set(types.flatMap((object) => (types.length > 1 ? whole : view).granting(sid, mask, object)))]
-                      .sort((one, other) => one - other),
+    numbersOf: (mask, types) =>
+        inOrder(types.flatMap((object) => (types.length > 1 ? whole : view).granting(sid, mask, object))),
 });
 
 const keyOf = ({rule, mask, object = ""}) => `${rule} ${mask} ${object}`;

@@ -136,7 +136,8 @@ const PARTS = {
 const MOST_TYPE = 20; // characters in which the type of an ACE ends
 
 // The type of the ACE that begins at a place, as it is written.
-export const typeAt = (text, start) => text.slice(start + 1, start + MOST_TYPE).split(/[;)]/)[0].trim().toUpperCase();
+export const typeAt = (text, start) =>
+    text.slice(start + 1, start + MOST_TYPE).split(")", 1)[0].split(";", 1)[0].trim().toUpperCase();
 
 // The ACEs of a text that is refused, as they are written, so that a reader sees what the refusal is about. Nothing is
 // said of what they grant. An ACE has the parentheses inside it, and ends with the text where one of its own is

@@ -3,10 +3,10 @@ import {has} from "./access.mjs";
 import {doing as ofWord, everybodyClass, isPluralName, tableOf} from "./meanings.mjs";
 import {faultInWords, nameOf, placeInWords, refusedKind, rightsInWords, shortened, visible} from "./naming.mjs";
 import {valueIn} from "./tables.mjs";
+import {DELETE, WRITE_DAC, WRITE_OWNER} from "./well_known.mjs";
 import {say, WORDS} from "./words.mjs";
 
 const words = WORDS.verdict;
-const [DELETE, WRITE_DAC, WRITE_OWNER] = [0x10000, 0x40000, 0x80000];
 const MOST_NUMBERS = 5; // ACEs in a sentence
 const MOST_PIECE = 40;  // characters of a text that is refused
 const ADMINISTRATORS = /^S-1-5-32-544$|^S-1-5-21-[\d-]+-(?:500|512|518|519)$/;
@@ -104,10 +104,16 @@ function doesInWords(judged) {
     return say(valueIn(words.does, does), {...verbsOf(who), these, rights, reach: reachInWords(judged)});
 }
 
+// The words for what is in an object too, where they aren't the usual ones.
+const REACHES = {
+    here: "allHere",
+    says: "allSays"
+};
+
 function reachInWords(judged) {
     const {reach = "here", does} = judged;
-    const isHere = reach === "all" && doing(judged)[0] === "here";
-    return does ? "" : isHere ? words.reach.allHere : valueIn(words.reach, reach);
+    const ofAll = reach === "all" ? valueIn(REACHES, doing(judged)[0]) : undefined;
+    return does ? "" : valueIn(words.reach, ofAll ?? reach);
 }
 
 const whoInWords = (sids, names) => together(sids.map((sid) => nameOf(sid, names)));
@@ -204,8 +210,9 @@ const ofConditions = ({conditions = []}) =>
     (conditions.length ? say(words.conditions, {aces: acesIn(conditions, words.conditionsOne, words.conditionsMany)}) :
                          "");
 
-const ofDenied = ({denied = [], kind}, names) => denied.slice(0, 2).map(
-    ({who, mask, number}) => say(words.except, {who: nameOf(who, names), rights: someRights(kind, mask), number}));
+const ofDenied = ({denied = [], kind}, names) =>
+    denied.slice(0, 2).map(({who, mask, number}) => say(kind ? words.except : words.exceptSome,
+                               {who: nameOf(who, names), rights: kind && someRights(kind, mask), number}));
 
 function ofReader({reader, who = [], verdict}, names) {
     const isSaid = !reader || who.includes(reader) || verdict === "unknown";

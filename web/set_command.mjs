@@ -6,7 +6,8 @@ import {isDirectory, tableOf} from "./meanings.mjs";
 import {hasHidden, isBroken, posixQuoted, powershellQuoted} from "./quoting.mjs";
 import {guidNames} from "./schema.mjs";
 import {valueIn} from "./tables.mjs";
-import {COMMANDS, HINTS} from "./windows.mjs";
+import {ALLOWS} from "./well_known.mjs";
+import {COMMANDS, HINTS, SHOWN} from "./windows.mjs";
 import {say, WORDS} from "./words.mjs";
 
 const SECTIONS = {
@@ -207,7 +208,8 @@ function leftOut({sets, by, sorts}, kind, before, after, changed) {
     return parts.map((part) => valueIn(WORDS.setCommands.parts, part));
 }
 
-// The one ACE that was added, in words of dsacls, or null: it knows attributes and classes by their names.
+// The one ACE that was added, in words of dsacls, or null: it knows attributes and classes by their names, and rights
+// by those that Windows shows.
 function grantOf(before, after) {
     const known = before.aces.map(aceText);
     const added = before.isProtected === after.isProtected ? [...after.aces] : [];
@@ -218,14 +220,14 @@ function grantOf(before, after) {
         }
         added.splice(at, 1);
     }
-    if (added.length !== 1 || !["A", "OA"].includes(added[0].kind)) {
+    if (added.length !== 1 || !ALLOWS.includes(added[0].kind)) {
         return null;
     }
     const [{flags, mask, object, inherited, sid}] = added;
     const letters = OF_DSACLS.filter(([bit]) => (mask & bit) !== 0);
     const heirs = HEIRS_OF_DSACLS.get(flags.join(""));
-    const nameOf = (guid, bits) =>
-        (guid ? guidNames(guid, bits).find(({type}) => type === "attribute" || type === "class")?.name : "");
+    const shownOf = ({type, name}) => (["attribute", "class"].includes(type) ? name : valueIn(SHOWN, name));
+    const nameOf = (guid, bits) => (guid ? guidNames(guid, bits).map(shownOf).find(Boolean) : "");
     const names = [nameOf(object, mask), nameOf(inherited, undefined)];
     const isWhole = letters.reduce((all, [bit]) => (all | bit) >>> 0, 0) === mask;
     if (heirs === undefined || !isWhole || names.includes(undefined)) {

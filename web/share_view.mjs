@@ -1,25 +1,33 @@
 // What goes to the clipboard: a text, a link or a command.
 import {addressOf} from "./address.mjs";
 import {commandLine, whyNoCommand} from "./command.mjs";
-import {STAND_IN_DOMAIN} from "./desk.mjs";
 import {area, button, byId, make, show} from "./dom.mjs";
 import {markdownOf} from "./markdown.mjs";
+import {faultInWords} from "./naming.mjs";
 import {freshState} from "./state.mjs";
+import {ANSWERED} from "./turns.mjs";
 import {formatted, say, WORDS} from "./words.mjs";
+import {errorInWords} from "./worker.mjs";
 
 const MOST_COPIED = 200_000; // characters that are shown at once of what is copied
 
 const status = (text) => make("p", {role: "status"}, text);
 
-// Copies a text, and shows it in a place.
+// Copies a text, and shows it in a place, unless that has something newer by then.
 export async function copy(text, what, place = byId("copied")) {
+    const told = status("");
     show(byId("copied"));
+    show(place, told);
+    let said = say(WORDS.copied, {what});
     try {
         await navigator.clipboard.writeText(text);
-        show(place, status(say(WORDS.copied, {what})));
     } catch {
-        show(place, status(WORDS.copyFailed));
+        said = WORDS.copyFailed;
     }
+    if (!told.isConnected) {
+        return;
+    }
+    told.textContent = said;
     const showText = () => {
         const field =
             area("copied-text", text, () => {}, {class: "descriptor", rows: 2, readonly: true, "aria-label": what});
@@ -34,10 +42,18 @@ export async function copy(text, what, place = byId("copied")) {
     }
 }
 
+// Why the page has no answer to copy: it is still to come, it was stopped, or there is nothing to answer.
+const whyNoAnswer = (result) => (!result ? WORDS.busy :
+        result.error                     ? errorInWords(result.error) :
+        result.domainFault               ? say(WORDS.domainFault, {fault: faultInWords(result.domainFault)}) :
+        result.isEmpty                   ? WORDS.waiting :
+                                           null);
+
 // What the page shows of an answer as Markdown.
-export const copyMarkdown = (result, context) =>
-    (result?.judged ? copy(markdownOf(result, context), WORDS.share.markdown) :
-                      show(byId("copied"), status(WORDS.waiting)));
+export function copyMarkdown(result, context) {
+    const why = whyNoAnswer(result);
+    return why ? show(byId("copied"), status(why)) : copy(markdownOf(result, context), WORDS.share.markdown);
+}
 
 export const copyText = (state, result) => copy(result?.sddl ?? state.text, WORDS.share.text);
 
@@ -58,12 +74,12 @@ export function copyLink(state) {
 
 // ASKED is the answer of the view that is open, if it asks a question of its own.
 export function copyCommand(state, {result, asked, isKindShown}) {
-    const why = whyNoCommand(state.view, isKindShown, asked ?? {});
+    const isAsking = ANSWERED.includes(state.view);
+    const why = whyNoAnswer(result) ?? (isAsking ? whyNoAnswer(asked) : null) ??
+        whyNoCommand(state.view, isKindShown, asked ?? {});
     if (why) {
         show(byId("copied"), status(why));
         return;
     }
-    const look = {form: result?.form ?? "sddl", line: result?.line ?? ""};
-    const domain = result?.isStandIn ? STAND_IN_DOMAIN : state.domain;
-    copy(commandLine({...state, domain}, look, asked), WORDS.share.command);
+    copy(commandLine(state, result, asked), WORDS.share.command);
 }

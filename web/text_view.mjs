@@ -1,8 +1,8 @@
 // The descriptor as it is written, one ACE a line, with its number and a sign. What Windows gives, and what is alike,
 // is folded. A line that is chosen is told in words.
-import {linesOf} from "./desk.mjs";
-import {button, byId, make, moveByArrows, show, someRows} from "./dom.mjs";
+import {button, byId, make, moveByArrows, scrolling, show, someRows, tableHead} from "./dom.mjs";
 import {rightsInWords, shortened, whereOf} from "./naming.mjs";
+import {itemsOf, linesOf} from "./packing.mjs";
 import {aceRights, kindClass, who, wordOfKind} from "./parts_view.mjs";
 import {valueIn} from "./tables.mjs";
 import {commaed, say, WORDS} from "./words.mjs";
@@ -107,7 +107,7 @@ function lines(model, context, later) {
                        .join(" ");
     const listed = ["dacl", "sacl"].flatMap((list) => {
         const front = frontOf(list, model);
-        const groups = groupsOf(linesOf(model[list].aces).map((text) => JSON.parse(text)));
+        const groups = groupsOf(itemsOf(model[list].aces));
         const {count} = model[list];
         const counted = count === 1 ? WORDS.parts.one : say(WORDS.parts.list, {count});
         return front ? [{text: front, list, count: counted}, ...groups] : [];
@@ -115,9 +115,8 @@ function lines(model, context, later) {
     const all = [...(owners ? [{text: owners}] : []), ...listed];
     const more = someRows(body, all, (one) => (one.text === undefined ? groupLine(one, context) : line(one)),
         (count) => say(WORDS.parts.more, {count}), {step: STEP, later});
-    const headings = Object.values(words.columns).map((text) => make("th", {scope: "col"}, text));
-    const table = make("table", {class: "aces", "aria-label": words.heading},
-        make("thead", {class: "unseen"}, make("tr", {}, headings)), body);
+    const table =
+        make("table", {class: "aces", "aria-label": words.heading}, tableHead(words.columns, {class: "unseen"}), body);
     body.querySelector("tr.ace")?.setAttribute("tabindex", "0");
     moveByArrows(table, "tr.ace");
     return [table, more];
@@ -165,9 +164,7 @@ function details(result, names) {
 export function showText(result, context, later = null) {
     const {model} = result;
     const shown = lines(model, context, later);
-    show(byId("lines"),
-        make("div", {class: "scroll", tabindex: "0", role: "region", "aria-label": words.heading}, shown),
-        details(result, context.names));
+    show(byId("lines"), scrolling({"aria-label": words.heading}, shown), details(result, context.names));
 }
 
 // Shows the ACEs of one whose kind is open: as they are written.
@@ -179,11 +176,10 @@ export function showWritten(written) {
             make("td", {class: "sign"}, make("span", {}, valueIn(words.signs, kindClass(kind)))),
             make("td", {"data-part": part}, make("code", {}, ace)));
     }, (count) => say(WORDS.parts.more, {count}), {step: STEP});
-    const headings = Object.values(words.columns).map((text) => make("th", {scope: "col"}, text));
     show(byId("lines"),
-        make("div", {class: "scroll", tabindex: "0", role: "region", "aria-label": words.heading},
-            make("table", {class: "aces", "aria-label": words.heading},
-                make("thead", {class: "unseen"}, make("tr", {}, headings)), body),
+        scrolling({"aria-label": words.heading},
+            make("table", {class: "aces", "aria-label": words.heading}, tableHead(words.columns, {class: "unseen"}),
+                body),
             more));
 }
 

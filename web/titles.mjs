@@ -16,6 +16,8 @@ const ENTITIES = {
     "&amp;": "&"
 };
 const DELIMITERS = [",", ";", "\t", "|"];
+/** @type {Map<string, string>} */
+const NO_VALUES = new Map();
 // A line without one of these is no line of titles of a table.
 const OF_DESCRIPTOR = new RegExp(TITLES.descriptor.map((title) => [...title].join("[ _-]*")).join("|"), "i");
 
@@ -84,9 +86,9 @@ export function valuesAround(lines) {
 
 /**
  * Whether titles are those of a share.
- * @param {Map<string, string>} values
+ * @param {Map<string, string>} [values]
  */
-export const isOfShare = (values) => values.has("name") && values.has("path") &&
+export const isOfShare = (values = NO_VALUES) => values.has("name") && values.has("path") &&
     TITLES.share.some((title) => values.has(title)) && !values.has("sddl") && !values.has("pspath");
 
 /**

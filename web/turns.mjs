@@ -6,6 +6,8 @@ import {hush, speak} from "./speech.mjs";
 const OLDER = "older";
 const PARTLY = "partly-older"; // an edit, whose controls keep the focus while the next step is asked about
 
+export const ANSWERED = ["ask", "inherit", "compare", "edit"]; // views that ask a question of their own
+
 // What else is shown of a text.
 const OF_TEXT = ["found", "print-head", "first", "text-name", "lines", "ace-words"];
 

@@ -21,14 +21,9 @@ import {
     tableOf
 } from "./meanings.mjs";
 import {caseOf} from "./risks.mjs";
+import {EVERYONE, OWNER_RIGHTS, DELETE, WRITE_DAC, WRITE_OWNER, TAKE_OVER, ALLOWS, DENIES} from "./well_known.mjs";
 
-const EVERYONE = "S-1-1-0";
-const OWNER_RIGHTS = "S-1-3-4";
-const [DELETE, WRITE_DAC, WRITE_OWNER] = [0x10000, 0x40000, 0x80000];
-const TAKE_OVER = WRITE_DAC | WRITE_OWNER;
 const GENERIC_ALL = 0x10000000;
-const ALLOWS = ["A", "OA"];
-const DENIES = ["D", "OD"];
 const GRAVE = ["high", "medium"];
 const CLASSES = ["anyone", "logged-on", "application"]; // those of everybody, the widest first
 const MOST_ASKED = 1000;                                // ACEs times kinds
@@ -279,12 +274,15 @@ function readerOf(library, {descriptor, model, kind}) {
         null;
 }
 
-// Whose rights are those that Windows itself gives.
-function excusedOf(model, options) {
-    const {kind, domain} = options;
-    const kept = new Set(caseOf(model, options).kept.map(({ace}) => ace));
-    const excused = model.dacl.aces.filter((ace) => isHere(ace) && (!kept.has(ace) || isIdle(ace, kind)));
-    return [...new Set(excused.map((ace) => trusteeOf(ace, model)))].filter((sid) => sid && !isTrusted(sid, domain));
+// Who gets rights that Windows itself gives.
+function excusedOf(library, {descriptor, model, kind, domain, place}) {
+    const kept = new Set(caseOf(model, {kind, domain, ...place}).kept.map(({ace}) => ace));
+    const excused =
+        model.dacl.aces.filter((ace) => isAllowing(ace) && isHere(ace) && (!kept.has(ace) || isIdle(ace, kind)))
+            .map((ace) => ({ace, sid: trusteeOf(ace, model)}))
+            .filter(({ace, sid}) => sid && !isTrusted(sid, domain) &&
+                    (granted(library, descriptor, sid, kind, ace.object ?? "") & ace.meaning) !== 0);
+    return [...new Set(excused.map(({sid}) => sid))];
 }
 
 // The numbers of ACEs that no reader looks for: of those who are trusted, of nobody, and that Windows itself gives.
@@ -302,13 +300,13 @@ export function usualOf(model, options) {
  * directory object.
  */
 export function verdictOf(library, about) {
-    const {model, kind, domain, place} = about;
+    const {model, kind} = about;
     const {state} = model.dacl;
     if (state !== "list") {
         return {verdict: "act", key: state === "absent" ? "noDacl" : "nullDacl", kind, who: [EVERYONE], numbers: []};
     }
     const found = ofNobody(library, about) ?? ofFindings(library, about) ?? ofChangers(library, about);
-    return {kind, ...found, reader: readerOf(library, about), excused: excusedOf(model, {kind, domain, ...place})};
+    return {kind, ...found, reader: readerOf(library, about), excused: excusedOf(library, about)};
 }
 
 const sameAs = (one, other) => one.verdict === other.verdict && one.key === other.key &&
@@ -341,12 +339,21 @@ export function verdictOfKinds(model, kinds, ask) {
     const [first] = verdicts;
     if (verdicts.every((one) => sameAs(one, first) && one.verdict !== "unknown")) {
         const does = neutral(first, model, first.numbers && verdicts.every(isFullOf));
+        // What else is said holds for each of them.
+        const ofAll = (key) =>
+            (verdicts.every((one) => String(one[key] ?? "") === String(first[key] ?? "")) ? first[key] : undefined);
         return {
             ...first,
             kind: "",
             does,
             trusted: [...new Set(verdicts.flatMap(({trusted = []}) => trusted))],
-            excused: []
+            numbers: ofAll("numbers"),
+            reader: ofAll("reader"),
+            denied: (first.denied ?? [])
+                        .filter(({number}) =>
+                                    verdicts.every(({denied = []}) => denied.some((one) => one.number === number))),
+            excused: (first.excused ?? []).filter((sid) => verdicts.every(({excused = []}) => excused.includes(sid))),
+            more: 0
         };
     }
     const who =

@@ -35,6 +35,12 @@ export function showSentence(verdict, sentence, reasons = [], front = "") {
     return `${word} ${[sentence.replace(/\.$/, ""), ...reasons].join(". ").replace(/\.\. /g, ". ")}`;
 }
 
+// Shows why there is no verdict, in the place of an older one.
+export function showUnknown(why) {
+    show(byId("chips"));
+    showSentence("unknown", why);
+}
+
 // Shows the verdict of an answer, and gives what a screen reader says of it.
 export function showVerdict(result, {names, onKind, onTake}) {
     const {judged, asksKind, kinds = []} = result;

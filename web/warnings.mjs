@@ -1,17 +1,16 @@
 // What a reader should look at, each with its reason: {key, level, numbers, ...}. LEVEL is 'danger', 'caution' or
 // 'note'. The words are in words.mjs. What is risky is found by the rules of risks.mjs, which sdtool-audit has too.
 // Whether somebody gets a right is always an answer of check.
-import {DECIDING, has, labelOf, reasonsOf, tokenOf} from "./access.mjs";
+import {has, labelOf, MEDIUM, reasonsOf, tokenOf} from "./access.mjs";
 import {risksOfAny} from "./classes.mjs";
 import {guidBytes} from "./library.mjs";
 import {doing, isForNothing, relativeOf} from "./meanings.mjs";
 import {risksOf} from "./risks.mjs";
 import {valueIn} from "./tables.mjs";
+import {EVERYONE, OWNER_RIGHTS, SYNCHRONIZE, DECIDING} from "./well_known.mjs";
 
-const SYNCHRONIZE = 0x100000;
 const PROTECTED = 0x1000;
-const EVERYONE = "S-1-1-0";
-const OWNER_RIGHTS = "S-1-3-4";
+const NO_WRITE_UP = 1;
 const CREATORS = ["S-1-3-0", "S-1-3-1"];
 // With this ACE a list has one for OWNER RIGHTS that grants nothing, so all that is granted is granted by ACEs.
 const NO_OWNER_RULE = {
@@ -153,9 +152,10 @@ function ofLateDenies(library, model, descriptor, {mapping, object}) {
 
 function ofInheritance(model) { return has(model.control, PROTECTED) ? [{key: "protected", level: "note"}] : []; }
 
+// What an object without a label has is told of none.
 function ofLabel(model) {
     const label = labelOf(model);
-    return label ? [{
+    return label && !(label.sid === MEDIUM && label.mask === NO_WRITE_UP) ? [{
         key: "label",
         level: "note",
         list: "sacl",
@@ -164,7 +164,7 @@ function ofLabel(model) {
         alias: label.alias,
         policy: label.mask
     }] :
-                   [];
+                                                                            [];
 }
 
 function ofDomains(model, domain) {

@@ -5,6 +5,8 @@ import {load} from "../javascript/sdtool.mjs";
 
 import {questionOf} from "./desk.mjs";
 import {answerFile} from "./lines.mjs";
+import {shownName} from "./naming.mjs";
+import {say, WORDS} from "./words.mjs";
 
 const SECONDS_TO_START = 20;
 export const SECONDS_TO_ANSWER = 2;
@@ -73,6 +75,11 @@ const ready = (worker, bytes) => new Promise((resolve, reject) => {
 
 // A question that was stopped.
 export class TooSlow extends Error {}
+
+// Why there is no answer.
+export const errorInWords = (error) =>
+    (error instanceof TooSlow ? say(WORDS.tooSlow, {seconds: SECONDS_TO_ANSWER}) :
+                                say(WORDS.broke, {reason: shownName(error.message)}));
 
 // Asks one question at a time, of an end that START gives. Of each kind only the newest waits: an answer to what was
 // typed before is of no use.

@@ -427,7 +427,9 @@ def json_value(value, indent):
         return line
     more = indent + "    "
     if isinstance(value, dict):
-        rows = [(f"{json.dumps(key)}: {json_value(item, more)}", item) for key, item in value.items()]
+        # The members of a row share lines.
+        rows = [(f"{json.dumps(key)}: {json_value(item, more)}", None if indent else item)
+                for key, item in value.items()]
         return "{\n" + in_lines(rows, more, 120) + f"\n{indent}}}"
     return "[\n" + in_lines([(json_value(item, more), item) for item in value], more, 120) + f"\n{indent}]"
 
@@ -491,6 +493,8 @@ def script_text(tables, schema):
         if name in ("PROTECTING", "DEFAULTS"):
             lines.append(f"/** @type {{{script_type(value)}}} */")
         lines.append(f"export const {name} = {json_value(value, '')};")
+    shown = {name: row["shown"] for rows in schema.rows.values() for name, row in rows.items() if "shown" in row}
+    lines.append(f"export const SHOWN = {json_value(shown, '')};")
     lines.append("// Of each type the end of GUIDs, and then for each GUID with that end its first eight digits and "
                  "its name.")
     lines.append(f"export const TYPES = {json_value({kind: folded_types(schema.rows[kind]) for kind in TYPES}, '')};")

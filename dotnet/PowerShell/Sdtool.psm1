@@ -2,7 +2,8 @@
 # its own line of a script, so each of them is in a try whose catch ends the command.
 Set-StrictMode -Version Latest
 
-# The descriptor of a command's input. GetSecurityDescriptorBinaryForm is what Get-Acl's objects have on each system.
+# The descriptor of a command's input. GetSecurityDescriptorBinaryForm is what Get-Acl's objects have on each system. Of
+# other objects, such as those of Import-Csv and Get-ADObject, it is the one property that has a descriptor.
 function ConvertTo-SdtoolDescriptor {
     [CmdletBinding()]
     [OutputType('Sdtool.SecurityDescriptor')]
@@ -34,7 +35,17 @@ function ConvertTo-SdtoolDescriptor {
     if ($InputObject -is [System.Security.AccessControl.ObjectSecurity]) {
         return [Sdtool.SecurityDescriptor]::new([byte[]] $InputObject.GetSecurityDescriptorBinaryForm())
     }
-    throw [System.ArgumentException]::new('The input is no text, no bytes, and no object that Get-Acl gives.')
+    $named = @()
+    if ($null -ne $InputObject) {
+        $named = @('Sddl', 'nTSecurityDescriptor' | Where-Object { $InputObject.PSObject.Properties[$_] })
+    }
+    if ($named.Count -eq 1) {
+        $value = $InputObject.PSObject.Properties[$named[0]].Value
+        if ($value -is [string] -or $value -is [byte[]] -or $value -is [System.Security.AccessControl.ObjectSecurity]) {
+            return ConvertTo-SdtoolDescriptor -InputObject $value -DomainSid $DomainSid
+        }
+    }
+    throw [System.ArgumentException]::new('The input is no text, no bytes, and no object with one descriptor.')
 }
 
 # An access mask: rights of SDDL such as FR, a number, or an enum such as FileSystemRights. PowerShell reads 0x80000000
@@ -56,23 +67,33 @@ function ConvertTo-SdtoolMask {
     return [uint32] ($number -band [long] [uint32]::MaxValue)
 }
 
-# Who asks, and for what. The dictionary is what a command was called with.
+# Who asks, and for what. The dictionary is what the caller, a command, was called with.
 function Get-SdtoolChecker {
     [CmdletBinding()]
     [OutputType('Sdtool.Checker')]
     param(
         [Parameter(Mandatory = $true)]
-        [System.Collections.Generic.Dictionary[string, object]] $Given
+        [System.Collections.Generic.Dictionary[string, object]] $Given,
+
+        [AllowNull()]
+        [Sdtool.Sid] $DomainSid,
+
+        [Parameter(Mandatory = $true)]
+        [System.Management.Automation.PSCmdlet] $Caller
     )
-    $domainSid = Get-SdtoolSid -Text $Given['Domain']
-    $mapping = [Sdtool.Mapping]::File
-    if ($Given.ContainsKey('Mapping')) {
-        $mapping = $Given['Mapping']
+    try {
+        $mapping = [Sdtool.Mapping]::File
+        if ($Given.ContainsKey('Mapping')) {
+            $mapping = $Given['Mapping']
+        }
+        $mask = ConvertTo-SdtoolMask -Right $Given['Right']
+        $principal = Get-SdtoolSid -Text $Given['PrincipalSelf'] -DomainSid $DomainSid
+        $token = Get-SdtoolToken -Given $Given -DomainSid $DomainSid
+        return [Sdtool.Checker]::new($token, $mask, $false, $mapping, $Given['ObjectType'], $principal)
     }
-    $mask = ConvertTo-SdtoolMask -Right $Given['Right']
-    $principal = Get-SdtoolSid -Text $Given['PrincipalSelf'] -DomainSid $domainSid
-    $token = Get-SdtoolToken -Given $Given -DomainSid $domainSid
-    return [Sdtool.Checker]::new($token, $mask, $false, $mapping, $Given['ObjectType'], $principal)
+    catch {
+        $Caller.ThrowTerminatingError((ConvertTo-SdtoolErrorRecord -ErrorRecord $_))
+    }
 }
 
 function Get-SdtoolToken {
@@ -122,6 +143,26 @@ function Get-SdtoolSid {
     }
 }
 
+# The same of a command's domain.
+function Get-SdtoolDomain {
+    [CmdletBinding()]
+    [OutputType('Sdtool.Sid')]
+    param(
+        [AllowNull()]
+        [AllowEmptyString()]
+        [string] $Domain,
+
+        [Parameter(Mandatory = $true)]
+        [System.Management.Automation.PSCmdlet] $Caller
+    )
+    try {
+        return Get-SdtoolSid -Text $Domain
+    }
+    catch {
+        $Caller.ThrowTerminatingError((ConvertTo-SdtoolErrorRecord -ErrorRecord $_ -Target $Domain))
+    }
+}
+
 # The record of an error, with the exception of the assembly that is within those of PowerShell.
 function ConvertTo-SdtoolErrorRecord {
     [CmdletBinding()]
@@ -149,7 +190,8 @@ function ConvertFrom-Sddl {
     .SYNOPSIS
     Gives the security descriptor of a text of SDDL, of bytes, or of an object of Get-Acl.
     .PARAMETER InputObject
-    The text, the bytes, or the object. Bytes in a pipeline need a comma in front: , $bytes.
+    The text, the bytes, the object of Get-Acl, or one whose property Sddl or nTSecurityDescriptor is one of these.
+    Bytes in a pipeline need a comma in front: , $bytes.
     .PARAMETER Domain
     The SID whose aliases, such as DA, are read.
     .EXAMPLE
@@ -168,9 +210,12 @@ function ConvertFrom-Sddl {
 
         [string] $Domain
     )
+    begin {
+        $domainSid = Get-SdtoolDomain -Domain $Domain -Caller $PSCmdlet
+    }
     process {
         try {
-            ConvertTo-SdtoolDescriptor -InputObject $InputObject -DomainSid (Get-SdtoolSid -Text $Domain)
+            ConvertTo-SdtoolDescriptor -InputObject $InputObject -DomainSid $domainSid
         }
         catch {
             $PSCmdlet.WriteError((ConvertTo-SdtoolErrorRecord -ErrorRecord $_ -Target $InputObject))
@@ -183,7 +228,7 @@ function ConvertTo-Sddl {
     .SYNOPSIS
     Gives the SDDL of a security descriptor.
     .PARAMETER InputObject
-    A descriptor: what ConvertFrom-Sddl or Edit-Sddl gives, bytes, or an object of Get-Acl.
+    A descriptor: what ConvertFrom-Sddl takes or gives, or Edit-Sddl gives.
     .PARAMETER Domain
     The SID whose aliases, such as DA, are printed.
     .PARAMETER Numeric
@@ -204,9 +249,11 @@ function ConvertTo-Sddl {
 
         [switch] $Numeric
     )
+    begin {
+        $domainSid = Get-SdtoolDomain -Domain $Domain -Caller $PSCmdlet
+    }
     process {
         try {
-            $domainSid = Get-SdtoolSid -Text $Domain
             $descriptor = ConvertTo-SdtoolDescriptor -InputObject $InputObject -DomainSid $domainSid
             $descriptor.GetSddlForm($domainSid, $Numeric.IsPresent)
         }
@@ -221,10 +268,10 @@ function Test-SddlAccess {
     .SYNOPSIS
     Says whether a security descriptor grants rights to a token: $true or $false alone.
     .DESCRIPTION
-    It takes one descriptor, since PowerShell takes every list of several answers for true. A descriptor that can't be
-    read is an error that ends the command, so no branch of an if is taken.
+    It takes one descriptor, since PowerShell takes every list of several answers for true. None, or one that can't be
+    read, is an error that ends the command, so no branch of an if is taken.
     .PARAMETER InputObject
-    A descriptor: SDDL, bytes, what ConvertFrom-Sddl or Edit-Sddl gives, or an object of Get-Acl.
+    A descriptor: what ConvertFrom-Sddl takes or gives, or Edit-Sddl gives.
     .PARAMETER Right
     What is wanted: rights of SDDL such as FR, a number, or values of an enum such as FileSystemRights.
     .PARAMETER Sid
@@ -287,14 +334,14 @@ function Test-SddlAccess {
     )
     begin {
         $answers = [System.Collections.Generic.List[bool]]::new()
+        $domainSid = Get-SdtoolDomain -Domain $Domain -Caller $PSCmdlet
+        $checker = Get-SdtoolChecker -Given $PSBoundParameters -DomainSid $domainSid -Caller $PSCmdlet
     }
     process {
         try {
             if ($answers.Count -gt 0) {
                 throw [System.ArgumentException]::new('It takes one descriptor; Get-SddlAccess takes many.')
             }
-            $checker = Get-SdtoolChecker -Given $PSBoundParameters
-            $domainSid = Get-SdtoolSid -Text $Domain
             $descriptor = ConvertTo-SdtoolDescriptor -InputObject $InputObject -DomainSid $domainSid
             $answers.Add($checker.Check([Sdtool.SecurityDescriptor] $descriptor).IsGranted)
         }
@@ -303,8 +350,14 @@ function Test-SddlAccess {
         }
     }
     end {
-        if ($answers.Count -gt 0) {
+        try {
+            if ($answers.Count -eq 0) {
+                throw [System.ArgumentException]::new('It takes one descriptor, and none came.')
+            }
             $answers[0]
+        }
+        catch {
+            $PSCmdlet.ThrowTerminatingError((ConvertTo-SdtoolErrorRecord -ErrorRecord $_))
         }
     }
 }
@@ -318,7 +371,7 @@ function Get-SddlAccess {
     24 is granted or denied, by its place in a mask. A descriptor that can't be read is an error, and has no answer.
     Every answer is an object, and so true: ask IsGranted, or use Test-SddlAccess.
     .PARAMETER InputObject
-    A descriptor: SDDL, bytes, what ConvertFrom-Sddl or Edit-Sddl gives, or an object of Get-Acl.
+    A descriptor: what ConvertFrom-Sddl takes or gives, or Edit-Sddl gives.
     .PARAMETER Right
     What is wanted: rights of SDDL such as FR, a number, or values of an enum such as FileSystemRights.
     .PARAMETER Sid
@@ -377,10 +430,12 @@ function Get-SddlAccess {
 
         [string] $Domain
     )
+    begin {
+        $domainSid = Get-SdtoolDomain -Domain $Domain -Caller $PSCmdlet
+        $checker = Get-SdtoolChecker -Given $PSBoundParameters -DomainSid $domainSid -Caller $PSCmdlet
+    }
     process {
         try {
-            $checker = Get-SdtoolChecker -Given $PSBoundParameters
-            $domainSid = Get-SdtoolSid -Text $Domain
             $descriptor = ConvertTo-SdtoolDescriptor -InputObject $InputObject -DomainSid $domainSid
             $verdict = $checker.Check([Sdtool.SecurityDescriptor] $descriptor)
             [pscustomobject] @{
@@ -402,7 +457,7 @@ function Edit-Sddl {
     .SYNOPSIS
     Gives a security descriptor after changes, which are made one after the other. No object of the system is changed.
     .PARAMETER InputObject
-    A descriptor: SDDL, bytes, what ConvertFrom-Sddl or Edit-Sddl gives, or an object of Get-Acl.
+    A descriptor: what ConvertFrom-Sddl takes or gives, or Edit-Sddl gives.
     .PARAMETER Change
     Changes of [Sdtool.Change].
     .PARAMETER Domain
@@ -428,9 +483,11 @@ function Edit-Sddl {
 
         [string] $Domain
     )
+    begin {
+        $domainSid = Get-SdtoolDomain -Domain $Domain -Caller $PSCmdlet
+    }
     process {
         try {
-            $domainSid = Get-SdtoolSid -Text $Domain
             $descriptor = ConvertTo-SdtoolDescriptor -InputObject $InputObject -DomainSid $domainSid
             $descriptor.Edit($Change)
         }

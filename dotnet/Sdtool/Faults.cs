@@ -89,25 +89,46 @@ namespace Sdtool
     /// <summary>A call doesn't take an argument. It says nothing about a descriptor.</summary>
     public sealed class ArgumentFaultException : ArgumentException
     {
-        // By the numbers of enum sdtool_argument.
-        private static readonly string[] Names =
-        {
-            null, "domain", "sids", "sids", "objectType", "principalSelf", "mapping", "creator", "owner", "group",
-            "kind", "number", "sid", "systemAcl", "discretionaryAcl", "token", "changes", "privileges", "ace",
-            "aceFlags", "guid"
-        };
-
         internal readonly Native.Outcome Outcome;
 
         internal ArgumentFaultException(Native.Outcome outcome)
-            : this(outcome, Given.Nothing.Describe(outcome),
-                   outcome.argument < Names.Length ? Names[outcome.argument] : null)
+            : this(outcome, Given.Nothing.Describe(outcome), NameOf(outcome.argument))
         {
         }
 
         internal ArgumentFaultException(Native.Outcome outcome, string message, string name) : base(message, name)
         {
             Outcome = outcome;
+        }
+
+        private static string NameOf(uint argument)
+        {
+            switch (argument)
+            {
+                case Native.SDTOOL_ARGUMENT_DOMAIN: return "domain";
+                case Native.SDTOOL_ARGUMENT_SIDS: return "sids";
+                case Native.SDTOOL_ARGUMENT_ENTRIES: return "sids";
+                case Native.SDTOOL_ARGUMENT_OBJECT: return "objectType";
+                case Native.SDTOOL_ARGUMENT_PRINCIPAL_SELF: return "principalSelf";
+                case Native.SDTOOL_ARGUMENT_MAPPING: return "mapping";
+                case Native.SDTOOL_ARGUMENT_CREATOR: return "creator";
+                case Native.SDTOOL_ARGUMENT_OWNER: return "owner";
+                case Native.SDTOOL_ARGUMENT_GROUP: return "group";
+                case Native.SDTOOL_ARGUMENT_KIND: return "kind";
+                case Native.SDTOOL_ARGUMENT_FAULT: return "number";
+                case Native.SDTOOL_ARGUMENT_SID: return "sid";
+                case Native.SDTOOL_ARGUMENT_SACL: return "systemAcl";
+                case Native.SDTOOL_ARGUMENT_DACL: return "discretionaryAcl";
+                case Native.SDTOOL_ARGUMENT_TOKEN: return "token";
+                case Native.SDTOOL_ARGUMENT_CHANGES: return "changes";
+                case Native.SDTOOL_ARGUMENT_OPTIONS: return "privileges";
+                case Native.SDTOOL_ARGUMENT_ACE: return "ace";
+                case Native.SDTOOL_ARGUMENT_FLAGS: return "aceFlags";
+                case Native.SDTOOL_ARGUMENT_GUID: return "guid";
+                case Native.SDTOOL_ARGUMENT_OFFSETS: return "offsets";
+                case Native.SDTOOL_ARGUMENT_CONVERSION: return "conversion";
+                default: return null;
+            }
         }
 
         /// <summary>Which entry of a list it is, from 0.</summary>
@@ -159,6 +180,11 @@ namespace Sdtool
         internal static Given Sddl(string sddlForm, Sid domain)
         {
             return Text(Form.Sddl, sddlForm, domain);
+        }
+
+        internal static Given Sddl(byte[] sddlForm, byte[] domain)
+        {
+            return new Given(Form.Sddl, sddlForm, domain);
         }
 
         internal static Given Ace(string sddlForm, Sid domain)
@@ -255,7 +281,8 @@ namespace Sdtool
         private static Native.FaultPlace OfAce(Native.FaultPlace found)
         {
             found.place.offset -= Math.Min(found.place.offset, (ulong)Head.Length);
-            if (found.part == Native.SDTOOL_DACL)
+            // A second head is in the text itself.
+            if (found.part == Native.SDTOOL_DACL && found.fault != Native.SDTOOL_FAULT_PART_TWICE)
             {
                 found.part = Native.SDTOOL_NO_PART;
                 found.ace = Native.SDTOOL_NO_ACE;

@@ -65,6 +65,8 @@ namespace Sdtool
         internal const uint SDTOOL_ARGUMENT_ACE = 18;
         internal const uint SDTOOL_ARGUMENT_FLAGS = 19;
         internal const uint SDTOOL_ARGUMENT_GUID = 20;
+        internal const uint SDTOOL_ARGUMENT_OFFSETS = 21;
+        internal const uint SDTOOL_ARGUMENT_CONVERSION = 22;
         internal const uint SDTOOL_NO_PART = 0;
         internal const uint SDTOOL_OWNER = 1;
         internal const uint SDTOOL_GROUP = 2;
@@ -103,6 +105,10 @@ namespace Sdtool
         internal const uint SDTOOL_FIELD_INHERITED_OBJECT_TYPE = 5;
         internal const uint SDTOOL_FIELD_SID = 6;
         internal const uint SDTOOL_FIELD_SIZE = 7;
+        internal const uint SDTOOL_CONVERT_TO_SDDL = 0;
+        internal const uint SDTOOL_CONVERT_FROM_SDDL = 1;
+        internal const uint SDTOOL_CONVERT_NORMALIZE = 2;
+        internal const uint SDTOOL_NUMERIC = 1;
         internal const uint SDTOOL_REASON_NOTHING = 0;
         internal const uint SDTOOL_REASON_LABEL = 1;
         internal const uint SDTOOL_REASON_NO_DACL = 2;
@@ -137,6 +143,10 @@ namespace Sdtool
         internal const uint SDTOOL_BY_ORDER = 4294967294;
         internal const uint SDTOOL_NO_ACE = 4294967295;
         internal const uint SDTOOL_VERSION = 100;
+        internal const uint SDTOOL_TEXT_SIZE_FIRST = 64;
+        internal const uint SDTOOL_TEXT_SIZE_EACH = 8;
+        internal const uint SDTOOL_TOKEN_WORDS_FIRST = 2;
+        internal const uint SDTOOL_TOKEN_WORDS_EACH = 20;
 
         [StructLayout(LayoutKind.Sequential)]
         internal struct Outcome
@@ -252,6 +262,30 @@ namespace Sdtool
         {
             internal byte* bytes;
             internal ulong size;
+        }
+
+        [StructLayout(LayoutKind.Sequential)]
+        internal struct Conversion
+        {
+            internal Bytes data;
+            internal uint* offsets;
+            internal ulong offsetCount;
+            internal Bytes domain;
+            internal ulong begin;
+            internal uint kind;
+            internal uint options;
+        }
+
+        [StructLayout(LayoutKind.Sequential)]
+        internal struct LargeConversion
+        {
+            internal Bytes data;
+            internal ulong* offsets;
+            internal ulong offsetCount;
+            internal Bytes domain;
+            internal ulong begin;
+            internal uint kind;
+            internal uint options;
         }
 
         [StructLayout(LayoutKind.Sequential)]
@@ -432,6 +466,15 @@ namespace Sdtool
                                                 Verdict* verdicts, ulong verdictCount);
 
         [UnmanagedFunctionPointer(CallingConvention.Cdecl), SuppressUnmanagedCodeSecurity]
+        internal delegate Outcome ConvertManyCall(Conversion* conversion, byte* @out, ulong outSize, uint* outOffsets,
+                                                  ulong outOffsetCount, Outcome* outcomes, ulong outcomeCount);
+
+        [UnmanagedFunctionPointer(CallingConvention.Cdecl), SuppressUnmanagedCodeSecurity]
+        internal delegate Outcome ConvertManyLargeCall(LargeConversion* conversion, byte* @out, ulong outSize,
+                                                       ulong* outOffsets, ulong outOffsetCount, Outcome* outcomes,
+                                                       ulong outcomeCount);
+
+        [UnmanagedFunctionPointer(CallingConvention.Cdecl), SuppressUnmanagedCodeSecurity]
         internal delegate Outcome TokenReadCall(byte* sids, ulong sidsSize, byte* entries, ulong sidCount, uint* token,
                                                 ulong tokenWords);
 
@@ -498,6 +541,8 @@ namespace Sdtool
             internal readonly GuidFromTextCall GuidFromText;
             internal readonly GuidToTextCall GuidToText;
             internal readonly CheckManyCall CheckMany;
+            internal readonly ConvertManyCall ConvertMany;
+            internal readonly ConvertManyLargeCall ConvertManyLarge;
             internal readonly TokenReadCall TokenRead;
             internal readonly CheckWithCall CheckWith;
             internal readonly ReasonsCall Reasons;
@@ -538,6 +583,8 @@ namespace Sdtool
                 GuidFromText = Bound<GuidFromTextCall>(find("sdtool_guid_from_text"));
                 GuidToText = Bound<GuidToTextCall>(find("sdtool_guid_to_text"));
                 CheckMany = Bound<CheckManyCall>(find("sdtool_check_many"));
+                ConvertMany = Bound<ConvertManyCall>(find("sdtool_convert_many"));
+                ConvertManyLarge = Bound<ConvertManyLargeCall>(find("sdtool_convert_many_large"));
                 TokenRead = Bound<TokenReadCall>(find("sdtool_token_read"));
                 CheckWith = Bound<CheckWithCall>(find("sdtool_check_with"));
                 Reasons = Bound<ReasonsCall>(find("sdtool_reasons"));

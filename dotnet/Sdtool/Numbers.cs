@@ -5,32 +5,32 @@ namespace Sdtool
     /// <summary>A part of a descriptor.</summary>
     public enum Part
     {
-        None = 0,
-        Owner = 1,
-        Group = 2,
-        SystemAcl = 3,
-        DiscretionaryAcl = 4
+        None = (int)Native.SDTOOL_NO_PART,
+        Owner = (int)Native.SDTOOL_OWNER,
+        Group = (int)Native.SDTOOL_GROUP,
+        SystemAcl = (int)Native.SDTOOL_SACL,
+        DiscretionaryAcl = (int)Native.SDTOOL_DACL
     }
 
     /// <summary>A field of an ACE or of a part.</summary>
     public enum Field
     {
-        None = 0,
-        AceType = 1,
-        Flags = 2,
-        Rights = 3,
-        ObjectType = 4,
-        InheritedObjectType = 5,
-        Sid = 6,
-        Size = 7
+        None = (int)Native.SDTOOL_NO_FIELD,
+        AceType = (int)Native.SDTOOL_FIELD_KIND,
+        Flags = (int)Native.SDTOOL_FIELD_FLAGS,
+        Rights = (int)Native.SDTOOL_FIELD_RIGHTS,
+        ObjectType = (int)Native.SDTOOL_FIELD_OBJECT_TYPE,
+        InheritedObjectType = (int)Native.SDTOOL_FIELD_INHERITED_OBJECT_TYPE,
+        Sid = (int)Native.SDTOOL_FIELD_SID,
+        Size = (int)Native.SDTOOL_FIELD_SIZE
     }
 
     /// <summary>What an ACL is. Absent and null DACLs grant everything, an empty list nothing.</summary>
     public enum AclState
     {
-        Absent = 0,
-        Null = 1,
-        List = 2
+        Absent = (int)Native.SDTOOL_ACL_ABSENT,
+        Null = (int)Native.SDTOOL_ACL_NULL,
+        List = (int)Native.SDTOOL_ACL_LIST
     }
 
     /// <summary>The types of ACEs that descriptors may have (MS-DTYP 2.4.4.1).</summary>
@@ -85,16 +85,16 @@ namespace Sdtool
     /// <summary>The kind of object whose rights the generic rights stand for.</summary>
     public enum Mapping
     {
-        File = 0,
-        Key = 1,
-        DirectoryService = 2
+        File = (int)Native.SDTOOL_MAPPING_FILE,
+        Key = (int)Native.SDTOOL_MAPPING_KEY,
+        DirectoryService = (int)Native.SDTOOL_MAPPING_DS
     }
 
     /// <summary>What is made in a folder.</summary>
     public enum ObjectKind
     {
-        File = 0,
-        Container = 1
+        File = (int)Native.SDTOOL_KIND_FILE,
+        Container = (int)Native.SDTOOL_KIND_CONTAINER
     }
 
     /// <summary>The privileges that a check looks at, SeSecurityPrivilege and SeTakeOwnershipPrivilege.</summary>
@@ -102,34 +102,34 @@ namespace Sdtool
     public enum Privileges
     {
         None = 0,
-        Security = 2,
-        TakeOwnership = 4
+        Security = (int)Native.SDTOOL_SECURITY,
+        TakeOwnership = (int)Native.SDTOOL_TAKE_OWNERSHIP
     }
 
     /// <summary>Why a right is granted or denied. A number without a name is a denial.</summary>
     public enum ReasonKind
     {
         /// <summary>Denied: nothing grants it.</summary>
-        Nothing = 0,
+        Nothing = (int)Native.SDTOOL_REASON_NOTHING,
         /// <summary>Denied by the mandatory label; without a place it is the default label.</summary>
-        Label = 1,
+        Label = (int)Native.SDTOOL_REASON_LABEL,
         /// <summary>Granted: the DACL is null or absent.</summary>
-        NoDiscretionaryAcl = 2,
+        NoDiscretionaryAcl = (int)Native.SDTOOL_REASON_NO_DACL,
         /// <summary>Granted to the owner.</summary>
-        Owner = 3,
+        Owner = (int)Native.SDTOOL_REASON_OWNER,
         /// <summary>Granted by a privilege.</summary>
-        Privilege = 4,
+        Privilege = (int)Native.SDTOOL_REASON_PRIVILEGE,
         /// <summary>Granted by an ACE.</summary>
-        Granted = 5,
+        Granted = (int)Native.SDTOOL_REASON_GRANTED,
         /// <summary>Denied by an ACE.</summary>
-        Denied = 6
+        Denied = (int)Native.SDTOOL_REASON_DENIED
     }
 
     /// <summary>How a run of the program ends.</summary>
     public enum Status
     {
-        Answered = 0,
-        Errors = 1,
-        Usage = 2
+        Answered = (int)Native.SDTOOL_STATUS_ANSWERED,
+        Errors = (int)Native.SDTOOL_STATUS_ERRORS,
+        Usage = (int)Native.SDTOOL_STATUS_USAGE
     }
 }

@@ -103,7 +103,8 @@ namespace Sdtool
 
         private static unsafe uint[] Read(byte[] data, byte[] entries)
         {
-            var words = new uint[2 + 20 * Math.Min(entries.Length, (int)Native.SDTOOL_MOST_SIDS)]; // SDTOOL_TOKEN_WORDS
+            var words = new uint[Native.SDTOOL_TOKEN_WORDS_FIRST + Native.SDTOOL_TOKEN_WORDS_EACH *
+                                 Math.Min(entries.Length, Native.SDTOOL_MOST_SIDS)];
             fixed (byte* bytes = data, kinds = entries)
             fixed (uint* token = words)
             {

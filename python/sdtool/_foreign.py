@@ -1,12 +1,16 @@
 """The calls of include/sdtool.h by ctypes, where _native is not there. Both have the same functions, of which
 _native.pyi has the signatures; here each call takes about ten times as long beside the library's own time."""
+import array
+import collections
 import ctypes
+import itertools
 from typing import Any, Callable, Dict, Iterable, Iterator, List, NoReturn, Optional, Tuple
 
 from . import _header as c
 from ._slots import Slot, not_made
 
 _FIRST_SIZE = 4096  # larger answers take a second call
+_GROWTH = 4  # as long as all values may be their answers, before there is a second call
 _library: Any = None
 _raises: Callable[..., NoReturn]
 # What adopt() is given.
@@ -283,8 +287,8 @@ def run(words: bytes, data: bytes) -> Tuple[int, bytes, bytes]:
 
 
 def token(sids: bytes, entries: bytes) -> Any:
-    """A token that is read, which is 2 numbers of 32 bits and 20 for each SID; and what it was read from."""
-    size = 2 + 20 * min(len(entries), c.MOST_SIDS)
+    """A token that is read; and what it was read from."""
+    size = c.TOKEN_WORDS_FIRST + c.TOKEN_WORDS_EACH * min(len(entries), c.MOST_SIDS)
     numbers = (ctypes.c_uint32 * size)()
     given = (sids, len(sids), entries, len(entries))
     outcome = _library.sdtool_token_read(*given, numbers, size)
@@ -332,6 +336,52 @@ def check_many(question: Any, descriptors: Iterable[Any]) -> List[Any]:
         _refuse(outcome)
     return [_verdict_of(verdict) if verdict.outcome.fault == c.OK else _fault_told(verdict.outcome, data, None)
             for verdict, data in zip(verdicts, layouts)]
+
+
+def distinct(rows: List[Any], kind: type) -> Optional[Tuple[List[Any], List[int]]]:
+    if not {*map(type, rows)} <= {kind, type(None)}:
+        return None
+    places: Dict[Any, int] = collections.defaultdict(itertools.count().__next__, {None: -1})
+    found = list(map(places.__getitem__, rows))
+    del places[None]
+    return list(places), found
+
+
+def convert_many(kind: int, values: List[Any], domain: Optional[bytes], is_numeric: bool) -> List[Any]:
+    given = [_read_text("column", value) for value in values] if kind == c.CONVERT_FROM_SDDL else values
+    count, data = len(given), b"".join(given)
+    held = array.array("Q", itertools.accumulate(map(len, given), initial=0))
+    offsets = (ctypes.c_uint64 * (count + 1)).from_buffer(held)
+    ends, outcomes = (ctypes.c_uint64 * (count + 1))(), (c.Outcome * count)()
+    output, row = ctypes.create_string_buffer(_FIRST_SIZE + _GROWTH * len(data)), 0
+    while True:
+        rest = count - row
+        asked = c.LargeConversion(_given(data), _from(offsets, row), rest + 1, _given(domain), ends[row], kind,
+                                  is_numeric)
+        told = _library.sdtool_convert_many_large(asked, output, len(output), _from(ends, row), rest + 1,
+                                                  _from(outcomes, row), rest)
+        if told.fault != c.TOO_SMALL:
+            break
+        row += told.entry
+        larger = ctypes.create_string_buffer(2 * (ends[row] + told.length))
+        ctypes.memmove(larger, output, ends[row])
+        output = larger
+    if told.fault != c.OK:
+        _refuse(told)
+    answered = ctypes.string_at(output, ends[count])
+    whole: Any = answered.decode("latin-1") if kind == c.CONVERT_TO_SDDL else answered
+    found: List[Any] = [whole[first:end] for first, end in zip(ends, itertools.islice(ends, 1, None))]
+    faults = array.array("I", bytes(outcomes))[::ctypes.sizeof(c.Outcome) // 4]  # the first number of each
+    for at, fault in enumerate(faults):
+        if fault != c.OK:
+            found[at] = _fault_told(outcomes[at], given[at], domain)
+    return found
+
+
+def _from(numbers: Any, place: int) -> Any:
+    """A pointer to an item of an array."""
+    return ctypes.cast(ctypes.byref(numbers, place * ctypes.sizeof(numbers._type_)),
+                       ctypes.POINTER(numbers._type_))
 
 
 def reasons(question: Any, descriptor: Any) -> bytes:

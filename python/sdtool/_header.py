@@ -1,5 +1,5 @@
 # `make figures` writes this file from include/sdtool.h.
-from ctypes import POINTER, Structure, c_bool, c_char_p, c_size_t, c_uint8, c_uint16, c_uint32, c_void_p
+from ctypes import POINTER, Structure, c_bool, c_char_p, c_size_t, c_uint8, c_uint16, c_uint32, c_uint64, c_void_p
 from typing import Any, Sequence, Tuple
 
 # Those that are asked for.
@@ -8,6 +8,7 @@ ARGUMENT = 70
 TOO_SMALL = 71
 NO_MEMORY = 72
 ARGUMENT_SID = 12
+ARGUMENT_OFFSETS = 21
 NO_PART = 0
 DACL = 4
 DENY_ONLY = 1
@@ -23,6 +24,8 @@ MOST_DERIVED_ACES = 4095
 ACL_ABSENT = 0
 ACL_NULL = 1
 ACL_LIST = 2
+CONVERT_TO_SDDL = 0
+CONVERT_FROM_SDDL = 1
 REASON_NO_DACL = 2
 REASON_OWNER = 3
 REASON_PRIVILEGE = 4
@@ -34,6 +37,8 @@ STATUS_NO_MEMORY = 4
 AT_END = 4294967295
 BY_ORDER = 4294967294
 NO_ACE = 4294967295
+TOKEN_WORDS_FIRST = 2
+TOKEN_WORDS_EACH = 20
 
 
 class Outcome(Structure):
@@ -89,6 +94,16 @@ class Number(Structure):
 
 class Bytes(Structure):
     _fields_ = [("bytes", c_char_p), ("size", c_size_t)]
+
+
+class Conversion(Structure):
+    _fields_ = [("data", Bytes), ("offsets", POINTER(c_uint32)), ("offset_count", c_size_t), ("domain", Bytes),
+                ("begin", c_size_t), ("kind", c_uint32), ("options", c_uint32)]
+
+
+class LargeConversion(Structure):
+    _fields_ = [("data", Bytes), ("offsets", POINTER(c_uint64)), ("offset_count", c_size_t), ("domain", Bytes),
+                ("begin", c_size_t), ("kind", c_uint32), ("options", c_uint32)]
 
 
 class Reason(Structure):
@@ -159,6 +174,9 @@ CALLS: Tuple[Tuple[str, Sequence[Any], Any], ...] = (
     ("guid_to_text", (*IN, *OUT), Outcome),
     ("check_many", (POINTER(Bytes), c_size_t, *IN, *IN, *IN, *IN, POINTER(Request), POINTER(Verdict),
                     c_size_t), Outcome),
+    ("convert_many", (POINTER(Conversion), *OUT, POINTER(c_uint32), c_size_t, POINTER(Outcome), c_size_t), Outcome),
+    ("convert_many_large", (POINTER(LargeConversion), *OUT, POINTER(c_uint64), c_size_t, POINTER(Outcome),
+                            c_size_t), Outcome),
     ("token_read", (*IN, *IN, POINTER(c_uint32), c_size_t), Outcome),
     ("check_with", (*IN, POINTER(c_uint32), c_size_t, *IN, *IN, POINTER(Request)), Verdict),
     ("reasons", (*IN, *IN, *IN, *IN, *IN, POINTER(Asker), POINTER(Reason)), Outcome),

@@ -20,7 +20,7 @@ _OF_BYTES, _OF_TEXTS = range(5, 15), range(20, 31)  # the faults that have a pla
 # The arguments of enum sdtool_argument, by the names that they have in Python.
 _ARGUMENTS = (None, "domain", "sids", "deny_only", "object_type", "principal_self", "mapping", "creator",
               "owner", "group", "kind", "number", "sid", "sacl", "dacl", "token", "changes", "options", "ace", "flags",
-              "guid")
+              "guid", "offsets", "conversion")
 _LISTS = ("sids", "deny_only", "sacl", "dacl", "changes")
 _CHANGES = 16
 
@@ -141,3 +141,5 @@ else:
     order = _transport.order
     adopt_plain = _transport.adopt_plain
     plain = _transport.plain
+    distinct = _transport.distinct
+    convert_many = _transport.convert_many

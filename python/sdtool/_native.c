@@ -488,16 +488,20 @@ static PyObject *version(PyObject *module, PyObject *nothing)
     return answer;
 }
 
-static PyObject *fault_text(PyObject *module, PyObject *argument)
-{
-    struct state *state = state_of(module);
-    uint32_t fault;
-    PyObject *answer;
-    if (state == NULL || !number(argument, UINT32_MAX, &fault))
-        return NULL;
-    ASK(answer, state->library.fault_text(fault, output, size), 0, as_text, NOTHING);
-    return answer;
-}
+/* A call that gives the text of a number. */
+#define TEXT_OF_NUMBER(NAME)                                                                                           \
+    static PyObject *NAME(PyObject *module, PyObject *given)                                                           \
+    {                                                                                                                  \
+        struct state *state = state_of(module);                                                                        \
+        uint32_t found;                                                                                                \
+        PyObject *answer;                                                                                              \
+        if (state == NULL || !number(given, UINT32_MAX, &found))                                                       \
+            return NULL;                                                                                               \
+        ASK(answer, state->library.NAME(found, output, size), 0, as_text, NOTHING);                                    \
+        return answer;                                                                                                 \
+    }
+TEXT_OF_NUMBER(fault_text)
+TEXT_OF_NUMBER(flags_to_text)
 
 static PyObject *normalize(PyObject *module, PyObject *argument)
 {
@@ -714,17 +718,6 @@ static PyObject *rights_to_text(PyObject *module, PyObject *const *given, Py_ssi
     if (state == NULL || !number(given[0], UINT32_MAX, &mask))
         return NULL;
     ASK(answer, state->library.rights_to_text(mask, given[1] == Py_True, output, size), 0, as_text, NOTHING);
-    return answer;
-}
-
-static PyObject *flags_to_text(PyObject *module, PyObject *given)
-{
-    struct state *state = state_of(module);
-    uint32_t flags;
-    PyObject *answer;
-    if (state == NULL || !number(given, UINT32_MAX, &flags))
-        return NULL;
-    ASK(answer, state->library.flags_to_text(flags, output, size), 0, as_text, NOTHING);
     return answer;
 }
 
@@ -1766,8 +1759,9 @@ static PyObject *plain_fault(struct state *state, struct sdtool_outcome outcome,
 }
 
 /* What a text of SDDL, or a descriptor, says. */
-static PyObject *plain_answer(const struct plain *plain, PyObject *given)
+static PyObject *plain_answer(const void *asked, PyObject *given)
 {
+    const struct plain *plain = asked;
     struct sdtool_outcome outcome = {0};
     struct sdtool_contents found = {0};
     struct sdtool_bytes data;
@@ -1796,12 +1790,12 @@ static PyObject *plain_answer(const struct plain *plain, PyObject *given)
     return answer;
 }
 
-/* The answers to what an iterator has. */
-static PyObject *plain_answers(const struct plain *plain, PyObject *descriptors)
+/* What a function answers, with what it is asked, to each object of an iterable. */
+static PyObject *answers_to(PyObject *iterable, PyObject *(*answer_to)(const void *, PyObject *), const void *asked)
 {
-    PyObject *iterator = PyObject_GetIter(descriptors), *answers = iterator == NULL ? NULL : PyList_New(0), *given;
+    PyObject *iterator = PyObject_GetIter(iterable), *answers = iterator == NULL ? NULL : PyList_New(0), *given;
     while (answers != NULL && (given = PyIter_Next(iterator)) != NULL) {
-        PyObject *answer = plain_answer(plain, given);
+        PyObject *answer = answer_to(asked, given);
         Py_DECREF(given);
         if (answer == NULL || PyList_Append(answers, answer) < 0)
             Py_CLEAR(answers);
@@ -1835,7 +1829,7 @@ static PyObject *plain(PyObject *module, PyObject *const *given, Py_ssize_t coun
     if (!view_bytes(&plain.domain, given[1]))
         return NULL;
     plain.room = malloc(SDTOOL_MOST_BYTES);
-    answers = plain.room == NULL ? PyErr_NoMemory() : plain_answers(&plain, given[0]);
+    answers = plain.room == NULL ? PyErr_NoMemory() : answers_to(given[0], plain_answer, &plain);
     free(plain.room);
     view_ends(&plain.domain);
     return answers;
@@ -1860,6 +1854,116 @@ static PyObject *adopt_plain(PyObject *module, PyObject *arguments)
     keep(&state->plain_null, null);
     keep(&state->plain_type, descriptor);
     return counted(Py_None);
+}
+
+/* Columns: many values are told apart, and converted, by one call of Python. */
+
+/* The place of a value among the distinct ones, which a new one joins. The reference is borrowed from `places`. */
+static PyObject *place_among(PyObject *values, PyObject *places, PyObject *value)
+{
+    PyObject *place = PyDict_GetItemWithError(places, value);
+    if (place != NULL || PyErr_Occurred())
+        return place;
+    place = PyLong_FromSsize_t(PyList_Size(values));
+    if (place != NULL && (PyDict_SetItem(places, value, place) < 0 || PyList_Append(values, value) < 0))
+        Py_CLEAR(place);
+    Py_XDECREF(place);
+    return place;
+}
+
+/* The place of each row's value. None if a value is not None, and not of the type: others hash by code of their own. */
+static PyObject *places_of(PyObject *rows, PyObject *type, PyObject *values, PyObject *places)
+{
+    Py_ssize_t row, count = PyList_Size(rows);
+    PyObject *found = PyList_New(count);
+    for (row = 0; found != NULL && row < count; row++) {
+        PyObject *value = PyList_GetItem(rows, row), *place;
+        if (value != Py_None && (PyObject *)Py_TYPE(value) != type) {
+            Py_DECREF(found);
+            return counted(Py_None);
+        }
+        place = place_among(values, places, value);
+        if (place == NULL)
+            Py_CLEAR(found);
+        else
+            PyList_SetItem(found, row, counted(place));
+    }
+    return found;
+}
+
+/* The distinct values of a list, in the order in which they come first, and the place of each row's value, which is -1
+ * for None. None if a value is not None, and not of the type, which is bytes or str. */
+static PyObject *distinct(PyObject *module, PyObject *const *given, Py_ssize_t count)
+{
+    PyObject *values = NULL, *places = NULL, *null = NULL, *found = NULL;
+    if (state_for(module, count, 2) == NULL)
+        return NULL;
+    if (!PyList_CheckExact(given[0])
+        || (given[1] != (PyObject *)&PyBytes_Type && given[1] != (PyObject *)&PyUnicode_Type)) {
+        PyErr_SetString(PyExc_SystemError, "no list of the module");
+        return NULL;
+    }
+    if (put(&values, PyList_New(0)) && put(&places, PyDict_New()) && put(&null, PyLong_FromLong(-1))
+        && PyDict_SetItem(places, Py_None, null) == 0)
+        found = places_of(given[0], given[1], values, places);
+    if (found != NULL && found != Py_None)
+        found = Py_BuildValue("ON", values, found);
+    Py_XDECREF(values);
+    Py_XDECREF(places);
+    Py_XDECREF(null);
+    return found;
+}
+
+struct conversion {
+    struct state *state;
+    struct view domain;
+    uint32_t kind; /* of enum sdtool_conversion_kind */
+    bool numeric;
+    uint8_t *room; /* SDTOOL_MOST_TEXT */
+};
+
+static PyObject *converted(const void *given, PyObject *value)
+{
+    const struct conversion *asked = given;
+    bool is_text = asked->kind == SDTOOL_CONVERT_FROM_SDDL;
+    struct sdtool_outcome outcome;
+    struct view view;
+    PyThreadState *others;
+    PyObject *answer;
+    if (!(is_text ? view_text(asked->state, &view, value) : view_bytes(&view, value)))
+        return NULL;
+    others = view.size > LARGE ? PyEval_SaveThread() : NULL;
+    if (is_text)
+        outcome = asked->state->library.from_sddl(BYTES(view), BYTES(asked->domain), asked->room, SDTOOL_MOST_TEXT);
+    else if (asked->kind == SDTOOL_CONVERT_TO_SDDL)
+        outcome = asked->state->library.to_sddl(BYTES(view), BYTES(asked->domain), asked->numeric, asked->room,
+                                                SDTOOL_MOST_TEXT);
+    else
+        outcome = asked->state->library.normalize(BYTES(view), asked->room, SDTOOL_MOST_TEXT);
+    if (others != NULL)
+        PyEval_RestoreThread(others);
+    if (outcome.fault != SDTOOL_OK)
+        answer = plain_fault(asked->state, outcome, is_text ? SDDL(view, asked->domain) : DESCRIPTOR(view));
+    else
+        answer = (asked->kind == SDTOOL_CONVERT_TO_SDDL ? as_text : as_bytes)(asked->room, outcome.length);
+    view_ends(&view);
+    return answer;
+}
+
+/* One of enum sdtool_conversion_kind, values, the SID of a domain or None, and whether SIDs are numbers. */
+static PyObject *convert_many(PyObject *module, PyObject *const *given, Py_ssize_t count)
+{
+    struct conversion asked = {.state = state_for(module, count, 4)};
+    PyObject *answers;
+    if (asked.state == NULL || !number(given[0], SDTOOL_CONVERT_NORMALIZE, &asked.kind)
+        || !view_bytes(&asked.domain, given[2]))
+        return NULL;
+    asked.numeric = given[3] == Py_True;
+    asked.room = malloc(SDTOOL_MOST_TEXT);
+    answers = asked.room == NULL ? PyErr_NoMemory() : answers_to(given[1], converted, &asked);
+    free(asked.room);
+    view_ends(&asked.domain);
+    return answers;
 }
 
 #ifdef _WIN32
@@ -2026,6 +2130,8 @@ static PyMethodDef FUNCTIONS[] = {
     {"order", order, METH_O, NULL},
     {"adopt_plain", adopt_plain, METH_VARARGS, NULL},
     FAST(plain),
+    FAST(distinct),
+    FAST(convert_many),
     {NULL, NULL, 0, NULL},
 };
 

@@ -115,3 +115,10 @@ def adopt_plain(descriptor: Type[PlainDescriptor], ace: Type[PlainAce], kinds: T
 # Each descriptor, or text of SDDL, in plain values, or its Fault. kept has what ACLs, ACEs, SIDs and GUIDs say, by bytes.
 def plain(descriptors: Iterator[Union[DescriptorLike, str]], domain: Optional[bytes],
           kept: Tuple[Dict[bytes, Any], ...]) -> List[Union[PlainDescriptor, Fault]]: ...
+
+# The distinct values of a list, each where it comes first, and the place of each row's value, which is -1 for None. None if a
+# value is not None, and not of the type.
+def distinct(rows: List[Any], type: Type[Union[bytes, str]]) -> Optional[Tuple[List[Any], List[int]]]: ...
+
+# What values, of one of enum sdtool_conversion_kind, are converted to, or their Faults.
+def convert_many(kind: int, values: List[Any], domain: Optional[bytes], numeric: bool) -> List[Union[bytes, str, Fault]]: ...

@@ -89,22 +89,6 @@ struct new_descriptor {
     uint8_t resource_manager;
 };
 
-// sdtool.mjs has these numbers.
-_Static_assert(sizeof(struct verdict) == 32, "the verdict of a check");
-_Static_assert(sizeof(struct origins) == 32, "what sdtool_derive_origins answers");
-_Static_assert(sizeof(struct contents) == 76 && offsetof(struct contents, owner) == 28, "what sdtool_parts finds");
-_Static_assert(sizeof(struct ace) == 48 && offsetof(struct ace, place) == 16, "what sdtool_next_ace finds");
-_Static_assert(sizeof(struct fault_place) == 24, "what sdtool_place and sdtool_sddl_place find");
-_Static_assert(sizeof(struct number) == 28, "the number that a text means");
-_Static_assert(sizeof(struct new_ace) == 32 && sizeof(struct new_descriptor) == 44, "what sdtool_build reads");
-
-_Static_assert(sizeof(struct acl_order) == 32 && sizeof(struct sdtool_change) == 208,
-               "what sdtool_edit and _order read");
-
-_Static_assert(sizeof(struct sdtool_request) == 20, "as on a 32-bit machine");
-_Static_assert(sizeof(struct sdtool_asker) == 12 && sizeof(struct sdtool_reason) == 4, "as on a 32-bit machine");
-_Static_assert(sizeof(struct sdtool_origin) == 4, "as on a 32-bit machine");
-
 #define CALL(call, type, ...) type *proved_##call(type *told, __VA_ARGS__) __asm__("sdtool_" #call)
 #define INPUT(name) const uint8_t *name, size_t name##_size
 #define OUTPUT(name) uint8_t *name, size_t name##_size

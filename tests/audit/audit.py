@@ -70,11 +70,7 @@ sys.addaudithook(hook)
 
 
 def python_with_packages() -> Optional[str]:
-    for python in (sys.executable, "/usr/bin/python3"):
-        asked = [python, "-c", "import click, rich"]
-        if shutil.which(python) and subprocess.run(asked, cwd="/", stderr=subprocess.DEVNULL).returncode == 0:
-            return python
-    return None
+    return preload.python_with("click", "rich")
 
 
 class Ended(NamedTuple):

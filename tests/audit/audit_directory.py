@@ -1,7 +1,7 @@
-"""Tests sdtool-audit on exports of a directory: descriptors in other attributes, the domain and the names that a source
-says itself, classes in tables, whose accounts Windows' own ACEs are for, and objects whose kind nothing tells. Answers
-were worked out by hand, from MS-ADTS, MS-SFU, MS-CRTD and what Windows' tools print. It needs what tests/audit/audit.py
-needs, and is skipped without it.
+"""Tests sdtool-audit on exports of a directory. What is tested: descriptors in other attributes, the domain and the
+names that a source says itself, classes in tables, whose accounts Windows' own ACEs are for, and objects whose kind
+nothing tells. Answers were worked out by hand, from MS-ADTS, MS-SFU, MS-CRTD and what Windows' tools print. It needs
+what tests/audit/audit.py needs, and is skipped without it.
 """
 import base64
 import json

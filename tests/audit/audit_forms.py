@@ -1,7 +1,7 @@
-"""Compares what sdtool-audit and the page read, in each form in which programs write descriptors. What the page reads,
-sdtool-audit reads too, the same descriptors under the same names. Where the page tells the kind of object, sdtool-audit
-never takes another one, other than one that is told by a form with more in it. It needs click and rich, Node for the
-page, and the library in out/lib or the one that SDTOOL_LIBRARY names.
+"""Compares what sdtool-audit and the page read, in each form of a descriptor. What the page reads, sdtool-audit reads
+too, the same descriptors under the same names. Where the page tells the kind of object, sdtool-audit never takes
+another one, other than one that is told by a form with more in it. It needs click and rich, Node for the page, and the
+library in out/lib or the one that SDTOOL_LIBRARY names.
 """
 import base64
 import json

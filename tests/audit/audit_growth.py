@@ -53,6 +53,7 @@ BLOCK = audit_sources._block()
 BLANKS = str.maketrans("01b", " _-")  # titles that are read as the same
 KEYS = r"\EventLog\TaskCache\Tree\Services"
 DELEGATION = f"msDS-AllowedToActOnBehalfOfOtherIdentity:: {B64}\n"
+COLLECTED = '{"sdtool-collect": 1}\n', f'{{"Name":"a","Kind":"file","Sddl":"{FR}"}}\n'
 FAILED = "Failed to open \\a: NT_STATUS_ACCESS_DENIED\n"
 Made = Union[str, bytes]
 # Reads a source, and gives its formats with their words for what is no object in it.
@@ -351,6 +352,10 @@ CONSTRUCTS: Dict[str, Dict[str, Construct]] = {
             {"value": [], "a" * 20 * count: {str(at): {"Sddl": FR} for at in range(count)}})),
         "damaged elements behind a long one": Construct(
             lambda count: f'[\n{element("x" * 20 * count)},\n' + '{"Path": x},\n' * count + "]")},
+    "collected": {
+        "lines": repeated(COLLECTED[0], COLLECTED[1]), "blank lines": repeated(COLLECTED[0] + COLLECTED[1] * 2, "\n"),
+        "a name": repeated(COLLECTED[0] + COLLECTED[1] + '{"Name":"', "a", '","Kind":"file","Sddl":"D:"}\n'),
+        "the whole": Construct(lambda count: COLLECTED[0] + COLLECTED[1] * count + f'{{"Objects": {count}}}\n')},
     "jsonl": {
         "lines": of_parts("jsonl"), "members": numbered('{"Path": "a", ', '"a%": 1, ', f'"Sddl": "{FR}"}}\n' * 2),
         "empty lines": repeated(

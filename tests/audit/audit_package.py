@@ -1,5 +1,5 @@
-"""Checks the package sdtool.audit as software: no private name of another module, no option in a message that no
-command has, and runs as on Windows and macOS. It needs what tests/audit/audit.py needs; a line says what is missing.
+"""Checks the package sdtool.audit as software. It has no private name of another module and no option in a message that
+no command has, and runs as on Windows and macOS. It needs what tests/audit/audit.py needs; a line says what is missing.
 """
 import ast
 import os
@@ -23,7 +23,7 @@ from sdtool.audit.__main__ import main
 if __name__ == "__main__":
     main()
 """
-# Takes away what Windows lacks, and starts the command.
+# Takes away what Windows lacks, and starts the command, which knows a password as one that asks servers does.
 WITHOUT = """
 import multiprocessing, os, signal, sys
 for module, name in ((os, "sched_getaffinity"), (os, "fork"), (signal, "SIGHUP"),
@@ -31,6 +31,11 @@ for module, name in ((os, "sched_getaffinity"), (os, "fork"), (signal, "SIGHUP")
     if hasattr(module, name):
         delattr(module, name)
 multiprocessing.get_all_start_methods = lambda: ["spawn"]
+from sdtool.audit import inquiry
+from sdtool.audit.live.access import Access, Secret, Who
+informed = inquiry.informed
+inquiry.informed = lambda common, *words: informed(
+    common._replace(access=Access(who=Who(password=Secret("x")))), *words)
 """ + START
 # What modules see of another system. All the rest is this one's.
 SEEN = """
@@ -118,11 +123,17 @@ def test_other_systems(count: preload.Count, python: str) -> None:
         tree = place.table([("C:\\a", "O:BAG:SYD:P(A;OICI;FR;;;BU)"),
                             *((f"C:\\a\\{at}", f"O:{audit.DOMAIN}-{1000 + at}G:SYD:AI(A;ID;FR;;;BU)")
                               for at in range(15_000))], "tree.csv")
+        directory = place.write("directory.ldif", f"dn: DC=x\nobjectSid: {audit.DOMAIN}\n\n" + "".join(
+            f"dn: CN=pc{at},DC=x\nobjectClass: computer\nsAMAccountName: pc{at}$\n"
+            f"objectSid: {audit.DOMAIN}-{1000 + at}\n"
+            f"nTSecurityDescriptor: O:DAG:DAD:(A;;GA;;;{audit.DOMAIN}-{2000 + at})\n\n" for at in range(6000)))
         place.write("accept.toml", "[[accept]]\nrule = 'takeover'\nobject = '*1'\nreason = 'a test'\n")
         for words in (["risks", source, "--to", "csv"], ["risks", source, "--accept", "accept.toml"],
                       ["who", "change", source, "--to", "jsonl"],
                       ["can", "WD", "read", source, "--to", "csv"], ["inherit", tree, "--to", "csv"],
                       ["diff", source, tree, "--to", "csv"],
+                      ["risks", directory, "--to", "csv"], ["who", "change", directory, "--to", "csv"],
+                      ["can", "WD", "read", directory, "--to", "csv"],
                       ["risks", tree, "--into", "kept.db"], ["risks", "kept.db"]):
             asked = [*words, *([] if words[0] == "show" else ["--jobs", "2"])]
             got = subprocess.run([python, "without.py", *asked], cwd=folder,

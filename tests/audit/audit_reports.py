@@ -1,6 +1,6 @@
-"""Tests the reports of sdtool-audit: closed streams, files named twice, databases, order and groups of findings,
-baselines, what is said of guesses. It needs what tests/audit/audit.py needs, and is skipped without it. What is
-expected was worked out by hand. The last line is 'N passed, M failed'.
+"""Tests the reports of sdtool-audit. What is tested: closed streams, files named twice, databases, order and groups of
+findings, baselines, what is said of guesses. It needs what tests/audit/audit.py needs, and is skipped without it. What
+is expected was worked out by hand. The last line is 'N passed, M failed'.
 """
 import base64
 import csv

@@ -202,7 +202,10 @@ def test_full(place: audit.Place) -> None:
 PLAIN = {("click.echo", "reading.format_help()"), ("click.echo", "f'{word}: {told}'"),
          ("click.echo", "f'{rule.name}: {rule.reason}'"),
          ("click.style", "shown(styled)"), ("print", "_INTERRUPTED"),
-         ("print", "f\"sdtool-audit: the report isn't whole: {type(error).__name__}: {str(error)!r}\"")}
+         ("print", "f\"sdtool-audit: the report isn't whole: {type(error).__name__}: {str(error)!r}\""),
+         # These silence libraries, refuse a password that would be shown, and ask a server whether it is there.
+         ("logging.disable", ""), ("warnings.filterwarnings", "'ignore'"), ("warnings.catch_warnings", ""),
+         ("warnings.simplefilter", "'error'"), ("connection.echo", "")}
 
 
 def calls(path: pathlib.Path) -> Iterator[Tuple[int, str, str]]:

@@ -3,19 +3,13 @@
 // numbers, kind, onlyOf, exceptOf}. A row with an entry of LDIF is pasted as that, and opened by a link that has its
 // class. Another row is pasted as SDDL, with its kind chosen. Each is opened in the report of sdtool-audit that is
 // given, if it has the object. Its argument is the library, sdtool.mjs beside its sdtool.wasm.
-import fs from "node:fs";
-import {pathToFileURL} from "node:url";
+import {addressOf, takeAddress} from "../../web/address.mjs";
+import {questionOf} from "../../web/desk.mjs";
+import {Report} from "../../web/report.mjs";
+import {freshState} from "../../web/state.mjs";
+import {asked, library, print} from "../shared/page.mjs";
 
-const TOP = new URL("../..", import.meta.url);
-const [place] = process.argv.slice(2);
-
-const module = await import(pathToFileURL(place).href);
-const library = module.library ?? await module.load();
-const {questionOf} = await import(new URL("web/desk.mjs", TOP).href);
-const {freshState} = await import(new URL("web/state.mjs", TOP).href);
-const {addressOf, takeAddress} = await import(new URL("web/address.mjs", TOP).href);
-const {Report} = await import(new URL("web/report.mjs", TOP).href);
-const {rows, report} = JSON.parse(fs.readFileSync(0, "utf8"));
+const {rows, report} = asked;
 
 function told(state) {
     const {warnings, asksKind, fault} = questionOf(library, "look", {...freshState(), ...state});
@@ -39,9 +33,8 @@ const read = new Report(report);
 await read.read(() => {});
 const objects = new Map(read.objects.map((one) => read.object(one)).map((object) => [object.name, object]));
 
-process.stdout.write(JSON.stringify(rows.map((row) => ({
+print(rows.map((row) => ({
     paste: told(row.entry ? {text: row.entry, domain: row.domain} : chosen(row)),
     link: linked({...chosen(row), classes: row.place}),
     ...(objects.has(row.name) ? {report: ofReport(objects.get(row.name))} : {})
-}))));
-module.end?.();
+})));

@@ -161,7 +161,8 @@ def judge_module(count, folder, archive):
         names = opened.namelist()
     for name in re.findall(r"'(Sdtool\.(?:psm1|dll|Format\.ps1xml))'", manifest):
         count.add(f"Sdtool/{name}" in names, f"the archive lacks {name}")
-    count.add(f"ModuleVersion        = '{nuget.version()}'" in manifest, "the version of the module")
+    has_version = re.search(rf"^ *ModuleVersion *= '{re.escape(nuget.version())}'$", manifest, re.M)
+    count.add(has_version, "the version of the module")
     known = {line.split()[0]: set(line.split()[1:]) for line in assembly.ran(
         assembly.over_assembly(folder, "Members", "System.Core.dll")).stdout.splitlines()}
     for name in exported:

@@ -1,11 +1,9 @@
-"""Tests the assembly of dotnet/ against the library, in Mono.
+"""Tests the assembly of dotnet/ in Mono.
 
-  requests  random requests of each call, through the assembly and by ctypes
-  threads   the same from eight threads at once
-  time      a check takes at most 1.3 times what it takes in C, and an empty call
-  values    equality, what nothing changes, and wrong arguments, by tests/dotnet/cs/Objects.cs
-  places    hostile texts of SDDL: the places of their faults in chars
-  peer      Mono's RawSecurityDescriptor, of bytes and of text, where it reads
+  time    a check takes at most 1.3 times what it takes in C, and an empty call
+  values  equality, what nothing changes, and wrong arguments, by tests/dotnet/cs/Objects.cs
+  places  hostile texts of SDDL: the places of their faults in chars
+  peer    Mono's RawSecurityDescriptor, of bytes and of text, where it reads
 
 Without Debian's packages it is skipped.
 """
@@ -30,9 +28,16 @@ MOST_AUTHORITY = 1 << 32  # Mono writes others in decimal digits
 NOT_READ = re.compile(r"NO_ACCESS_CONTROL|[DS]:[A-Z]*(?=$|[OGDS]:)|[DS]:[A-Z]*(?:P|AR)|\bS-1-\d+(?![\d-])")
 
 
-def answers(count, program, lines):
+def requests_way(folder):
+    """The program of Requests.cs."""
+    assembly.laid_out(folder)
+    program = assembly.command(folder, assembly.over_sources(folder, "Requests", "System.Core.dll"))
+    return language_requests.Way([program], True)
+
+
+def answers(count, way, lines):
     """What Requests.cs answers."""
-    said, status = language_requests.ran([program, 1], None, {}, "".join(f"{line}\n" for line in lines))
+    said, status = language_requests.ran([*way.words, 1], None, {}, "".join(f"{line}\n" for line in lines))
     found = said.split("\n")[:-1]
     count.add(status == 0 and len(found) == len(lines), f"Requests.cs: status {status}, {said[-2000:]}")
     return found
@@ -45,13 +50,13 @@ def judge_values(count, folder):
         print("\n".join([*said, ended.stderr[:2000]]))
 
 
-def judge_places(count, program, chance):
+def judge_places(count, way, chance):
     lines, right = [], []
     for text in sddl_texts.hostile(chance, TEXTS):
         expected = sddl_texts.expected(text, code_units=True)
         lines.append(f"place {text.encode('utf-16-le', 'surrogatepass').hex() or '-'} {c_library.DOMAIN.hex()}")
         right.append(expected and place_of(expected.place))
-    for line, found, place in zip(lines, answers(count, program, lines), right):
+    for line, found, place in zip(lines, answers(count, way, lines), right):
         is_right = found == place if place else re.fullmatch(r"0100[0-9a-f]{36,}", found)
         count.add(is_right, f"{line[:600]}: {found}, not {place}")
 
@@ -78,14 +83,14 @@ def is_of_peer(descriptor):
     return not any(ace.type == LABEL_TYPE for ace in aces) and all(sid.authority < MOST_AUTHORITY for sid in sids)
 
 
-def judge_peer(count, folder, program, chance):
+def judge_peer(count, folder, way, chance):
     """Mono reads bytes as the assembly does, and what the assembly writes as SDDL."""
     descriptors = list(filter(is_of_peer, (c_edits.random_descriptor(chance) for _ in range(PEERS))))
     layouts = [binary.layout(one).hex() for one in descriptors]
-    parts = answers(count, program, [f"parts {layout}" for layout in layouts])
-    texts = answers(count, program, [f"to-sddl - 1 {layout}" for layout in layouts])
-    read = answers(count, program, [f"sddl {text.encode().hex() or '-'} -" for text in texts])
-    meant = answers(count, program, [f"parts {layout}" for layout in read])
+    parts = answers(count, way, [f"parts {layout}" for layout in layouts])
+    texts = answers(count, way, [f"to-sddl - 1 {layout}" for layout in layouts])
+    read = answers(count, way, [f"sddl {text.encode().hex() or '-'} -" for text in texts])
+    meant = answers(count, way, [f"parts {layout}" for layout in read])
     asked = [(f"bytes {layout}", right) for layout, right in zip(layouts, parts)]
     asked += [(f"text  {text}", right) for text, right in zip(texts, meant)
               if "(" in text and not NOT_READ.search(text)]
@@ -99,26 +104,17 @@ def judge_peer(count, folder, program, chance):
         count.add(one == right or line in refused, f"{line[:600]}: Mono has {one[:600]}, not {right[:600]}")
 
 
-def add_options(parser):
-    parser.add_argument("--count", type=int, default=language_requests.REQUESTS, help="random requests of each call")
-
-
-def main(count: preload.Count, given: preload.Given) -> None:
+def main(count: preload.Count) -> None:
     if not assembly.is_ready("dotnet_requests"):
         return
     with tempfile.TemporaryDirectory() as name:
         folder, chance = pathlib.Path(name), random.Random(2)
-        assembly.laid_out(folder)
-        program = assembly.command(folder, assembly.over_sources(folder, "Requests", "System.Core.dll"))
-        if preload.is_chosen(language_requests.judge_requests):
-            language_requests.judge_requests(count, program, given.count, True)
-        if preload.is_chosen("threads"):
-            language_requests.judge_requests(count, program, 100, True, threads=language_requests.THREADS, seed=2)
+        way = requests_way(folder)
         if preload.is_chosen(language_requests.judge_time):
-            language_requests.judge_time(count, program, {})
+            language_requests.judge_time(count, way)
         if preload.is_chosen(judge_values):
             judge_values(count, folder)
         if preload.is_chosen(judge_places):
-            judge_places(count, program, chance)
+            judge_places(count, way, chance)
         if preload.is_chosen(judge_peer):
-            judge_peer(count, folder, program, chance)
+            judge_peer(count, folder, way, chance)

@@ -1,4 +1,4 @@
-"""Compares edits with their definition, in the reference.
+"""Compares edits with the reference.
 
   rows     a few edits by hand, each rule of an edit once
   random   random descriptors and changes through the library: the answer, the counts, the order, each fault with its
@@ -679,8 +679,9 @@ TABLE = {
 def judge_table(count):
     sdtool = package()
     text = (preload.TOP / "docs/LIBRARY.md").read_text(encoding="utf-8")
-    rows = dict(re.findall(r"^\| `([^`]+)`[^|]*\| (`.*`) \|$", text.partition("\n## Changes\n")[2], re.M))
-    count.add(TABLE.keys() <= rows.keys(), f"docs/LIBRARY.md: the rows {sorted(rows)}")
+    section = text.partition("\n## Changes\n")[2].partition("\n## ")[0]
+    rows = dict(re.findall(r"^\| `([^`]+)`[^|]*\| (`.*`) \|$", section, re.M))
+    count.add(TABLE.keys() == rows.keys(), f"docs/LIBRARY.md: the rows {sorted(rows)}")
     known = {name: getattr(sdtool.Change, name) for name in ("put", "take_each", "set_each", "order", "control")}
     known.update(A=sdtool.AceKind.A, ID=sdtool.AceFlags.ID, PD=sdtool.Control.PD, sid="BU", other="AU",
                  mask=int(sdtool.FileMask.FX), ace=sdtool.Ace.from_sddl("(A;;FR;;;BU)"))

@@ -1,6 +1,6 @@
-"""Runs examples/who_may_write.c, built with the words that pkg-config gives, and examples/who_may_write.py on a folder
-of files that have the attributes of c/share.txt, and on malformed attributes. Both have to print what is expected here.
-The recipe of docs/COOKBOOK.md is run on the same folder without the malformed ones.
+"""Runs examples/who_may_write.c and examples/who_may_write.py. The first is built with the words that pkg-config gives.
+They run on a folder of files that have the attributes of c/share.txt, and on malformed attributes. Both have to print
+what is expected here. The recipe of docs/COOKBOOK.md is run on the same folder without the malformed ones.
 
 The attributes are user.NTACL and user.ntfs_acl, which need no rights; where security.NTACL can be written, that too. Is
 there no file system that keeps them, nothing is run.
@@ -101,8 +101,9 @@ class Programs:
     """The example in both languages."""
 
     def __init__(self, count, folder):
-        self.environment = {**c_install.install(folder / "root"), "PYTHONPATH": str(TOP / "python")}
-        self.environment["SDTOOL_LIBRARY"] = str(folder / f"root{c_install.PREFIX}/lib/libsdtool.so")
+        self.environment = {**c_install.install(preload.copy_tree(folder / "tree"), folder / "root"),
+                            "PYTHONPATH": str(TOP / "python"),
+                            "SDTOOL_LIBRARY": str(folder / f"root{c_install.PREFIX}/lib/libsdtool.so")}
         plain, sanitized = folder / "who_may_write", folder / "sanitized"
         printed, status = self.build(plain)
         count.add(status == 0 and printed == "", f"who_may_write.c: {printed}")

@@ -1,9 +1,10 @@
 """Tests that the library works where it is installed: by `make install`, from the archive of `make dist` and from
-Debian's packages. Each time a program in C and in C++ is built with the words that pkg-config gives, and by CMake,
-linked to the shared and to the static library, and run. Also tested: what `make uninstall` leaves, the library's man
-pages, the names and symbols of the shared library, lintian's opinion of the packages, and the Python module as pip
-installs it. Parts whose tools are missing are skipped.
+Debian's packages. Each time a program in C and in C++ is built with the words that pkg-config gives, by CMake and by
+Meson, linked to the shared and to the static library, and run. Also tested: what `make uninstall` leaves, the library's
+man pages, the names and symbols of the shared library, what abidiff says of changes to it, licences, lintian's opinion
+of the packages, and the Python module as pip installs it. Parts whose tools are missing are skipped.
 """
+import gzip
 import os
 import pathlib
 import re
@@ -50,6 +51,16 @@ endforeach()
 """
 
 
+# The same for Meson: installed, or as a subproject, with the library that its option says.
+MESON = """project('installed', 'c', 'cpp')
+foreach language : ['c', 'cpp']
+    source = configure_file(input: '{source}', output: 'installed.' + language, copy: true)
+    executable(language, source, dependencies: dependency(
+        'sdtool', version: '{version}', static: get_option('default_library') == 'static'))
+endforeach
+"""
+
+
 VERSION = version_of("packaging/control", r"^Version: (.*)$")
 HEADER = (TOP / "include/sdtool.h").read_text(encoding="utf-8")
 # The man pages of the library: one of each function, and one of all else.
@@ -64,10 +75,15 @@ FILES_OF_PACKAGES = {
                        if path.is_file() and path.suffix not in (".c", ".so", ".pyc") and "audit" not in path.parts}
     | {"METADATA"}
     | ({EXTENSION} if not extension.missing(f"linux-{os.uname().machine}") else set()),
-    "sdtool-audit": {"sdtool-audit", "sdtool-audit.1.gz",
+    "sdtool-audit": {"sdtool-audit", "sdtool-audit.1.gz", "sdtool-collect.ps1",
                      *(path.name for path in (TOP / "python/sdtool/audit").rglob("*.py")),
                      *(path.name for path in (TOP / "out").glob("sdtool.html"))},
 }
+# What abidiff has to find: a change of the header, and whether its types change or a name is gone.
+CHANGES = {"uint8_t granted;": "uint16_t granted;", "uint32_t mask, bool label": "uint64_t mask, bool label",
+           "uint8_t resource_manager;": "uint8_t resource_manager, more;", "    size_t length;": "    uint32_t length;",
+           "bool sdtool_next_ace": "uint32_t sdtool_next_ace"}
+ABI_CHANGE = 4  # a bit of the status of abidiff
 EXPECTED = f"{VERSION}\n{LAYOUT} {SDDL}\nerror 20\n"
 
 
@@ -78,16 +94,16 @@ def ran(words, **others):
     return ended.stdout, ended.returncode
 
 
-def make(target, *words):
-    printed, status = ran([os.environ.get("MAKE", "make"), "--no-print-directory", target, *words], cwd=TOP)
+def make(tree, target, *words):
+    printed, status = ran([os.environ.get("MAKE", "make"), "--no-print-directory", target, *words], cwd=tree)
     if status != 0:
         sys.exit(f"make {target}: {printed}\n0 passed, 1 failed")
 
 
-def install(root, prefix=PREFIX):
+def install(tree, root):
     """Installs all below the folder, and gives the environment in which pkg-config finds the library there."""
-    make("install", f"DESTDIR={root}", f"PREFIX={prefix}")
-    return environment(root, pathlib.Path(f"{root}{prefix}", "lib"))
+    make(tree, "install", f"DESTDIR={root}", f"PREFIX={PREFIX}")
+    return environment(root, pathlib.Path(f"{root}{PREFIX}", "lib"))
 
 
 def environment(root, libraries):
@@ -137,6 +153,67 @@ def test_cmake(count, where, folder, tree):
         count.add(answer == (EXPECTED, 0), f"{where}, {name}: printed {answer}")
 
 
+def test_meson(count, where, folder, found, subproject=None):
+    """The same programs, by Meson, which finds the library by pkg-config, or in a subproject."""
+    if not shutil.which("meson"):
+        print(f"skipped: {where}: there is no meson")
+        return
+    name = "subproject" if subproject else "installed"
+    project = folder / f"meson-{name}"
+    project.mkdir()
+    if subproject:
+        shutil.copytree(subproject, project / "subprojects/sdtool", symlinks=True)
+        found = {**found, "PKG_CONFIG_LIBDIR": str(folder), "LD_LIBRARY_PATH": ""}
+    source = MESON.format(version=VERSION, source=TOP / "tests/library/c/installed.c")
+    (project / "meson.build").write_text(source, encoding="utf-8")
+    for kind in ("shared", "static"):
+        built = project / kind
+        words = ["meson", "setup", f"--default-library={kind}", "--wrap-mode=" + (
+            "forcefallback" if subproject else "nofallback"), built, project]
+        for one in (words, ["meson", "compile", "-C", built]):
+            printed, status = ran(one, env=found)
+            count.add(status == 0, f"{where}, {name}: meson: {printed}")
+        needed, _ = ran(["readelf", "-d", built / "c"])
+        count.add(("libsdtool" in needed) == (kind == "shared"), f"{where}, {name}, {kind}: {needed}")
+        for program in ("c", "cpp"):
+            answer = ran([built / program], input=f"{SDDL}\nX:\n", env=found)
+            count.add(answer == (EXPECTED, 0), f"{where}, {name}, {kind} {program}: printed {answer}")
+
+
+def test_abi(count, folder):
+    """abidiff finds changes of types and names, of libraries that are linked as ours is."""
+    if not shutil.which("abidiff"):
+        print("skipped: there is no abidiff")
+        return
+
+    def linked(name, text, symbols):
+        header, described, library = (folder / f"{name}{end}" for end in (".h", ".o", ".so"))
+        header.write_text(text, encoding="utf-8")
+        for words in ([TOP / "packaging/describe.sh", header, described],
+                      [COMPILERS["c"], "-shared", "-Wl,-soname,libsdtool.so.0", f"-Wl,--version-script={symbols}",
+                       "-Wl,--whole-archive", TOP / "out/lib/libsdtool.a", "-Wl,--no-whole-archive", described, "-o",
+                       library]):
+            printed, status = ran(words)
+            count.add((printed, status) == ("", 0), f"abidiff: {words[0]}: {printed}")
+        return library
+
+    symbols = (TOP / "packaging/library.map").read_text(encoding="utf-8")
+    names = folder / "names.map"
+    names.write_text(symbols, encoding="utf-8")
+    ours, same = TOP / "out/lib/libsdtool.so", linked("same", HEADER, names)
+    printed, status = ran(["abidiff", ours, same])
+    count.add(status == 0, f"abidiff of the same header: {printed}")
+    for number, (old, new) in enumerate(CHANGES.items()):
+        changed = HEADER.replace(old, new)
+        count.add(changed != HEADER, f"the header has no {old}")
+        printed, status = ran(["abidiff", ours, linked(f"changed{number}", changed, names)])
+        count.add(status & ABI_CHANGE and re.search(r"[1-9]\d* functions? with", printed),
+                  f"abidiff misses {new}: {printed}")
+    names.write_text(symbols.replace("sdtool_edit;", ""), encoding="utf-8")
+    printed, status = ran(["abidiff", ours, linked("lacking", HEADER, names)])
+    count.add(status & ABI_CHANGE and "1 Removed" in printed, f"abidiff misses that a call is gone: {printed}")
+
+
 def test_names(count, libraries):
     """The names of the shared library, and which library a program asks for."""
     real, soname, plain = (libraries / f"libsdtool.so.{VERSION}", libraries / "libsdtool.so.0",
@@ -153,15 +230,16 @@ def test_names(count, libraries):
 
 
 def test_install(count, folder):
-    root = folder / "root"
-    found = install(root)
+    root, tree = folder / "root", preload.copy_tree(folder / "tree")
+    found = install(tree, root)
     installed = pathlib.Path(f"{root}{PREFIX}")
     test_names(count, installed / "lib")
     test_programs(count, "make install", folder, found)
     test_cmake(count, "make install", folder, installed)
+    test_meson(count, "make install", folder, found)
     test_module(count, folder, found)
     test_pages(count, installed / "share/man/man3")
-    make("uninstall", f"DESTDIR={root}", f"PREFIX={PREFIX}")
+    make(tree, "uninstall", f"DESTDIR={root}", f"PREFIX={PREFIX}")
     left = [path for path in installed.rglob("*") if path.is_symlink() or not path.is_dir() or path.name == "sdtool"]
     count.add(not left, f"make uninstall leaves {left}")
 
@@ -202,7 +280,8 @@ def test_module(count, folder, found):
 
 def test_archive(count, folder):
     """The archive works wherever it is unpacked."""
-    archive = TOP / ran([TOP / "packaging/dist.sh", "linux-x86_64"])[0].splitlines()[-1]
+    tree = preload.copy_tree(folder / "tree")
+    archive = tree / ran([tree / "packaging/dist.sh", "linux-x86_64"])[0].splitlines()[-1]
     shutil.unpack_archive(archive, folder)
     tree = folder / archive.name.replace(".tar.gz", "")
     printed, status = ran(["sha256sum", "--quiet", "-c", "SHA256SUMS"], cwd=tree)
@@ -210,14 +289,16 @@ def test_archive(count, folder):
     found = environment("", tree / "lib")
     test_programs(count, "make dist", folder, found)
     test_cmake(count, "make dist", folder, tree)
+    test_meson(count, "make dist", folder, found, tree)
 
 
 def test_packages(count, folder):
     if not shutil.which("dpkg-deb") or not shutil.which("dpkg-architecture"):
         print("skipped: there is no dpkg-deb or no dpkg-architecture")
         return
-    make("deb")
-    packages = [next((TOP / "out").glob(f"{name}_{VERSION}_*.deb")) for name in FILES_OF_PACKAGES]
+    tree = preload.copy_tree(folder / "tree")
+    make(tree, "deb")
+    packages = [next((tree / "out").glob(f"{name}_{VERSION}_*.deb")) for name in FILES_OF_PACKAGES]
     root = folder / "packages"
     for path, wanted in zip(packages, FILES_OF_PACKAGES.values()):
         printed, status = ran(["dpkg-deb", "-x", path, root])
@@ -235,6 +316,7 @@ def test_packages(count, folder):
     test_programs(count, "make deb", folder, environment(root, libraries))
     test_cmake(count, "make deb", folder, root / "usr")
     test_metadata(count, root, packages)
+    test_licences(count, root)
     if shutil.which("lintian"):
         # It reads each man page, which takes long on a busy machine.
         printed, status = ran(["lintian", "--allow-root", "--fail-on", "error,warning", *packages], timeout=SECONDS)
@@ -253,6 +335,19 @@ def test_metadata(count, root, packages):
     count.add(status == 0 and set(re.findall(r"\bsdtool_\w+(?=\()", HEADER)) <= names, f"libsdtool0: {symbols}")
 
 
+def test_licences(count, root):
+    """Each package has its licence and its changes, and what runs is bound when it is loaded."""
+    for name in FILES_OF_PACKAGES:
+        documents = root / "usr/share/doc" / name
+        text = (documents / "copyright").read_text(encoding="utf-8")
+        count.add("License: Apache-2.0" in text and "License: MIT" in text, f"{name}: {text}")
+        changes = gzip.decompress((documents / "changelog.gz").read_bytes()).decode()
+        count.add(changes.startswith(f"sdtool ({VERSION}) "), f"{name}: {changes[:200]}")
+    for path in (*root.rglob("*.so.?.*"), *root.rglob("*.abi3.so")):
+        dynamic, _ = ran(["readelf", "-d", path])
+        count.add("BIND_NOW" in dynamic, f"{path.name}: {dynamic}")
+
+
 def test_scripts(count):
     """A package or a library for another system is not made where a part of it failed, also in front of a pipe."""
     scripts = [path for folder in ("packaging", "systems") for path in sorted((TOP / folder).glob("*.sh"))]
@@ -267,6 +362,6 @@ def main(count: preload.Count) -> None:
     if not shutil.which("pkg-config"):
         print("skipped: there is no pkg-config")
         return
-    for test in filter(preload.is_chosen, (test_install, test_archive, test_packages)):
+    for test in filter(preload.is_chosen, (test_install, test_archive, test_packages, test_abi)):
         with tempfile.TemporaryDirectory() as name:
             test(count, pathlib.Path(name))

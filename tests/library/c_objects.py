@@ -58,14 +58,14 @@ def blocks(program, lines):
 
 
 class Runners:
-    """The program of objects.c, each way in which it runs, and how many lines it gets there."""
+    """A program of tests/library/c, each way in which it runs, and how many lines it gets there."""
 
-    def __init__(self, count, folder):
+    def __init__(self, count, folder, source="objects"):
         self.count, self.under_valgrind = count, set()
-        plain, said = c_library.built(folder, "objects", "plain", [])
+        plain, said = c_library.built(folder, source, "plain", [])
         count.add(plain is not None, said)
         self.ways = [("plain", [plain], None)] if plain else []
-        checked, _ = c_library.built(folder, "objects", "checked", c_library.SANITIZERS)
+        checked, _ = c_library.built(folder, source, "checked", c_library.SANITIZERS)
         if checked:
             self.ways.append(("sanitized", [checked], 1500))
         else:
@@ -78,14 +78,15 @@ class Runners:
             print("skipped: there is no valgrind")
 
     def test(self, words, lines, expected, seldom=1):
-        """The answers to the lines, each a text that may have several lines. Ways but the first get few of the
-        lines."""
+        """The answers to the lines, each a text that may have several lines, or no answers at all. Ways but the first
+        get few of the lines."""
         for name, runner, most in self.ways:
             if name == "valgrind" and words[0] in self.under_valgrind:
                 continue  # it is slow, so each job runs once under it
             step = 1 if most is None else max(1, len(lines) // (most // seldom or 1))
             ended = c_library.ran([*runner, *words], "".join(line + "\n" for line in lines[::step]))
-            found, wanted = ended.stdout.decode("latin-1"), "".join(answer + "\n" for answer in expected[::step])
+            found = ended.stdout.decode("latin-1")
+            wanted = "".join(answer + "\n" for answer in (expected or ())[::step])
             pairs = zip(found.split("\n"), wanted.split("\n"))
             wrong = next((f"{a!r} in place of {b!r}" for a, b in pairs if a != b), "")
             self.count.add(found == wanted and ended.returncode == 0 and not ended.stderr,

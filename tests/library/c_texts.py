@@ -1,4 +1,4 @@
-"""Compares texts of parts of a descriptor with their definition, in the reference.
+"""Compares texts of parts of a descriptor with the reference.
 
   rows     a few texts by hand, each rule once
   random   GUIDs, rights, flags and ACEs, and what is nearly one: their texts, their bytes, each fault with its number,

@@ -1,10 +1,9 @@
 """Tests the package of go/ against the library.
 
-  tools     gofmt, vet, and Go's tests; without cgo the compiler says in words what is missing
-  requests  random requests of each call, through the package and by ctypes
-  checked   the same where each pointer that goes to C is looked at, and from eight goroutines under the race detector
-  static    the same from a program that is linked statically
-  time      a check takes at most 1.3 times what it takes in C, and an empty call
+  tools    gofmt, vet, and Go's tests; without cgo the compiler says in words what is missing
+  checked  random requests where each pointer that goes to C is looked at, from eight goroutines under the race detector
+  static   the same to a program that is linked statically
+  time     a check takes at most 1.3 times what it takes in C, and an empty call
 
 Without Debian's packages it is skipped.
 """
@@ -33,10 +32,10 @@ class Go:
     def run(self, *words, **others):
         return language_requests.judge_run(self.count, ["go", *words], GO, {**self.surroundings, **others})
 
-    def program(self, name, *words):
+    def way(self, name, *words):
         path = self.folder / name
         self.run("build", "-o", path, *words, "./internal/requests")
-        return path
+        return language_requests.Way([path], False)
 
 
 def judge_tools(go):
@@ -48,11 +47,7 @@ def judge_tools(go):
     go.count.add(status and NEEDS_CGO in said and len(said.splitlines()) == 2, f"without cgo: {said}")
 
 
-def add_options(parser):
-    parser.add_argument("--count", type=int, default=language_requests.REQUESTS, help="random requests of each call")
-
-
-def main(count: preload.Count, arguments: preload.Given) -> None:
+def main(count: preload.Count) -> None:
     missing = language_requests.missing(TOOLS)
     if missing:
         print(f"Go: {missing}")
@@ -61,15 +56,14 @@ def main(count: preload.Count, arguments: preload.Given) -> None:
         go = Go(count, folder)
         if preload.is_chosen(judge_tools):
             judge_tools(go)
-        if preload.is_chosen(language_requests.judge_requests):
-            language_requests.judge_requests(count, go.program("requests"), arguments.count, False)
         if preload.is_chosen("checked"):
-            language_requests.judge_requests(count, go.program("race", "-race"), 100, False, CHECKED,
-                                             language_requests.THREADS, 2)
+            way = go.way("race", "-race")._replace(surroundings=CHECKED, threads=8)
+            language_requests.judge_requests(count, [way], 100, "checked")
         if preload.is_chosen("static"):
-            program = go.program("static", "-ldflags", "-extldflags -static")
-            language_requests.judge_requests(count, program, 100, False, {"LD_LIBRARY_PATH": ""}, seed=3)
-            said, _ = language_requests.ran(["ldd", program], None, {})
+            way = go.way("static", "-ldflags", "-extldflags -static")
+            way = way._replace(surroundings=language_requests.NO_LIBRARY)
+            language_requests.judge_requests(count, [way], 100, "static")
+            said, _ = language_requests.ran(["ldd", *way.words], None, {})
             count.add("not a dynamic executable" in said, f"a static program: {said}")
         if preload.is_chosen(language_requests.judge_time):
-            language_requests.judge_time(count, go.program("requests"), {})
+            language_requests.judge_time(count, go.way("requests"))

@@ -1,17 +1,19 @@
 """Random requests, hostile ones too, with the answers that calls of the library by ctypes give; and what the tests of a
-language share. A program in the language (rust/requests, go/internal/requests) answers the same requests by the values
-of its own interface.
+language share. A program in the language (rust/requests, go/internal/requests, tests/dotnet/cs, tests/library/requests)
+answers the same requests by the values of its own interface.
 """
 import ctypes
-import importlib
+import importlib.util
+import itertools
 import math
 import os
 import pathlib
 import random
 import shutil
+import struct
 import subprocess
-import sys
 import tempfile
+from typing import Any, Callable, Mapping, NamedTuple, Sequence
 
 import c_edits
 import c_library
@@ -19,22 +21,29 @@ import c_objects
 import compare
 import preload
 from reference.editing import BY_ORDER, END, NOT_ASKED, Match
+from reference.parts import LABEL_TYPE
 
-sys.path.insert(0, str(preload.TOP / "python"))
-os.environ.setdefault("SDTOOL_LIBRARY", preload.LIBRARY)
-header = importlib.import_module("sdtool._header")
+# The package itself would open the library, and fail without one.
+of_header = importlib.util.spec_from_file_location("sdtool_header", preload.TOP / "python/sdtool/_header.py")
+header = importlib.util.module_from_spec(of_header)
+of_header.loader.exec_module(header)
 LIBRARIES = pathlib.Path(preload.LIBRARY).parent
 SECONDS = 3000
-REQUESTS = 4_000   # of each call, so that they are 100,000
-AT_ONCE = 2_000    # requests for which descriptors and texts are made anew
-THREADS = 8
+PART_TWICE = 21  # whose place is a second head, which stands in the text of an ACE itself
+NO_LIBRARY = {"LD_LIBRARY_PATH": ""}  # for what is linked statically
 MOST_OF_C = 1.3    # times that a check may take, and an empty call
+# A descriptor and the SID of a token, whose check is timed.
+TIMED = ("01000480140000002400000000000000300000000102000000000005200000002002000001010000000000051200000002001c00"
+         "0100000000001400ff011f00010100000000000100000000", "010100000000000100000000")
 MAPPINGS, KINDS, MOST_SIDS = 3, 2, 1_024
+LEVELS = (4096, 8192, 12288, 16384)
 MANY_CHANGES = (16_384, 16_385)  # as many as there may be, and one more
+MANY_DESCRIPTORS = (1_024, 1_025, 2_048)  # as languages give to one call, and more
 OPTIONS = (header.HAS_LEVEL, header.SECURITY, header.TAKE_OWNERSHIP)
 WORDS = ([], ["convert"], ["explain"], ["convert", "--to", "hex"], ["--help"], ["convert", "--from", "sddl"],
          ["nothing"], ["explain", "--numeric"], ["convert", "--domain", "S-1-5-21-1-2-3"], ["convert", "--to\0hex"],
          ["check", "--sid", "WD", "--maximum"], ["convert", "\u20ac"])
+CONVERSIONS = ("to-sddl", "from-sddl", "normalize")
 NUMBERS = {"put": "put", "take": "take", "replace": "replace", "take each": "take-each", "set each": "set-each"}
 
 
@@ -99,13 +108,13 @@ class Library:
         except Told as told:
             raise Told(told.outcome, self.sddl_place(text, len(text), domain, len(domain))) from None
 
-    def build_of(self, owner, group, sacl, dacl, control, manager):
-        new = header.NewDescriptor(in_c(owner), in_c(group), acl_in_c(sacl), acl_in_c(dacl), control, manager)
+    def build_of(self, sids, acls, control, manager):
+        new = header.NewDescriptor(*map(in_c, sids), *map(acl_in_c, acls), control, manager)
         return self.answer(self.build, new)
 
     def alone(self, ace):
         """The bytes of an ACE, which is refused as one of a DACL if it can't be."""
-        layout = self.build_of(b"", b"", "absent", [ace], 0, 0)
+        layout = self.build_of((b"", b""), ("absent", [ace]), 0, 0)
         acl, found = self.parts(layout, len(layout)).dacl.place, header.Ace()
         data = layout[acl.offset:acl.offset + acl.size]
         self.next_ace(data, len(data), found)
@@ -155,6 +164,15 @@ def verdict_of(verdict):
     return f"{verdict.granted} {verdict.mask}"
 
 
+def labelled(chance):
+    """A descriptor with a label behind other ACEs."""
+    found = c_edits.random_descriptor(chance)
+    label = c_edits.Ace(LABEL_TYPE, chance.choice((0, 0, 3, 8)), chance.choice((1, 2, 4, 7)), None, None,
+                        c_edits.Sid(16, (chance.choice(LEVELS),)))
+    others = found.sacl.aces[:2] if found.sacl else ()
+    return found._replace(sacl=c_edits.Acl((*others, label)), control=found.control | 0x10)
+
+
 class Inputs:
     """Descriptors, texts and SIDs, of which many are nearly right."""
 
@@ -163,9 +181,11 @@ class Inputs:
         self.chance = chance
         self.descriptors = [chance.choice(maker.kinds)().data for _ in range(300)]
         self.descriptors += [c_edits.binary.layout(c_edits.random_descriptor(chance)) for _ in range(300)]
+        self.descriptors += [c_edits.binary.layout(labelled(chance)) for _ in range(150)]
         self.descriptors += [bytes.fromhex(c_library.change_bytes(one.hex(), chance))
                              for one in chance.sample(self.descriptors, 200) if one]
         self.descriptors = [one for one in self.descriptors if len(one) < 3_000] + [b"", bytes(20)]
+        self.small = [one for one in self.descriptors if len(one) < 100]
         self.large = [bytes.fromhex(c_library.TOO_MANY_BYTES), next(iter(compare.large_descriptors()))]
         texts = [maker.sddl_line().decode("latin-1") for _ in range(500)]
         texts += [c_library.change_text(chance.choice(texts), chance) for _ in range(200)]
@@ -224,9 +244,19 @@ class Requests:
     """A method for each job gives the words of a request, and a function that asks the library. The checks of a
     language come in the same order: what is in the words from the left, and then the call."""
 
-    def __init__(self, library, inputs, checks_aces_first):
-        self.library, self.inputs, self.chance = library, inputs, inputs.chance
-        self.checks_aces_first = checks_aces_first  # or each ACE where it is used
+    def __init__(self, chance):
+        self.library, self.inputs, self.chance = Library(), Inputs(chance), chance
+        self.checks_aces_first = False
+
+    def answers(self, job, ask):
+        """What the library says, where each ACE is checked as it is used, and where all are before."""
+        found = []
+        for self.checks_aces_first in (False, True) if job in ("build", "edit") else (False,):
+            try:
+                found.append(ask())
+            except Told as told:
+                found.append(self.library.said(told))
+        return found[0], found[-1]
 
     def version(self):
         library = self.library
@@ -337,7 +367,7 @@ class Requests:
             except Told as told:
                 place = library.sddl_place(b"D:" + text, len(text) + 2, of, len(of))
                 place.place.offset = max(place.place.offset - 2, 0)
-                if place.part == header.DACL:
+                if place.part == header.DACL and place.fault != PART_TWICE:
                     place.part, place.ace = header.NO_PART, header.NO_ACE
                 raise Told(told.outcome, place) from None
             return self.found_ace(found, library.ace_read(found, len(found)))
@@ -397,7 +427,7 @@ class Requests:
             for acl in acls:
                 for ace in () if isinstance(acl, str) else acl:
                     self.judge_ace(ace)
-            return shown(self.library.build_of(*sids, *acls, control, manager))
+            return shown(self.library.build_of(sids, acls, control, manager))
 
         words = [str(control), str(manager), *map(shown, sids), *map(words_of_acl, acls)]
         return " ".join(words), ask
@@ -448,6 +478,8 @@ class Requests:
     def check_many(self):
         words, judge = self.question()
         all_data = [self.inputs.descriptor() for _ in range(self.inputs.one((0, 1, 2, 9)))]
+        if self.inputs.is_once():
+            all_data = self.chance.choices(self.inputs.small, k=self.inputs.one(MANY_DESCRIPTORS))
 
         def ask():
             asked, request = judge()
@@ -463,6 +495,42 @@ class Requests:
             return " | ".join(answers)
 
         return " ".join([words, str(len(all_data)), *map(shown, all_data)]), ask
+
+    def convert_many(self):
+        library, kind, domain = self.library, self.inputs.one(CONVERSIONS), self.inputs.domain()
+        of_text, numeric = kind == "from-sddl", self.flag() if kind == "to-sddl" else 0
+        rows = [self.inputs.text().encode() if of_text else self.inputs.descriptor()
+                for _ in range(self.inputs.one((0, 1, 2, 9)))]
+        data, offsets = b"".join(rows), [0, *itertools.accumulate(map(len, rows))]
+        if self.inputs.is_rare():
+            lies = (len(data) + 1, 0xffff_ffff, 0xffff_ffff_ffff_ffff, self.chance.randrange(len(data) + 1))
+            offsets[self.chance.randrange(len(offsets))] = self.inputs.one(lies)
+
+        def answer(first, last, of):
+            """What the call for a row by itself gives."""
+            if not first <= last <= len(data):
+                raise of_argument(header.ARGUMENT_OFFSETS)
+            row = data[first:last]
+            if of_text:
+                return library.layout_of(row, of)
+            if kind == "normalize":
+                return library.layout(row)
+            try:
+                return library.answer(library.to_sddl, row, len(row), of, len(of), numeric)
+            except Told as told:
+                raise Told(told.outcome, library.place(row, len(row))) from None
+
+        def ask():
+            of, answers = library.sid_or_none(domain), []
+            for first, last in zip(offsets, offsets[1:]):
+                try:
+                    answers.append(shown(answer(first, last, of)))
+                except Told as told:
+                    answers.append(library.said(told))
+            return " | ".join(answers)
+
+        words = [kind] + [str(numeric)] * (kind == "to-sddl")
+        return " ".join([*words, shown(domain), shown(data), struct.pack(f"<{len(offsets)}Q", *offsets).hex()]), ask
 
     def reasons(self):
         words, judge = self.question()
@@ -603,24 +671,21 @@ def words_of_match(match):
 
 
 JOBS = ("version bytes sddl to_sddl explain sid sid_text guid guid_text rights flags rights_text flags_text ace_text"
-        " ace parts build check check_many reasons derive origins edit order run").split()
+        " ace parts build check check_many convert_many reasons derive origins edit order run").split()
 
 
-def made(chance, jobs, count, checks_aces_first):
-    """Requests of each job, and the answers of the library."""
-    library = Library()
-    requests = Requests(library, Inputs(chance), checks_aces_first)
-    lines, answers = [], []
-    for job in jobs:
-        make = getattr(requests, job)
-        for _ in range(count):
-            words, ask = make()
-            lines.append(f"{job.replace('_', '-')} {words}")
-            try:
-                answers.append(ask())
-            except Told as told:
-                answers.append(library.said(told))
-    return lines, answers
+def as_it_is(_, answer):
+    return answer
+
+
+class Way(NamedTuple):
+    """A program that answers requests by the interface of a language, and what it does in its own way."""
+    words: Sequence[Any]
+    checks_aces_first: bool
+    surroundings: Mapping[str, str] = {}
+    threads: int = 1
+    jobs: Sequence[str] = JOBS
+    form: Callable[[str, str], str] = as_it_is
 
 
 def ran(words, folder, surroundings, given=None, **others):
@@ -637,42 +702,56 @@ def judge_run(count, words, folder, surroundings, given=None):
     return said
 
 
-def judge_requests(count, program, number_of_each, checks_aces_first, surroundings=None, threads=1, seed=1):
-    """Each request has the answer of the library."""
-    chance = random.Random(seed)
-    for first in range(0, number_of_each, AT_ONCE):
-        some = min(AT_ONCE, number_of_each - first)
-        lines, right = made(chance, JOBS, some, checks_aces_first)
-        said, status = ran([program, threads], None, surroundings or {}, "".join(line + "\n" for line in lines))
+def judge_requests(count, ways, number, seed):
+    """The same requests of each job, asked in each way, have the answers of the library."""
+    requests, made = Requests(random.Random(seed)), []
+    for job in JOBS:
+        for _ in range(number):
+            words, ask = getattr(requests, job)()
+            made.append((job, f"{job.replace('_', '-')} {words}", requests.answers(job, ask)))
+    for way in ways:
+        asked = [(line, way.form(line, answers[way.checks_aces_first])) for job, line, answers in made
+                 if job in way.jobs]
+        said, status = ran([*way.words, way.threads], None, way.surroundings, "".join(f"{line}\n" for line, _ in asked))
         found = said.split("\n")[:-1]
-        count.add(status == 0 and len(found) == len(right), f"{program}: status {status}, {said[-2000:]}")
-        for line, one, other in zip(lines, found, right):
-            count.add(one == other, f"{line[:600]}: {one[:600]}, not {other[:600]}")
+        count.add(status == 0 and len(found) == len(asked), f"{way.words}: status {status}, {said[-2000:]}")
+        for (line, right), one in zip(asked, found):
+            count.add(one == right, f"{way.words[0]}: {line[:600]}: {one[:600]}, not {right[:600]}")
 
 
-def judge_time(count, program, surroundings):
+def times(words, surroundings):
+    """Nanoseconds of a check and of a call that does nothing, by a program."""
+    return list(map(float, ran([*words, *TIMED], None, surroundings)[0].split()))
+
+
+def program_in_c(folder):
+    """The program that says what both take in C."""
+    program = pathlib.Path(folder, "check_times")
+    subprocess.run([c_library.COMPILER, "-O2", f"-I{preload.TOP / 'include'}",
+                    str(preload.TOP / "tests/library/c/check_times.c"), "-o", str(program), f"-L{LIBRARIES}",
+                    "-lsdtool"], check=True)
+    return [program]
+
+
+def judge_time(count, way):
     """A check takes at most so many times what it takes in C, and an empty call."""
-    given = ("01000480140000002400000000000000300000000102000000000005200000002002000001010000000000051200000002001c00"
-             "0100000000001400ff011f00010100000000000100000000", "010100000000000100000000")
     with tempfile.TemporaryDirectory() as folder:
-        in_c_program = pathlib.Path(folder, "check_times")
-        subprocess.run([c_library.COMPILER, "-O2", f"-I{preload.TOP / 'include'}",
-                        str(preload.TOP / "tests/library/c/check_times.c"), "-o", str(in_c_program), f"-L{LIBRARIES}",
-                        "-lsdtool"], check=True)
+        words = program_in_c(folder)
         check = own = empty = math.inf
         for _ in range(10):  # a machine may be busy
-            (in_c, _), (taken, called) = [map(float, ran([path, *words, *given], None, surroundings)[0].split())
-                                          for path, words in ((in_c_program, []), (program, ["time"]))]
-            check, own, empty = min(check, in_c), min(own, taken), min(empty, called)
+            (taken_in_c, _), (taken, called) = times(words, {}), times([*way.words, "time"], way.surroundings)
+            check, own, empty = min(check, taken_in_c), min(own, taken), min(empty, called)
             if own <= MOST_OF_C * check + empty:
                 break
     said = f"a check takes {own:.0f} ns, in C {check:.0f} ns, and an empty call {empty:.0f} ns"
-    count.add(own <= MOST_OF_C * check + empty, f"{program}: {said}")
+    count.add(own <= MOST_OF_C * check + empty, f"{way.words}: {said}")
     print(said)
 
 
 def missing(tools):
-    """What of commands or files is not there, with the package of Debian that has it."""
+    """What of commands or files is not there, with the package of Debian that has it; or that there is no library."""
+    if not os.path.exists(preload.LIBRARY):
+        return f"skipped, there is no {preload.LIBRARY}"
     for tool, package in tools:
         if not (os.path.exists(tool) if "/" in tool else shutil.which(tool)):
             return f"skipped, there is no {tool} (Debian: {package})"

@@ -1,8 +1,7 @@
 """Tests the crates of rust/ against the library.
 
   tools     Cargo's tests, documents and clippy without a warning, with the feature serde and without
-  requests  random requests of each call, through the crate and by ctypes
-  threads   the same from eight threads that share nothing but the library, and from a program that is linked statically
+  static    random requests to a program that is linked statically, from eight threads
   time      a check takes at most 1.3 times what it takes in C, and an empty call
 
 Without Debian's packages it is skipped.
@@ -17,7 +16,8 @@ import preload
 
 RUST = preload.TOP / "rust"
 REGISTRY = "/usr/share/cargo/registry"
-TOOLS = (("cargo", "cargo"), ("cargo-clippy", "rust-clippy"))
+SERDE = next(map(str, pathlib.Path(REGISTRY).glob("serde-1.*")), f"{REGISTRY}/serde-1")
+TOOLS = (("cargo", "cargo"), ("cargo-clippy", "rust-clippy"), (SERDE, "librust-serde-dev"))
 CONFIG = f"""[source.crates-io]
 replace-with = "debian"
 [source.debian]
@@ -44,9 +44,9 @@ class Cargo:
         return language_requests.judge_run(self.count, ["cargo", name, "--locked", *more], self.folder / "rust",
                                            {**self.surroundings, **others})
 
-    def program(self, **others):
+    def way(self, **others):
         self.run("build", "--release", "--package", "requests", **others)
-        return self.folder / "out/release/requests"
+        return language_requests.Way([self.folder / "out/release/requests"], True)
 
 
 def judge_tools(cargo):
@@ -62,13 +62,8 @@ def judge_tools(cargo):
     cargo.run("doc", "--workspace", "--no-deps", "--features", "sdtool/serde")
 
 
-def add_options(parser):
-    parser.add_argument("--count", type=int, default=language_requests.REQUESTS, help="random requests of each call")
-
-
-def main(count: preload.Count, arguments: preload.Given) -> None:
-    serde = [str(path) for path in pathlib.Path(REGISTRY).glob("serde-1.*")] or [f"{REGISTRY}/serde-1"]
-    missing = language_requests.missing([*TOOLS, (serde[0], "librust-serde-dev")])
+def main(count: preload.Count) -> None:
+    missing = language_requests.missing(TOOLS)
     if missing:
         print(f"Rust: {missing}")
         return
@@ -76,11 +71,8 @@ def main(count: preload.Count, arguments: preload.Given) -> None:
         cargo = Cargo(count, folder)
         if preload.is_chosen(judge_tools):
             judge_tools(cargo)
-        if preload.is_chosen(language_requests.judge_requests):
-            language_requests.judge_requests(count, cargo.program(), arguments.count, True)
         if preload.is_chosen(language_requests.judge_time):
-            language_requests.judge_time(count, cargo.program(), {})
-        if preload.is_chosen("threads"):
-            program = cargo.program(SDTOOL_STATIC="1")
-            language_requests.judge_requests(count, program, 300, True, {"LD_LIBRARY_PATH": ""},
-                                             language_requests.THREADS, 2)
+            language_requests.judge_time(count, cargo.way())
+        if preload.is_chosen("static"):
+            way = cargo.way(SDTOOL_STATIC="1")._replace(surroundings=language_requests.NO_LIBRARY, threads=8)
+            language_requests.judge_requests(count, [way], 300, "static")

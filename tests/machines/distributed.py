@@ -124,13 +124,6 @@ class Place(dask_cluster.Processes):
         (package / "__init__.py").write_text(text)
         return {"PYTHONPATH": str(package.parent)}
 
-    def other_library(self):
-        """A library with another digest, which answers the same."""
-        path = self.folder / "other" / "libsdtool.so"
-        path.parent.mkdir(exist_ok=True)
-        path.write_bytes(self.library.read_bytes() + b"\n")
-        return {"SDTOOL_LIBRARY": str(path)}
-
     def hold(self):
         """From now on, slow workers are slow."""
         (self.folder / "go").unlink(missing_ok=True)
@@ -499,7 +492,7 @@ class ObjectStore:
             (lent / path.name).symlink_to(path)
         url = started_server(place, Server("http://127.0.0.1:%d",
                                            [sys.executable, "-m", "moto.server", "-p"], "sys", ""))
-        self.environment = {"S3_ENDPOINT": url,
+        self.environment = {"FSSPEC_S3_ENDPOINT_URL": url,
                             "PYTHONPATH": f"{place.modules}:{TOP}/tests/machines/object_store:{lent}"}
         self.ask("fs.client.create_bucket(Bucket='bucket')")
 
@@ -811,6 +804,8 @@ def test_interrupted(count, place):
         is_clean = "long first" not in answers_in(out) and "Traceback" not in got.stderr
         count.add(got.status == status and is_clean, f"signal {sent}: {sorted(answers_in(out))}: {got}")
         judge_run(count, place, place.run(out, words, names), out, words, names, f"after signal {sent}")
+        folders = [path for path in (out / "_sdtool").iterdir() if path.name not in ("inputs", "run.json")]
+        count.add(not folders, f"what an earlier run had not finished, after signal {sent}: {folders}")
     # A second run takes the output over, and the first one ends. It has work for minutes, so it is not done before.
     names[0] = place.write("long first", LINE * 10_000)
     out = place.out()
@@ -823,15 +818,18 @@ def test_interrupted(count, place):
 
 
 def test_changing_input(count, place):
-    """An input changes while it is read. The other one is answered."""
-    place.hold()
-    names = [place.write("shrinks", LINE * 400), place.write("stays", LINE * 30)]
-    out = place.out()
-    child = place.start_run(out, ["convert"], names, ["--block", "100"], environment=place.stub("slow"))
-    wait_until(child, lambda: has_parts(out / "_sdtool/inputs/shrinks"), "a part")
-    os.truncate(place.folder / "shrinks", 500)
-    place.go()
-    judge_failed(count, ended(child), out, "shrinks has no answers", ["stays"], "an input that shrinks")
+    """An input changes while it is read, in its size or only in its bytes. The other one is answered."""
+    for name, change in (("shrinks", lambda file: file.truncate(500)),
+                         ("changes", lambda file: file.write(LINE.replace(b"12", b"13", 1) * 400))):
+        place.hold()
+        names = [place.write(name, LINE * 400), place.write("stays", LINE * 30)]
+        out = place.out()
+        child = place.start_run(out, ["convert"], names, ["--block", "100"], environment=place.stub("slow"))
+        wait_until(child, lambda: has_parts(out / f"_sdtool/inputs/{name}"), "a part")
+        with open(place.folder / name, "r+b") as file:
+            change(file)
+        place.go()
+        judge_failed(count, ended(child), out, f"{name} has no answers", ["stays"], f"an input that {name}")
     names = [place.write("cut", LINE * 2 + LINE[:20]), place.write("whole", LINE * 2)]
     out = place.out()
     got = place.run(out, ["convert"], names, ["--block", "1"])

@@ -32,6 +32,7 @@ NOBODY = ["setpriv", "--reuid=65534", "--regid=65534", "--clear-groups"]
 # and one that waits until another has failed.
 HANGS = "if b'SLEEP' in data: open({folder!r} + '/hung', 'w').close(); time.sleep(1000)"
 DIES = "if b'KILL' in data: os.kill(os.getpid(), signal.SIGKILL)"
+DIES_OR_SLEEPS = f"{DIES}\n        time.sleep(0.3)"
 DIES_ONCE = "if b'KILL' in data: open({folder!r} + '/failed', 'w').close(); os.kill(os.getpid(), signal.SIGKILL)"
 REFUSES = "if b'FAIL' in data: open({folder!r} + '/failed', 'w').close(); raise ValueError('this worker fails')"
 WAITS = """number = next(numbers)
@@ -49,11 +50,12 @@ PAUSES = """if not next(numbers):
             from distributed.core import Status
             get_worker().loop.add_callback(setattr, get_worker(), 'status', Status.paused)
             time.sleep(0.3)"""
-# Behind the stub of a worker: it is stopped before it removes a part of an input, where the file `stop` says so.
+# Behind the stub of a worker: it is stopped before a file gets another name, where the file `stop` says so.
 STOPS = """
 replace_before = os.replace
 def replace_or_stop(old, new, **folders):
-    if os.path.basename(old) == 'part-000010' and os.path.exists({folder!r} + '/stop'):
+    names = 'from ' + os.path.basename(old), 'to ' + os.path.basename(new)
+    if os.environ['STOPS'] in names and os.path.exists({folder!r} + '/stop'):
         os.rename({folder!r} + '/stop', {folder!r} + '/stopped')
         os.kill(os.getpid(), signal.SIGSTOP)
     replace_before(old, new, **folders)
@@ -76,13 +78,18 @@ os.replace = replace
 """
 # Behind the stub of a driver: it has looked at the output, and does not own it until `go`.
 LOOKED = """
-right_replace = os.replace
-def replace(old, new, **folders):
-    if os.path.basename(new) == 'run.json':
-        open({folder!r} + '/looked', 'w').close()
-        while not os.path.exists({folder!r} + '/go'): time.sleep(0.02)
-    right_replace(old, new, **folders)
-os.replace = replace
+right_link = os.link
+def link(old, new):
+    open({folder!r} + '/looked', 'w').close()
+    while not os.path.exists({folder!r} + '/go'): time.sleep(0.02)
+    right_link(old, new)
+os.link = link
+"""
+# Behind the stub of a driver: the output is on a file system without hard links.
+WITHOUT_LINKS = """
+def link(old, new):
+    raise PermissionError(1, 'no hard links')
+os.link = link
 """
 # Behind the stub of a driver: when it begins to look, another one does too.
 LOOK_TOGETHER = """
@@ -111,6 +118,17 @@ def pipe_file(fs, path, *arguments):
 type(memory).pipe_file = pipe_file
 status = distributed.main(["--out", "memory://out", "convert", "--", "memory://in/x"])
 print(status, others, [name for name in memory.find("/out") if "_sdtool" not in name])
+"""
+# A worker of a run that has lost the output, though its folder is there.
+LOST = """
+import contextlib, os
+from sdtool.distributed import work
+lost = work.Work("sdtool-1", ["convert"], "", "", "lost", False)
+os.makedirs(lost.mine)
+open("lost/_sdtool/run.json", "w").write('{"run": "another", "words": ["convert"]}')
+with contextlib.suppress(work.Unfit), lost.written(f"{lost.place.root}/x") as file:
+    file.write(b"answers")
+print(os.listdir("lost"), os.listdir(lost.mine))
 """
 # A run that another one takes over while its workers write nothing.
 LOST_IN_MEMORY = """
@@ -152,6 +170,21 @@ def scandir(path="."):
     if "hangs" in str(path): time.sleep(1000)
     return right_scandir(path)
 os.scandir = scandir
+"""
+# A run whose inputs are looked at side by side, some of 1,000 at once, as those of an object store. Most looks hang.
+HANGS_IN_MEMORY = """
+import time
+import fsspec
+from sdtool import distributed
+memory = fsspec.filesystem("memory")
+for name in "a", *(f"hangs{number}" for number in range(1050)):
+    memory.pipe(f"/in/{name}", open("d/a", "rb").read())
+right = type(memory).info
+def info(fs, path, **options):
+    if "hangs" in path: time.sleep(1000)
+    return right(fs, path, **options)
+type(memory).info = info
+print(distributed.main(["--out", "memory://out", "--wait", "10", "convert", "--", "memory://in/*"]))
 """
 # Behind the stub of a driver: it says that it lists the folder `late`, and then waits for `go`.
 LISTS_LATE = """
@@ -246,7 +279,8 @@ def judge(count, place, what, got, out, answered, named=(), status=None, answers
         status = 3 if named else max([0, *(each[1] for each in wanted.values())])
     is_right = (answers == {name: each[0] for name, each in wanted.items()}
                 and "Traceback" not in got.stderr + got.stdout)
-    is_named = all(any(name in line and "has no answers" in line for line in got.stderr.splitlines()) for name in named)
+    problems = [line for line in got.stderr.splitlines() if "has no answers" in line]
+    is_named = len(problems) == len(named) and all(any(name in line for line in problems) for name in named)
     is_told = all(f"{place.folder}/{file}" in got.stdout for file in answered.values())
     count.add(is_right and is_named and is_told and got.status == status,
               f"{what}: answers {sorted(answers)}, {sorted(answered)} are wanted, named {list(named)}, status "
@@ -290,9 +324,10 @@ def test_files_that_go(count, place):
         out = place.out()
         got = place.run(out, ["convert"], given)
         answers = {name: data for name, data in runs.answers_in(out).items() if "comes and goes" not in name}
-        named = [line for line in got.stderr.splitlines() if "has no answers" in line and "comes and goes" not in line]
-        judge(count, place, f"files that go, {given}", got, out, right, status=got.status, answers=answers)
-        count.add(got.status in (0, 3) and not named, f"files that go, {given}: {named}: {got}")
+        said = "".join(line for line in got.stderr.splitlines(True) if "comes and goes" not in line)
+        judge(count, place, f"files that go, {given}", got._replace(stderr=said), out, right, status=got.status,
+              answers=answers)
+        count.add(got.status in (0, 3), f"files that go, {given}: {got}")
     for other in others:
         end(other)
 
@@ -518,24 +553,50 @@ def test_files_of_others(count, place):
               ["d/sub/x"], answers=answers)
 
 
+def stopped_run(place, out, at, options):
+    """Begins a run whose one worker is stopped there, and ends the driver. Gives what lets the worker go on."""
+    address, workers = place.cluster({**place.behind("stops", STOPS), "STOPS": at})
+    (place.folder / "stop").touch()
+    child = place.start_run(out, ["convert"], ["x"], ["--scheduler", address, *options])
+    wait_until(child, (place.folder / "stopped").exists, "a worker that is stopped")
+    is_stopped = child.poll() is None
+    end(child)
+    (place.folder / "stopped").unlink()
+
+    def go_on():
+        os.kill(workers[0].pid, signal.SIGCONT)
+        time.sleep(3)
+        return is_stopped
+    return go_on
+
+
 def test_stopped_in_tidy(count, place):
     """A worker that is stopped while it removes parts, and goes on behind a later run, removes none of that run."""
     place.write("x", LINE * 190)
-    address, workers = place.cluster(place.behind("stops in tidy", STOPS))
     out, whole = place.out(), place.wanted(["convert"], "x")[0]
     place.run(out, ["convert"], ["x"], ["--parts"])
-    (place.folder / "stop").touch()
-    child = place.start_run(out, ["convert"], ["x"], ["--parts", "--block", "4000", "--scheduler", address])
-    wait_until(child, (place.folder / "stopped").exists, "a worker that is stopped")
-    count.add(child.poll() is None, "the run ended before its worker was stopped")
-    end(child)
+    go_on = stopped_run(place, out, "from part-000010", ["--parts", "--block", "4000"])
     got = place.run(out, ["convert"], ["x"], ["--parts"])
-    os.kill(workers[0].pid, signal.SIGCONT)
-    time.sleep(3)
-    answers = runs.answers_in(out)
+    is_stopped, answers = go_on(), runs.answers_in(out)
     joined = b"".join(answers[name] for name in sorted(answers))
-    count.add(got.status == 0 and joined == whole and len(answers) == 13,
+    count.add(is_stopped and got.status == 0 and joined == whole and len(answers) == 13,
               f"a worker that was stopped: {sorted(answers)} {got}")
+
+
+def test_stopped_before_write(count, place):
+    """A worker that is stopped before its file has its name, and goes on behind a later run, changes no file of it."""
+    for at, options in ("x", []), ("_sdtool.json", []), ("part-000003", []), ("part-000003", ["--parts"]):
+        place.write("x", LINE * 100)
+        out = place.out()
+        go_on = stopped_run(place, out, f"to {at}", options)
+        place.write("x", b"zz\n" * 2000)
+        got = place.run(out, ["convert"], ["x"], options)
+        before = {path: path.read_bytes() for path in out.rglob("*") if path.is_file()}
+        is_stopped, answers = go_on(), runs.answers_in(out)
+        after = {path: path.read_bytes() for path in out.rglob("*") if path.is_file()}
+        joined = b"".join(answers[name] for name in sorted(answers))
+        count.add(is_stopped and got.status == 1 and before == after and joined == place.wanted(["convert"], "x")[0],
+                  f"a worker that was stopped before {at} {options}: {sorted(after.keys() ^ before.keys())} {got}")
 
 
 def test_two_at_once(count, place):
@@ -554,6 +615,8 @@ def test_two_at_once(count, place):
         count.add([got.status for got in ends] == [3, 0] and joined == place.wanted(["convert"], "x")[0],
                   f"two at once, {options}: {sorted(answers)}: {ends[0]} and {ends[1]}")
         count.add("another run has taken it over" in ends[0].stderr, f"the first of two at once, {options}: {ends[0]}")
+    got = runs.ended(place.start([place.python, "-c", LOST], stdout=subprocess.PIPE, stderr=subprocess.PIPE))
+    count.add(got.stdout == "['_sdtool'] []\n", f"what a worker writes when its run has lost the output: {got}")
     got = runs.ended(place.start([place.python, "-c", LOST_IN_MEMORY], stdout=subprocess.PIPE, stderr=subprocess.PIPE))
     is_right = "[3]" in got.stdout and "another run has taken it over" in got.stderr
     count.add(is_right, f"a run that another one takes over while it writes nothing: {got}")
@@ -563,6 +626,7 @@ def test_other_words_at_once(count, place):
     """Of two drivers with other words that begin at once, one is refused, wherever the other one is held."""
     place.tree({"x": LINE * 20, "y": LINE * 20})
     looked, together = place.behind("has looked", LOOKED), place.behind("look together", LOOK_TOGETHER)
+    without = place.behind("without links", LOOK_TOGETHER + WITHOUT_LINKS)
     wanted = {"convert": {"x": place.wanted(["convert"], "x")[0]}, "explain": {"y": place.wanted(["explain"], "y")[0]}}
     place.hold()
     out = place.out()
@@ -573,13 +637,19 @@ def test_other_words_at_once(count, place):
     second = runs.ended(late)
     count.add((first.status, second.status) == (0, 3) and "has answers of 'sdtool convert'" in second.stderr
               and runs.answers_in(out) == wanted["convert"], f"other words, one is held: {first} and {second}")
-    out = place.out()
-    both = [place.start_run(out, [command], [name], (), {**together, "LATER": later})
-            for command, name, later in (("convert", "x", "0"), ("explain", "y", "1"))]
-    ends = [runs.ended(child) for child in both]
-    right = wanted["convert" if ends[0].status == 0 else "explain"]
-    count.add(sorted(got.status for got in ends) == [0, 3] and runs.answers_in(out) == right,
-              f"other words, both look at once: {sorted(runs.answers_in(out))}: {ends[0]} and {ends[1]}")
+    for what, environment, right in (("", together, ([0, 3], [3, 0])),
+                                     (", without hard links", without, ([0, 3], [3, 0], [3, 3]))):
+        for file in place.folder.glob("looks*"):
+            file.unlink()
+        out = place.out()
+        both = [place.start_run(out, [command], [name], (), {**environment, "LATER": later})
+                for command, name, later in (("convert", "x", "0"), ("explain", "y", "1"))]
+        ends = [runs.ended(child) for child in both]
+        answers = {}
+        for got, command in zip(ends, wanted):
+            answers.update(wanted[command] if got.status == 0 else {})
+        count.add([got.status for got in ends] in right and runs.answers_in(out) == answers,
+                  f"other words, both look at once{what}: {sorted(runs.answers_in(out))}: {ends[0]} and {ends[1]}")
     got = runs.ended(place.start([place.python, "-c", LOOKED_IN_MEMORY], stdout=subprocess.PIPE,
                                  stderr=subprocess.PIPE))
     count.add("0 [3] ['/out/x']" in got.stdout and "a run with other words begins there" in got.stderr,
@@ -803,12 +873,12 @@ from sdtool.distributed.work import Given
 def seconds(blocks):
     given = Given(None, "/x", None, "/out/x", "/out/x", {"size": blocks, "ino": 1})
     wanted = argparse.Namespace(block=1, retries=0, wait=60, slowest=1)
-    work = argparse.Namespace(is_parts=True, write_record=lambda *record: None)
+    work = argparse.Namespace(is_parts=True)
     made, methods = Engine(work, [given], wanted, print), []
     made.begin(made.jobs[0])
     began = time.process_time()
-    while made.fresh:
-        task = made.fresh.popleft()
+    while made.waiting:
+        task = made.waiting.popleft()
         methods.append(task.method)
         made.finished(task, {"start": 0, "end": 1, "bytes": 1})
     assert methods == ["answer"] * blocks + ["compare"] * blocks + ["finish"], methods[-5:]
@@ -838,7 +908,7 @@ def test_killed_worker(count, place):
 # Who may still do a task of which one worker has said that it failed, without a cluster: so it is the same each time.
 HOPES = """
 import argparse, time
-from sdtool.distributed.engine import Engine, Sent, Task, Worker
+from sdtool.distributed.engine import Engine, Sent, Task
 from sdtool.distributed.work import Given
 
 def engine(retries, **others):
@@ -847,33 +917,38 @@ def engine(retries, **others):
     given.__class__.url = "x"
     made = Engine(None, [given], argparse.Namespace(block=9, retries=retries, wait=60, slowest=1), lambda line: None)
     made.unbegun = iter(())
-    made.workers = {"one": Worker("one"), **{name: Worker(name, **has) for name, has in others.items()}}
+    made.workers = {name: {"status": "running", "nthreads": 1, **told} for name, told in {"one": {}, **others}.items()}
+    made.require_ownership = lambda: None
     return made, Task(made.jobs[0], "answer_whole", (), 1)
 
 def is_open(made):
     return made.jobs[0].came is None
 
-def failed(made, task, name="one"):
-    made.take_outcome(task, name, "failed", "it failed")
+def came(made, task, name, what, value):
+    made.take_outcomes(Sent(None, [task]), name, [(what, value)])
     return is_open(made)
 
+def failed(made, task, name="one"):
+    return came(made, task, name, "failed", "it failed")
+
 def hung(made, task, name="one"):
-    made.take_outcome(task, name, "hung", 30)
-    return is_open(made)
+    return came(made, task, name, "hung", 30)
 
 def killed(made, *tasks):
     made.suspect(Sent(None, list(tasks)))
     return is_open(made)
 
-LEFT_OUT = {"unfit_at": time.monotonic(), "delay": 30}
+left_out, silent = engine(0, two={}), engine(0, two={})
+left_out[0].leave_out("two", "it is no good")
+silent[0].stuck.add("two")
 time.sleep(0.01)
 told = {
     "nobody else": failed(*engine(0)),
     "nobody else, a retry": failed(*engine(1)),
     "a fit one": failed(*engine(0, two={})),
-    "one that was left out before": failed(*engine(0, two=LEFT_OUT)),
+    "one that was left out before": failed(*left_out),
     "one that is paused": failed(*engine(0, two={"status": "paused"})),
-    "one that is silent": failed(*engine(0, two={"is_stuck": True})),
+    "one that is silent": failed(*silent),
 }
 made, task = engine(0, two={})
 failed(made, task)
@@ -897,18 +972,18 @@ made.jobs[0].turn = 1
 told["a task of an earlier turn that fails"] = failed(made, task)
 told["a task of an earlier turn whose workers died"] = killed(made, task)
 made, task = engine(0)
-made.later = [Task(made.jobs[0], "answer", (), 1, turn=-1) for _ in range(5000)] + [task]
+made.waiting.extend([*(Task(made.jobs[0], "answer", (), 1, turn=-1) for _ in range(5000)), task])
 told["a task behind many that ended"] = made.next_tasks() == [task]
 made, task = engine(0, two={})
-made.take_outcome(task, "two", "done", {"lines": 1})
+came(made, task, "two", "done", {"lines": 1})
 for what in "failed", "done", "unfit", "anew", "hung":
-    made.work, made.require_ownership = None, lambda: None
-    made.take_outcome(task, "one", what, 30)
+    came(made, task, "one", what, 30)
 killed(made, task)
-told["what comes of a task that was done"] = (made.jobs[0].came, made.later, made.left) == ({"lines": 1}, [], 0)
+told["what comes of a task that was done"] = made.jobs[0].came == {"lines": 1} and not (
+    made.later or made.waiting or made.suspects or made.left)
 made, task = engine(3, two={})
 new, beside = (Task(made.jobs[0], "answer_whole", (), 1) for _ in "12")
-made.fresh.append(new)
+made.waiting.append(new)
 killed(made, task, beside)
 ones = [made.next_tasks() for _ in "12"]
 made.sent["one"] = Sent(None, [task])
@@ -961,26 +1036,44 @@ def test_hanging(count, place):
 
 
 def test_long_packed(count, place):
-    """A line tells of a compressed input that takes long, though it may have hours before it counts as hung."""
+    """A line tells of a compressed input that takes long, though it may have hours before it counts as hung. As long as
+    its worker tells of it, the run waits, and no other worker gets it."""
     (place.folder / "x.gz").write_bytes(gzip.compress(SLEEPS + LINE * 20))
     address, _ = place.cluster(place.patched("hangs at packed", HANGS))
-    child = place.start_run(place.out(), ["convert"], ["x.gz"], ["--scheduler", address])
+    child = place.start_run(place.out(), ["convert"], ["x.gz"], ["--scheduler", address, "--wait", "40"])
     wait_for(lambda: child.poll() is not None or "has had all of" in said_by(child), 240, "a line of a packed input")
-    count.add(child.poll() is None and "x.gz" in said_by(child), f"a packed input that hangs: {said_by(child)}")
+    said = said_by(child)
+    count.add(child.poll() is None and "x.gz" in said and "others get them" not in said,
+              f"a packed input that hangs: {said}")
     end(child)
 
 
 def test_deadly_input(count, place):
-    """An input that kills its workers, which start again, costs no other one, and is named."""
-    dies = place.patched("dies of it", DIES)
-    place.tree({"d/deadly": LINE * 5 + KILLS, **{f"d/{number}": LINE * (number + 1) for number in range(30)}})
+    """An input that kills its workers, which start again, costs no other one, and is named. The others wait behind it
+    at the same workers, so that Dask gives some of them up with it."""
+    dies = place.patched("dies of it", DIES_OR_SLEEPS)
+    others = [f"other{number}" for number in range(30)]
+    place.tree({"d/deadly": LINE * 5 + KILLS, **{f"d/{name}": LINE * (1 + at) for at, name in enumerate(others)}})
     _, address = place.start_scheduler()
     for _ in range(3):
         place.start_nanny(address, dies)
     place.wait_for_workers(address, 3)
     out = place.out()
     got = place.run(out, ["convert"], ["d"], ["--scheduler", address, "--retries", "0", "--block", "500"])
-    judge(count, place, "a deadly input", got, out, {str(number): f"d/{number}" for number in range(30)}, ["d/deadly"])
+    judge(count, place, "a deadly input", got, out, {name: f"d/{name}" for name in others}, ["d/deadly"])
+    count.add("worker after worker died that had all of" in got.stderr, f"a deadly input was tried alone: {got}")
+
+
+def test_bound(count, place):
+    """What one worker has failed at goes to the other one, and back if that one dies."""
+    place.write("x", LINE * 100)
+    address, workers = place.cluster(place.patched("fails once", FAILS_ONCE), place.patched("holds", HOLDS))
+    place.hold()
+    out, log = place.out(), place.folder / "fails once.log"
+    child = place.start_run(out, ["convert"], ["x"], ["--scheduler", address, "--wait", "60"])
+    wait_until(child, lambda: log.exists() and len(log.read_text().split()) > 3, "most blocks")
+    end(workers[1])
+    judge(count, place, "a worker that dies with what another one failed at", runs.ended(child), out, {"x": "x"})
 
 
 def test_touched(count, place):
@@ -1119,14 +1212,43 @@ def test_adaptive(count, place):
     count.add(most.split() == [b"3"] and "left out" not in got.stderr, f"an adaptive cluster has had {most}: {got}")
 
 
+BAR = "sdtool.distributed: [###                 ] 0 of 2 inputs, 2 of 12 blocks, 0.0 MB/s, workers: 2\n"
+
+
+def test_bar(count, place):
+    """Each ten seconds a line says what is done of all."""
+    place.tree({"x": LINE * 80, "y": LINE * 80})
+    waits = place.patched("waits for a bar", WAITS)
+    address, _ = place.cluster(waits, waits)
+    place.hold()
+    out = place.out()
+    child = place.start_run(out, ["convert"], ["x", "y"], ["--scheduler", address])
+    wait_until(child, lambda: said_by(child).count(BAR) > 1, "two bars")
+    keys = place.asked(address, "print(*(key for keys in client.processing().values() for key in keys), sep='\\n')")
+    names = [key.partition(" ")[2] for key in keys.splitlines() if key.startswith("convert-sdtool-")]
+    right = [f"block {number} of file://{place.folder}/{name}" for name in "xy" for number in range(6)]
+    count.add(len(names) > 1 and set(names) <= set(right), f"names of the tasks that workers have: {names}")
+    place.go()
+    got = runs.ended(child)
+    judge(count, place, "a run that takes long", got, out, {"x": "x", "y": "y"})
+    count.add(got.stderr.count(BAR) > 1, f"a bar each ten seconds: {got}")
+
+
 def test_hanging_calls(count, place):
     """The driver's calls of file systems hang: what hangs is named, and all else is answered."""
-    place.tree({"d/a": LINE * 3, "d/hangs/b": LINE, "d/c/b": LINE * 2, "out1/_sdtool/inputs/x": b""})
+    folders = [f"d/hangs{number}" for number in range(4)]
+    place.tree({"d/a": LINE * 3, **{f"{folder}/b": LINE for folder in folders}, "d/c/b": LINE * 2,
+                "out1/_sdtool/inputs/x": b""})
     hangs = place.behind("hangs in ls", HANGS_IN_LS)
     out = place.out()
-    got = place.run(out, ["convert"], ["d"], ["--wait", "20"], hangs)
-    judge(count, place, "a folder that hangs", got, out, {"a": "d/a", "c/b": "d/c/b"}, ["d/hangs"])
-    count.add("the listing of" in got.stderr, f"a folder that hangs: {got}")
+    got = place.run(out, ["convert"], ["d"], ["--wait", "10"], hangs)
+    judge(count, place, "folders that hang", got, out, {"a": "d/a", "c/b": "d/c/b"}, folders)
+    count.add(got.stderr.count("the listing of") == 4 and got.stderr.count("was not tried, since 3 such calls") == 1,
+              f"folders that hang: {got}")
+    got = runs.ended(place.start([place.python, "-c", HANGS_IN_MEMORY], stdout=subprocess.PIPE, stderr=subprocess.PIPE))
+    hung, others = (got.stderr.count(what) for what in ("has taken more than 10 seconds", "was not tried, since 3"))
+    is_right = got.stdout.endswith("\n3\n") and "/in/a\n" in got.stdout and hung + others == 1050 and hung < 40
+    count.add(is_right, f"looks side by side that hang: {hung} do and {others} are not tried: {got}")
     out = place.folder / "hangs"
     got = place.run(out, ["convert"], ["d/a"], ["--wait", "5"], hangs)
     count.add(got.status == 3 and f"--out: {out}" in got.stderr and "d/a has no answers" in got.stderr,
@@ -1240,18 +1362,24 @@ print(status, fsspec.filesystem("memory").cat_file("/o[1]*/x"))
     got = runs.ended(place.start([place.python, "-c", code], stdout=subprocess.PIPE, stderr=subprocess.PIPE))
     wanted = f"0 {place.wanted(['convert'], 'x')[0]}"
     count.add(wanted in got.stdout, f"--out with a bracket in memory: {got}")
+    code = ("import os\nfrom sdtool import distributed\ndel os.O_PATH\n"
+            "print(distributed.main(['--out', 'mac', 'convert', '--', 'x']))")
+    got = runs.ended(place.start([place.python, "-c", code], stdout=subprocess.PIPE, stderr=subprocess.PIPE))
+    count.add(got.stdout == "2\n" and "need Linux" in got.stderr and not (place.folder / "mac").exists(),
+              f"another system: {got}")
 
 
 GROUPS = {
     "inputs": (test_no_inputs, test_files_that_go, test_without_versions, test_closed_folders, test_names_of_runs,
                test_packed, test_words),
-    "others": (test_parts, test_files_of_others, test_stopped_in_tidy, test_two_at_once, test_other_words_at_once,
-               test_another_meanwhile, test_link_that_comes, test_file_that_comes, test_records, test_touched),
+    "others": (test_parts, test_files_of_others, test_stopped_in_tidy, test_stopped_before_write, test_two_at_once,
+               test_other_words_at_once, test_another_meanwhile, test_link_that_comes, test_file_that_comes,
+               test_records, test_touched),
     "workers": (test_other_modules, test_newer_module, test_failing_worker, test_failed_read, test_retired,
                 test_scheduler_of_dask, test_killed_worker, test_hopes, test_many_parts, test_file_limit,
-                test_deadly_input, test_restart, test_adaptive),
+                test_deadly_input, test_bound, test_restart, test_adaptive),
     "lost": (test_hanging, test_hanging_calls, test_long_packed, test_gone_output),
-    "waiting": (test_waiting, test_paused, test_paused_with_task),
+    "waiting": (test_waiting, test_paused, test_paused_with_task, test_bar),
 }
 
 

@@ -1,6 +1,6 @@
 """Tests distributed runs of many tasks and inputs: the scheduler stays awake, the driver small, and fifty machines
 busy. These are simulated: threads that sleep while a store would answer. tests/machines/distributed.py says what it
-needs. `tests/run distributed_scale --only test_tasks --tasks 20000` takes minutes on a machine that is not busy.
+needs.
 """
 import os
 import pathlib
@@ -14,15 +14,15 @@ import preload
 
 LINE = runs.LINE
 STORE = pathlib.Path(__file__).resolve().with_name("simulated_store")
-TASKS = 1000  # in the test of all: a busy machine does so many in minutes
-FILES = 1500
+TASKS, FILES = 1000, 1500
+EMPTY_TASKS, MOST_SILENT = 20_000, 2  # seconds
 # Objects of 100 MB in blocks of 64 MB, of which a connection to the store takes 50 MB a second. Here a byte is a
 # thousand. 100,000 of them are 10 TB, and of these the test answers some.
 OBJECTS, SOME, BYTES, BLOCK, SPEED = 100_000, 1000, 100_000, 64_000, 50_000
 MACHINES, THREADS, PROCESSES = 50, 4, 4
 MOST_MEGABYTES = 400
 # The scheduler looks ten times a second how long it has worked since, by processor time, which other programs do not
-# take.
+# take. Meanwhile it answers nobody.
 WATCH = """
 def watch(dask_scheduler):
     import asyncio, time
@@ -35,6 +35,22 @@ def watch(dask_scheduler):
     dask_scheduler.looking = asyncio.ensure_future(look())
 client.run_on_scheduler(watch)
 """
+# A run of tasks that take no time. Each byte of the input is a block, and a worker answers without a look at it.
+EMPTY = """
+import argparse, sys
+from distributed import Client, get_worker
+from fsspec.implementations.local import LocalFileSystem
+from sdtool.distributed import engine, work
+address, out, size = sys.argv[1], sys.argv[2], int(sys.argv[3])
+given = work.Given(LocalFileSystem(), "/empty", None, out + "/empty", out, {"size": size, "ino": 1}, True)
+wanted = argparse.Namespace(block=1, retries=0, wait=600, slowest=1)
+made = engine.Engine(work.Work("sdtool-1", ["convert"], "", "", out, False), [given], wanted, print)
+done = "done", {"lines": 1, "errors": 0, "bytes": 1}
+made.do = lambda count, *given: (get_worker().address, [done] * count)
+made.run(Client(address, set_as_default=False))
+assert made.jobs[0].came == done[1]
+print(made.blocks_done)
+"""
 # What a driver has in memory when it has taken all inputs and each has its counts.
 DRIVER = """
 import argparse, resource
@@ -46,14 +62,10 @@ wanted = argparse.Namespace(block=64_000_000, retries=0, wait=60, slowest=1)
 made = engine.Engine(work.Work("sdtool-1", ["convert"], "", "", "s3://out", False), taking.inputs, wanted, print)
 for job in made.jobs:
     made.begin(job)
-    made.finished(made.fresh.popleft(), {"lines": 1, "errors": 0, "bytes": 5})
+    made.finished(made.waiting.popleft(), {"lines": 1, "errors": 0, "bytes": 5})
 assert not made.left
 print(len(made.jobs), resource.getrusage(resource.RUSAGE_SELF).ru_maxrss // 1024)
 """
-
-
-class Place(runs.Place):
-    tasks = TASKS
 
 
 def processor_seconds(child):
@@ -69,26 +81,39 @@ def start_worker(place, address, threads, environment=None):
 
 def test_tasks(count, place):
     """Many tasks, each of one line, and many small files."""
-    place.write("tasks", LINE * place.tasks)
+    place.write("tasks", LINE * TASKS)
     for number in range(FILES):
         place.write(f"files/{number}", LINE * 16)
     _, address = place.start_scheduler()
     for _ in range(2):
         start_worker(place, address, 8)
     place.wait_for_workers(address, 2)
-    place.asked(address, WATCH)
     for given, block, made in ("tasks", str(len(LINE)), 1), ("files", "64000000", FILES):
         out = place.out()
         began = runs.time.monotonic()
         got = place.run(out, ["convert"], [given], ["--scheduler", address, "--block", block])
-        print(f"{made if made > 1 else place.tasks:,} {given}: {runs.time.monotonic() - began:.0f} s")
+        print(f"{made if made > 1 else TASKS:,} {given}: {runs.time.monotonic() - began:.0f} s")
         files = {"tasks": "tasks"} if made == 1 else {str(number): f"files/{number}" for number in range(0, FILES, 100)}
         answers = runs.answers_in(out)
         is_right = all(answers[name] == place.wanted(["convert"], file)[0] for name, file in files.items())
         count.add(got.status == 0 and len(answers) == made and is_right, f"many {given}: {got}")
-    worst = float(place.asked(address, "print(client.run_on_scheduler(lambda dask_scheduler: dask_scheduler.worst))"))
-    print(f"the scheduler worked for at most {worst:.2f} seconds without a look at anything else")
-    count.add(0 < worst < 2, f"the scheduler worked for {worst} seconds without a look at anything else")
+
+
+def test_silence(count, place):
+    """So many tasks of Dask: the scheduler looks at other things too."""
+    _, address = place.start_scheduler()
+    for _ in range(2):
+        start_worker(place, address, 2)
+    place.wait_for_workers(address, 2)
+    place.asked(address, WATCH)
+    began = runs.time.monotonic()
+    got = runs.ended(place.start([place.python, "-c", EMPTY, address, place.out(), str(EMPTY_TASKS)],
+                                 stdout=subprocess.PIPE, stderr=subprocess.PIPE))
+    silent = float(place.asked(address, "print(client.run_on_scheduler(lambda dask_scheduler: dask_scheduler.worst))"))
+    print(f"{EMPTY_TASKS:,} empty tasks: {runs.time.monotonic() - began:.0f} s, and the scheduler was silent for at "
+          f"most {silent:.2f} s")
+    count.add(got.stdout.split()[-1:] == [str(EMPTY_TASKS)], f"many tasks: {got}")
+    count.add(0 < silent < MOST_SILENT, f"the scheduler was silent for {silent} seconds")
 
 
 def simulated(place, name, objects, length, seconds=0.02):
@@ -145,10 +170,6 @@ def test_machines(count, place):
                   f"every {ideal / tasks:.4f}")
 
 
-def add_options(words):
-    words.add_argument("--tasks", type=int, default=TASKS, metavar="N", help="of one input (%(default)s)")
-
-
 def main(count: preload.Count, wanted: preload.Given) -> None:
     with tempfile.TemporaryDirectory(ignore_cleanup_errors=True) as folder:
         python = dask_cluster.python_with_dask(folder)
@@ -156,10 +177,9 @@ def main(count: preload.Count, wanted: preload.Given) -> None:
             print("skipped: no Python here has dask, distributed and fsspec "
                   "(Debian: python3-dask, python3-distributed, python3-fsspec)")
             return
-        for test in test_tasks, test_driver, test_machines:
+        for test in test_tasks, test_silence, test_driver, test_machines:
             if preload.is_chosen(test):
-                place = Place(pathlib.Path(folder, test.__name__), python, wanted.program, preload.LIBRARY)
-                place.tasks = wanted.tasks
+                place = runs.Place(pathlib.Path(folder, test.__name__), python, wanted.program, preload.LIBRARY)
                 try:
                     runs.timed(test.__name__, test, count, place)
                 finally:

@@ -560,6 +560,51 @@ async function contrast(...given) {
     return found;
 }
 
+// Controls that are lower or narrower than 24 pixels, each with its label.
+function smallControls() {
+    const sides = (one) => one.getBoundingClientRect();
+    return each("a[href], button, input, select, textarea, summary, tr[tabindex]")
+        .filter((one) => one.checkVisibility({visibilityProperty: true}) && !one.matches(".skip, .unseen-field"))
+        .filter((one) => {
+            const all = [one, ...one.labels ?? []].map(sides);
+            const size = (from, to) =>
+                Math.max(...all.map((box) => box[to])) - Math.min(...all.map((box) => box[from]));
+            return Math.min(size("left", "right"), size("top", "bottom")) < 23.9;
+        })
+        .map((one) => `${one.tagName} ${one.id}.${one.className} ${sides(one).width} x ${sides(one).height}`);
+}
+
+// Texts that are cut: what is beyond the place that it stands in, or beyond the window without a way to scroll there.
+function cutTexts() {
+    // What a screen reader alone sees is cut to nothing.
+    const isSeen = (one) => !one || (getComputedStyle(one).clipPath === "none" && isSeen(one.parentElement));
+    const isShown = (one) => one.checkVisibility({visibilityProperty: true}) &&
+        !one.closest(".skip, select, textarea, script, style, noscript") && isSeen(one);
+    const nameOf = (one) => `${one.tagName} ${one.id}.${one.className}: ${one.textContent.slice(0, 40)}`;
+    const isBeyond = ({left, right, width}, from, to) => width > 1 && (left < from - 1 || right > to + 1);
+    const found = each("body *")
+                      .filter((one) => isShown(one) && getComputedStyle(one).overflowX !== "visible" &&
+                              !one.matches(".scroll, input") && one.scrollWidth > one.clientWidth + 1)
+                      .map((one) => `scrolls: ${nameOf(one)}`);
+    for (const element of each("body *")) {
+        const texts = Array.from(element.childNodes).filter((node) => node.nodeType === 3 && node.data.trim());
+        if (!texts.length || !isShown(element)) continue;
+        let block = element;
+        while (getComputedStyle(block).display === "inline") block = block.parentElement;
+        const box = block.getBoundingClientRect();
+        const isScrolled = Boolean(block.closest(".scroll"));
+        const range = document.createRange();
+        const rects = texts.flatMap((text) => {
+            range.selectNodeContents(text);
+            return [...range.getClientRects()];
+        });
+        if (block.clientWidth > 0 && block.scrollWidth > block.clientWidth + 1) found.push(`wide: ${nameOf(block)}`);
+        else if (rects.some((rect) => isBeyond(rect, box.left, box.right))) found.push(`overruns: ${nameOf(element)}`);
+        else if (!isScrolled && rects.some((rect) => isBeyond(rect, 0, innerWidth))) found.push(nameOf(element));
+    }
+    return found;
+}
+
 async function namesAndLabels(...given) {
     const nameless = each("input, select, textarea")
                          .filter((one) => one.offsetParent !== null && !one.labels?.length && !one.ariaLabel &&
@@ -702,6 +747,76 @@ async function stopWorker(...given) {
     const got = await ended(began);
     Object.assign(window.Worker.prototype, {postMessage, terminate});
     return {...got, isHidden, ended: endedCount, look: byId("view-look").textContent.slice(0, 300)};
+}
+
+// What the buttons copy of a text while its question of one name is under way, once that was stopped, and once it was
+// answered after all: each a list of [what is copied, what is said].
+async function copiedMeanwhile(...given) {
+    const [view, name, text] = given;
+    const {postMessage} = window.Worker.prototype;
+    byId(`tab-${view}`).click();
+    await see(text.older);
+    let isAsked = false;
+    window.Worker.prototype.postMessage = function(message) {
+        isAsked ||= message.name === name;
+        if (message.name !== name) postMessage.call(this, message);
+    };
+    let copy = null;
+    Object.defineProperty(
+        navigator.clipboard, "writeText", {configurable: true, value: async (one) => { copy = one; }});
+    const all = async () => {
+        const found = {};
+        const buttons = each("#share button", (one) => one.id.slice("share-".length));
+        for (const what of buttons.filter((name) => !["another", "print"].includes(name))) {
+            copy = null;
+            byId("copied").replaceChildren();
+            byId(`share-${what}`).click();
+            await until(() => byId("copied").textContent !== "");
+            found[what] = [copy, byId("copied").textContent];
+        }
+        return {copied: found, chips: byId("chips").textContent, kind: byId("kind").value};
+    };
+    put("text", text.newer);
+    await until(() => isAsked);
+    const meanwhile = await all();
+    const wasIdle = isIdle();
+    await until(isIdle);
+    const stopped = await all();
+    window.Worker.prototype.postMessage = postMessage;
+    await see(`${text.newer} `);
+    return {meanwhile, wasIdle, stopped, answered: await all()};
+}
+
+// What is said of a copy that the browser makes only after the text was replaced.
+async function copiedLate(...given) {
+    const [older, newer] = given;
+    await see(older);
+    /** @type {(value?: unknown) => void} */
+    let end = null;
+    const writeText = () => new Promise((resolve) => { end = resolve; });
+    Object.defineProperty(navigator.clipboard, "writeText", {configurable: true, value: writeText});
+    byId("share-text").click();
+    await see(newer);
+    end();
+    await pause(20);
+    return byId("copied").textContent;
+}
+
+// Puts a text whose question of one name is never answered, and gives all that a place shows until it says a word.
+async function silentAbout(...given) {
+    const [name, text, place, word] = given;
+    const {postMessage} = window.Worker.prototype;
+    window.Worker.prototype.postMessage = function(message) {
+        if (message.name !== name) postMessage.call(this, message);
+    };
+    const shown = [];
+    const watcher = new window.MutationObserver(() => shown.push(byId(place).textContent));
+    watcher.observe(byId(place), {childList: true, subtree: true});
+    put("text", text);
+    await until(() => shown.at(-1)?.includes(word), 60);
+    watcher.disconnect();
+    window.Worker.prototype.postMessage = postMessage;
+    return shown;
 }
 
 // A worker that breaks when it gets a question.

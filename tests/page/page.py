@@ -9,9 +9,8 @@ ten minutes. It needs chromium, chromium-driver and python3-selenium for Chromiu
 browser that is not there is skipped in a line.
 """
 import concurrent.futures
-import importlib.util
-import os
 import pathlib
+import sys
 import time
 import traceback
 
@@ -24,8 +23,9 @@ import page_report
 import page_safety
 import page_size
 import page_texts
+import page_verdicts
 import preload
-from page_driver import DEBIAN_PYTHON, TOP, Page, Site, each_view
+from page_driver import TOP, Page, Site, each_view
 
 
 def test_file(count, page, given):
@@ -66,6 +66,8 @@ def make_pictures(page, given):
     for width, theme, name in ((1280, "light", ""), (1280, "dark", "-dark"), (390, "light", "-phone")):
         page.browser.size(width, 900)
         for view in each_view(page):
+            if view == "edit":
+                page.do("byId('edit-take').click(); await until(isIdle); await pause(500);")
             page.do(
                 "byId('more-options').open = false; document.documentElement.dataset.theme = given[0]; "
                 "scrollTo(0, 0); await pause(100);",
@@ -88,8 +90,12 @@ TESTS = [
     page_answers.test_inherit,
     page_answers.test_long_inherit,
     page_answers.test_compare,
+    page_verdicts.test_verdicts,
     page_edits.test_edit_by_keys,
     page_edits.test_take,
+    page_edits.test_edit_quick,
+    page_edits.test_edit_states,
+    page_edits.test_edit_fields,
     page_edits.test_edit_faults,
     page_edits.test_edit_shown,
     page_edits.test_random_edits,
@@ -114,6 +120,8 @@ TESTS = [
     page_limits.test_hostile_fields,
     page_limits.test_large_comparison,
     page_limits.test_stopped,
+    page_limits.test_several_stopped,
+    page_limits.test_copies_without_answer,
     page_limits.test_broken,
     page_limits.test_working,
     page_limits.test_many_rows,
@@ -188,8 +196,7 @@ def chosen_browsers(name):
 
 def start_again():
     """Debian's Python sees Debian's selenium; another one may not."""
-    if importlib.util.find_spec("selenium") is None and os.path.exists(DEBIAN_PYTHON):
-        preload.go_on_in(DEBIAN_PYTHON)
+    preload.go_on_in(preload.python_with("selenium") or sys.executable)
 
 
 def add_options(parser):

@@ -376,6 +376,12 @@ def test_compare(count, page, given):
     count.add(["S-1-5-32-545", 0, 0] in got["rights"], f"whose rights to a property differ: {got['rights']}")
     shown = page.do("return byId('compare-result').textContent;")
     count.add("ACEs that children inherit differ" in shown, f"what is inherited differs: {shown[:300]}")
+    # What differs for the object as a whole isn't told again for a property.
+    of_property = "(OA;;WP;bf9679c0-0de6-11d0-a285-00aa003049e2;;BU)"
+    for one, other, gained, lost in (("", "(A;;RP;;;BU)", 0x10, 0), ("(A;;RP;;;BU)", "", 0, 0x10)):
+        got = page.call("compare", f"O:BAD:{one}{of_property}", f"O:BAD:{other}{of_property}")
+        found = got["rights"], page.texts("#compare-result li[data-object]")
+        count.add(found == ([["S-1-5-32-545", gained, lost]], []), f"rights that differ as a whole: {found}")
     page.do("put('kind', 'folder');")
     got = page.call("compare", "D:", "D:(A;;FA;;;Everyone)")
     count.add("error 25" in got["verdict"], f"a second descriptor that is refused: {got['verdict'][:200]}")

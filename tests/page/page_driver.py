@@ -5,7 +5,6 @@ import subprocess
 import threading
 import time
 
-DEBIAN_PYTHON = "/usr/bin/python3"  # which sees Debian's packages
 TOP = pathlib.Path(__file__).resolve().parents[2]
 SECONDS = 1200
 MOST_TURN = 200  # milliseconds of one turn of the page with a million lines, on an idle machine

@@ -10,7 +10,7 @@ import subprocess
 
 from page_descriptors import GUIDS, SIDS
 from page_driver import HOSTILE, KINDS, SECONDS, TOP, line_of, run
-from page_people import PASTE, PROJECTS
+from page_people import LONG, PASTE, PROJECTS
 from reference import Ace, Sid, layout, read
 from reference.editing import Change, Match, Setting, edit, first_out_of_order
 
@@ -374,7 +374,8 @@ def test_edit_by_keys(count, page, _):
     count.add(got["focus"] == "edit-sid", f"Enter leads to {got['focus']}")
     got = press(page, "Control+a", *"everyone", "Enter")
     text = ALL.replace("(D;;LC;;;BU)", "(D;;LC;;;WD)")
-    count.add([got["sddl"], got["focus"]] == [text, "edit-sid"], f"another trustee: {got}")
+    is_one = got["aces"] == ["changed", "same", "same", "same", "same"]
+    count.add([got["sddl"], got["focus"], is_one] == [text, "edit-sid", True], f"another trustee: {got}")
     # A field of a text has an undo of its own.
     got = press(page, "x", "Control+z")
     count.add(got["sddl"] == text, f"Ctrl+Z in a field: {got}")
@@ -399,7 +400,7 @@ def test_take(count, page, _):
     Undone, the text is that before all steps."""
     page.open()
     page.do(PASTE, PROJECTS)
-    got = page.do(f"byId('take').click(); {SHOWN}")
+    got = page.do(f"byId('take').click(); byId('take').click(); {SHOWN}")
     count.add([got["verdict"], got["sentence"]] == ["fine", f"After the change: {ONLY}"], f"one press: {got}")
     told = page.do("return byId('edit-list').textContent;")
     count.add("ACEs 2, 3, 4 were inherited" in told and "change them in D:\\Data" in told,
@@ -411,11 +412,133 @@ def test_take(count, page, _):
                      "const all = []; for (const id of ['edit-copy', 'edit-copy-old']) { byId(id).click(); "
                      "await until(() => text !== null); all.push(text); text = null; } return all;")
     count.add(copied == [OWN.replace("(A;OICI;0x1301bf;;;AU)", ""), ALL], f"copied: {copied}")
+    # What is pressed twice takes no other ACE, here and in the first view.
+    got = page.do(f"byId('edit-undo').click(); await until(isIdle); byId('edit-take').click(); "
+                  f"byId('edit-take').click(); {SHOWN}")
+    count.add(got["why"].endswith(" 1 step.") and got["verdict"] == "fine", f"pressed twice: {got}")
+    got = page.do(f"byId('tab-look').click(); byId('take').click(); {SHOWN}")
+    count.add(got["why"].endswith(" 1 step.") and got["verdict"] == "fine", f"pressed again: {got}")
+    # On a phone the focus leaves the verdict in view.
+    page.browser.size(390, 844)
+    page.open()
+    page.do(PASTE, PROJECTS)
+    for name in ("take", "edit-take"):
+        got = page.do(f"byId('{name}').focus(); byId('{name}').click(); {SHOWN}")
+        seen = page.do("await pause(500); const box = byId('edit-sentence').getBoundingClientRect(); "
+                       "return box.top >= 0 && box.bottom <= innerHeight && byId('edit-sentence').checkVisibility();")
+        count.add(seen and got["focus"] == "edit-dacl-3", f"after {name} on a phone: {seen}, {got['focus']}")
+        page.do("byId('edit-undo').click(); await until(isIdle);")
+    page.browser.size(1280, 900)
+    page.open()
+    page.do(f"{PASTE} byId('take').click(); await until(isIdle);", PROJECTS)
     # Another text begins anew, and the same one has its steps still.
     got = page.do(f"byId('tab-look').click(); byId('tab-edit').click(); {SHOWN}")
     count.add(got["why"].endswith("1 step."), f"after another view: {got}")
     got = page.do(f"pasteOver('O:BAD:(A;;FA;;;BU)'); byId('tab-edit').click(); {SHOWN}")
     count.add([got["sddl"], got["why"]] == ["O:BAD:(A;;FA;;;BU)", "Nothing is changed yet."], f"another text: {got}")
+
+
+PRESS = ("const press = (number, key, altKey = false, ctrlKey = false) => byId(`edit-dacl-${number}`).dispatchEvent("
+         "new window.KeyboardEvent('keydown', {key, altKey, ctrlKey, bubbles: true, cancelable: true})); "
+         "const remove = () => first('#edit-dacl-1 .jump').click(); ")
+ADMINISTRATORS, USERS, OTHERS = "(A;;FA;;;BA)", "(A;;FR;;;BU)", "(A;;FR;;;AU)"
+# What is pressed in one turn of the page, before the first answer comes, and the ACEs after it.
+QUICK = [
+    ("press(1, 'Delete'); press(1, 'Delete');", [USERS, OTHERS]),
+    ("remove(); remove();", [USERS, OTHERS]),
+    ("press(1, 'ArrowDown', true); press(1, 'ArrowDown', true);", [USERS, ADMINISTRATORS, OTHERS]),
+    ("byId('edit-dacl-2').click(); take('edit-sid', 'Everyone'); take('edit-rights', 'FX');",
+     [ADMINISTRATORS, "(A;;FX;;;WD)", OTHERS]),
+    ("byId('edit-dacl-2').click(); take('edit-rights', 'FX'); take('edit-rights', '0x120116');",
+     [ADMINISTRATORS, "(A;;FW;;;BU)", OTHERS]),
+    ("press(1, 'Delete', false, true); press(3, 'Delete');", [ADMINISTRATORS, USERS]),
+    ("byId('edit-dacl-2').click(); take('edit-sid', 'Everyone'); press(1, 'Delete');", ["(A;;FR;;;WD)", OTHERS]),
+    ("byId('edit-dacl-2').click(); press(1, 'Delete'); take('edit-sid', 'Everyone');", [USERS, OTHERS]),
+    ("byId('edit-dacl-1').click(); take('edit-sid', 'Everyone'); byId('edit-down').click();",
+     [USERS, "(A;;FA;;;WD)", OTHERS]),
+]
+
+
+def test_edit_quick(count, page, _):
+    """What is pressed faster than the answers come is done to the ACE that is shown, or not at all. The fields of an
+    ACE go where it goes."""
+    page.open()
+    page.do("put('kind', 'folder'); byId('tab-edit').click();")
+    for number, (script, aces) in enumerate(QUICK):
+        text = f"O:BA{'G:SY' * (number % 2)}D:{ADMINISTRATORS}{USERS}{OTHERS}"
+        got = page.do(f"{PRESS} await see(given[0]); {script} {SHOWN}", text)
+        count.add(got["sddl"] == text.partition("(")[0] + "".join(aces), f"{script}: {got}")
+    got = page.do("return [first('tr.ace.chosen').id, first('tr.panel').previousSibling.id];")
+    count.add(got == ["edit-dacl-2"] * 2, f"the fields of an ACE that has moved: {got}")
+    # What is typed and is no step yet stays when an answer comes.
+    got = page.do("take('edit-rights', 'FX'); byId('edit-sid').focus(); byId('edit-sid').value = 'Eve'; "
+                  "await until(isIdle); await pause(20); return [byId('edit-sid').value, document.activeElement.id];")
+    count.add(got == ["Eve", "edit-sid"], f"what was typed when an answer came: {got}")
+
+
+# Steps, and the rows of the table after them: what became of each ACE, and what it was. An ACE is known by where it
+# comes from, whatever else became of it.
+STATES = [
+    (f"D:{ADMINISTRATORS}{USERS}{OTHERS}", ["byId('edit-dacl-1').click(); take('edit-sid', 'Everyone');"],
+     [["changed", "was Administrators"], ["same", ""], ["same", ""]]),
+    (f"D:{ADMINISTRATORS}{USERS}{OTHERS}", ["byId('edit-dacl-1').click(); take('edit-sid', 'Everyone');",
+                                            "byId('edit-down').click();"],
+     [["same", ""], ["changed", "was Administrators"], ["same", ""]]),
+    (f"D:{ADMINISTRATORS}(D;;FW;;;BU)", ["byId('edit-dacl-1').click(); take('edit-sid', 'Everyone');",
+                                         "byId('edit-sort').click();"],
+     [["same", ""], ["changed", "was Administrators"]]),
+    ("D:AI(A;ID;FA;;;SY)(A;;FR;;;BU)", ["byId('edit-dacl-2').click(); take('edit-sid', 'Everyone');",
+                                        "byId('edit-drop').click();"],
+     [["removed", ""], ["changed", "was Users"]]),
+    (f"D:{USERS}{ADMINISTRATORS}", ["byId('edit-dacl-1').click(); byId('edit-down').click();"],
+     [["same", ""], ["moved", "was 1"]]),
+]
+
+
+def test_edit_states(count, page, _):
+    """The table tells what became of each ACE, also of one that was changed and then moved, sorted or kept."""
+    page.open()
+    page.do("put('kind', 'folder'); byId('tab-edit').click();")
+    for number, (text, steps, wanted) in enumerate(STATES):
+        page.do("await see(given[0]);", f"O:BA{'G:SY' * (number % 2)}{text}")
+        for step in steps:
+            page.do(f"{step} {SHOWN}")
+        got = page.do("return each('table.edit tr.compared', (row) => [row.dataset.state ?? 'removed', "
+                      "/was .*/.exec(row.querySelector('.change')?.textContent)?.[0] ?? '']);")
+        count.add(got == wanted, f"{text} after {steps}: {got}, not {wanted}")
+    told = page.do("await see('O:BAD:AI(A;ID;FA;;;SY)(A;;FR;;;BU)'); byId('edit-drop').click(); await until(isIdle); "
+                   "return byId('edit-list').textContent;")
+    count.add("keeps them as its own" not in told, f"what was dropped is kept: {told[:500]}")
+
+
+# Fields, and the SDDL after a change of each.
+FIELDS = [
+    ("folder", "D:(A;OICINP;FR;;;BU)", "byId('edit-dacl-1').click(); take('edit-where', '');", "D:(A;;FR;;;BU)"),
+    ("folder", "D:(A;OICI;FR;;;BU)", "byId('edit-dacl-1').click(); byId('edit-NP').click();", "D:(A;OICINP;FR;;;BU)"),
+    ("folder", "D:(A;;FX;;;BU)", "byId('edit-dacl-1').click(); byId('edit-right-128').click();",
+     "D:(A;;0x120020;;;BU)"),
+    ("ds", "D:(A;CI;RP;;;BU)", "byId('edit-dacl-1').click(); take('edit-inherited', 'user');",
+     "D:(OA;CI;RP;;bf967aba-0de6-11d0-a285-00aa003049e2;BU)"),
+    ("ds", "D:(OD;;RP;bf9679c0-0de6-11d0-a285-00aa003049e2;;BU)", "byId('edit-dacl-1').click(); "
+     "take('edit-object', '');", "D:(D;;RP;;;BU)"),
+    ("folder", "D:S:AI(AU;SAID;FA;;;WD)", "byId('edit-sacl-keep').click();", "D:S:PAI(AU;SA;FA;;;WD)"),
+    ("folder", "D:S:AI(AU;SAID;FA;;;WD)", "byId('edit-sacl-drop').click();", "D:S:PAI"),
+    ("folder", "D:(A;;FA;;;BA)(D;;FW;;;BU)S:AI(AU;SAID;FA;;;WD)(AU;SA;FA;;;WD)", "byId('edit-sort').click();",
+     "D:(D;;FW;;;BU)(A;;FA;;;BA)S:AI(AU;SA;FA;;;WD)(AU;SAID;FA;;;WD)"),
+]
+
+
+def test_edit_fields(count, page, given):
+    """Each field and button changes what it names, and nothing else."""
+    page.open()
+    page.view("edit")
+    for number, (kind, text, script, wanted) in enumerate(FIELDS):
+        page.do("put('kind', given[0]);", kind)
+        front = f"O:BA{'G:SY' * (number % 2)}"
+        got = page.do(f"await see(given[0]); {script} {SHOWN}", front + text)
+        hexes = [line_of(given.program, ["convert", "--from", "sddl", "--to", "hex"], one)
+                 for one in (front + wanted, got["sddl"])]
+        count.add(hexes[0] == hexes[1], f"{kind} {text}, {script}: {got['sddl']}, not {wanted}, {got['fault']}")
 
 
 def test_edit_faults(count, page, _):
@@ -453,16 +576,13 @@ def test_edit_faults(count, page, _):
     count.add(got["sddl"] == "O:BAD:(A;OICI;FR;;;WD)", f"what was typed before: {got}")
 
 
-LONG = "\u05e9\u05dc\u05d5\u05dd \u0645\u0631\u062d\u0628\u0627 " * 20 + "x" * 200
-
-
 def test_edit_shown(count, page, _):
     """Long, hostile and right-to-left names, at 320 pixels, in both themes: nothing is cut, faint or without a name."""
     sid = "S-1-5-21-1-2-3-1001"
     page.open()
     page.do("put('names', given[0]); put('kind', 'folder'); byId('tab-edit').click(); await see(given[1]);",
             f"{sid} {LONG}\nS-1-5-32-545 {HOSTILE}",
-            f"{LONG} O:{sid}D:AI(A;OICIID;FA;;;{sid})(A;;FR;;;BU)(AU;SA;FA;;;WD)")
+            f"{LONG} O:{sid}D:AI(A;OICIID;FA;;;{sid})(A;;FR;;;BU)(A;;FA;;;WD)(AU;SA;FA;;;WD)")
     try:
         for width in (320, 1280):
             page.browser.size(width, 800)
@@ -476,11 +596,8 @@ def test_edit_shown(count, page, _):
                     faint, names = page.call("contrast"), page.call("namesAndLabels")
                     count.add(not faint, f"{act}, {theme}: too little contrast: {faint[:5]}")
                     count.add(not any(names.values()), f"{act}: {names}")
-                    small = page.do("return each('#view-edit button, #view-edit select, #view-edit input', (one) => "
-                                    "[one.id, one.getBoundingClientRect()]).filter(([, {width, height}]) => height > 0 "
-                                    "&& (width < 24 || height < 24)).map(([id]) => id);")
-                    count.add(not [one for one in small if not one.startswith(("edit-right-", "edit-NP", "edit-SA"))],
-                              f"{act}: too small: {small}")
+                    small = page.call("smallControls")
+                    count.add(not small, f"{act} at {width} pixels: {len(small)} controls are too small: {small[:8]}")
     finally:
         page.browser.size(1280, 900)
     count.add(page.do("return window.wasHit ?? null;") is None, "a name became markup")

@@ -19,6 +19,7 @@ import preload
 SCRIPT = str(pathlib.Path(__file__).resolve().parent / "web/growth.mjs")
 MOST_FOR_EACH = 2.3  # twice the instructions are linear, four times are quadratic
 DOUBLINGS = 2
+TRIES = 5  # of what has to be refused
 TOGETHER = 8  # constructs that are counted at once
 JOBS = len(os.sched_getaffinity(0))  # side by side
 
@@ -45,8 +46,16 @@ def time_library(count, readers, slow):
         print("skipped: the readers of the library, which make wasm builds")
         return
     chosen = [reader for reader in (*readers, *slow) if preload.is_chosen(reader)]
+
+    def timed(reader):
+        # What else the machine does may hide one that is slow, and makes none slow four times in a row.
+        for _ in range(TRIES if reader in slow else 1):
+            if found := told("--time", reader):
+                break
+        return found
+
     with concurrent.futures.ThreadPoolExecutor(JOBS) as pool:
-        for reader, found in zip(chosen, pool.map(lambda reader: told("--time", reader), chosen)):
+        for reader, found in zip(chosen, pool.map(timed, chosen)):
             count.add(bool(found) == (reader in slow), f"{reader}: {found[:5]} microseconds")
 
 

@@ -1,6 +1,7 @@
 """Tests of the page: hostile texts, questions that are stopped, answers that are older than the text, and what a link
 sets.
 """
+import math
 import random
 import urllib.parse
 
@@ -138,6 +139,15 @@ def test_large_comparison(count, page, given):
     count.add(got["seconds"] <= limit and not got["isOlder"], f"a large comparison: {got}")
     count.add("The two differ." in shown and ("Whose rights differ" in shown), f"a large comparison: {shown[:300]}")
     print(f"{page.browser.name}: a comparison of two DACLs with {len(SIDS)} ACEs takes {got['seconds']:.2f} s")
+    # Of too many trustees some are left, but no broad group, and how many is said.
+    left = [f"D:{''.join(f'(A;;{right};;;S-1-5-32-{at})' for at in range(2500))}(A;;{right};;;WD)"
+            for right in ("FR", "FA")]
+    got = page.do("put('kind', 'folder'); await see(given[0]); put('other-text', given[1]); await until(isIdle); "
+                  "return [first('#compare-result li[data-sid]').dataset.sid, byId('compare-result').textContent];",
+                  *left)
+    count.add(got[0] == "S-1-5-32-0" and "trustees of 2,501" in got[1] and "S-1-1-0" in page.do(
+        "const more = () => first('#compare-result .differences ~ .more button'); while (more()) more().click(); "
+        "return each('#compare-result li[data-sid]', (one) => one.dataset.sid);"), f"what is left: {got[1][:400]}")
 
 
 def test_stopped(count, page, given):
@@ -157,6 +167,57 @@ def test_stopped(count, page, given):
         got = page.call("stopWorker", "O:SYD:(A;;FA;;;BA)")
         shown = page.do("return byId(`${given[0]}-result`).textContent;", view)
         count.add(TOO_SLOW in shown, f"a stopped question of {view}: {shown[:200]}")
+
+
+def test_several_stopped(count, page, _):
+    """Where not all of several descriptors are told, the first line and the answers of Ask say so, and never what is so
+    of one alone."""
+    page.open(is_limited=True)
+    texts = "C:\\Fine\nO:BAD:(A;;FA;;;BA)\nC:\\Open\nO:BAD:(A;;FA;;;WD)\n"
+    shown = page.call("silentAbout", "many", texts, "sentence", TOO_SLOW)
+    is_said = all("Working" in one or TOO_SLOW in one for one in shown)
+    count.add(is_said, f"several that are not all told: {shown}")
+    got = page.do("await until(isIdle); put('chosen', '1'); await until(isIdle); "
+                  "return [byId('first').dataset.verdict, byId('sentence').textContent];")
+    count.add(got[0] == "unknown" and TOO_SLOW in got[1], f"one of several that are not all told: {got}")
+    page.do("byId('tab-ask').click(); put('ask-token', 'BA'); await until(isIdle);")
+    shown = page.call("silentAbout", "askMany", texts + "\n", "ask-all", TOO_SLOW)
+    count.add(not any("Fine" in one for one in shown), f"answers to several that are not all told: {shown}")
+
+
+OLDER, NEWER = "O:BAD:(A;;FA;;;WD)", "O:SYG:SYD:(A;;KR;;;BU)S:(AU;SA;KR;;;BU)"
+COMMANDS = {"look": "explain", "ask": "check", "inherit": "derive", "compare": "convert", "edit": "explain"}
+
+
+def test_copies_without_answer(count, page, _):
+    """While a text or a question about it has no answer, or where it was stopped, nothing is copied for another one:
+    this is said. A link and the text are those of the field. So it is in each view."""
+    for view, name in (*((view, "look") for view in COMMANDS), *((view, view) for view in COMMANDS if view != "look")):
+        page.open(is_limited=True)
+        page.do("put('kind', 'key'); put('other-text', 'D:');")
+        got = page.call("copiedMeanwhile", view, name, {"older": OLDER, "newer": NEWER})
+        for when in ("meanwhile", "stopped", "answered"):
+            one, what = got[when]["copied"], f"{view}, {name} {when}: {got[when]}"
+            is_told = when == "answered" or name != "look"
+            count.add(one["text"][0].strip() == NEWER, f"the text of {what}")
+            copied = urllib.parse.parse_qs(urllib.parse.urlsplit(one["link"][0]).fragment)["d"]
+            count.add(copied[0].strip() == NEWER, f"the link of {what}")
+            said = [TOO_SLOW] if when == "stopped" else [WORKING, *([TOO_SLOW] if got["wasIdle"] else [])]
+            count.add(len(one) == 4, f"what is copied of {what}")
+            for button in one.keys() - {"text", "link"}:
+                is_copied = when == "answered" if button == "command" else is_told
+                copy, words = one[button]
+                count.add((copy is not None) == is_copied and (is_copied or any(word in words for word in said)),
+                          f"the {button} of {what}")
+            count.add(OLDER not in str(one) and "Everyone has" not in str(one), f"an older answer in {what}")
+            if when == "answered":
+                is_so = f"'{NEWER}'" in one["command"][0] and f"| sdtool {COMMANDS[view]} " in one["command"][0]
+                count.add(is_so, f"the command of {what}")
+            elif name == "look" and when == "stopped":
+                count.add([got[when]["chips"], got[when]["kind"]] == ["", "key"], f"beside no answer: {what}")
+    page.open()
+    said = page.call("copiedLate", OLDER, NEWER)
+    count.add(said == "", f"beside a newer text is said: {said}")
 
 
 def test_broken(count, page, _):
@@ -263,17 +324,21 @@ def test_many_rows(count, page, _):
     """Of many trustees, a key, the pointer and a jump take time in proportion: for four times as many at most eight
     times as long."""
     page.open()
-    least = []
-    for rows in (ROWS // 4, ROWS):
-        # Each has other rights, or they would be one row.
-        masks = [0x100002 | (number & 1) | (number & 0x7e) << 1 | (number >> 7 & 1) << 8 | (number >> 8) << 16
-                 for number in range(rows)]
-        page.see("D:" + "".join(f"(A;;0x{mask:x};;;S-1-5-21-1-2-3-{1000 + at})" for at, mask in enumerate(masks)))
-        shown, is_second, tied, last, found, *times = page.do(MEASURE_ROWS)
-        count.add((shown, is_second, found) == (rows, True, f"dacl-{int(last.rpartition('-')[2]) - 999}") and tied > 0,
-                  f"{rows} rows: {shown}, {is_second}, {last}, {found}, {tied} tied")
-        least.append(times)
-    for what, few, many in zip(("a key", "the pointer", "a jump"), *least):
+    least = {ROWS // 4: [math.inf] * 3, ROWS: [math.inf] * 3}
+    for _ in range(3):  # what else runs may delay one
+        for rows, before in least.items():
+            # Each has other rights, or they would be one row.
+            masks = [0x100002 | (number & 1) | (number & 0x7e) << 1 | (number >> 7 & 1) << 8 | (number >> 8) << 16
+                     for number in range(rows)]
+            page.see("D:" + "".join(f"(A;;0x{mask:x};;;S-1-5-21-1-2-3-{1000 + at})" for at, mask in enumerate(masks)))
+            shown, is_second, tied, last, found, *times = page.do(MEASURE_ROWS)
+            ace = f"dacl-{int(last.rpartition('-')[2]) - 999}"
+            count.add((shown, is_second, found) == (rows, True, ace) and tied > 0,
+                      f"{rows} rows: {shown}, {is_second}, {last}, {found}, {tied} tied")
+            least[rows] = list(map(min, before, times))
+        if all(many <= 8 * max(few, 10) for few, many in zip(*least.values())):
+            break
+    for what, few, many in zip(("a key", "the pointer", "a jump"), *least.values()):
         count.add(many <= 8 * max(few, 10), f"{what} with {ROWS // 4} and {ROWS} rows: {few}, {many} milliseconds")
 
 
@@ -329,11 +394,11 @@ def test_long_fields_are_told(count, page, _):
 
 
 def test_long_copies(count, page, given):
-    """A link or a command is copied whole, however long it is, and doesn't stop the page. A long one is shown if asked
-    for."""
+    """A link, a command or a text is copied whole, however long it is, and doesn't stop the page. A long one is shown
+    if asked for."""
     limit = busy(given) * MOST_TURN
     for length in (100, LARGE, 100_000, 1_000_000):
-        page.open(is_limited=True)
+        page.open()
         page.do("put('form', 'sddl');")
         page.call("hostileText", letters(length))
         command = f"printf '%s\\n' {letters(length)} | sdtool explain --from sddl"
@@ -344,9 +409,14 @@ def test_long_copies(count, page, given):
             count.add(got["most"] <= limit, what)
             count.add(got["isAsked"] == (len(command) > MOST_COPIED), what)
             count.add(got["text"] == (command if is_allowed else None) and got["shown"] == command,
-                      f"not whole: {what}")
+                      f"not whole: {what}, {len(got['shown'])}: {got['shown'][:40]!r} .. {got['shown'][-40:]!r}")
             count.add(("Copied:" in got["said"]) == is_allowed, what)
-    page.open(is_limited=True)
+    page.open()
+    text = "D:" + "(A;;FR;;;BU)" * (LARGE // 10)
+    page.call("hostileText", f"{text}\n")
+    got = page.call("copied", "text", True)
+    count.add([got["text"], got["shown"]] == [text, text], f"a text of {len(text)} characters: {len(got['text'])}")
+    page.do("byId('clear').click(); await until(isIdle);")
     page.call("hostileField", "ask", "ask-token", letters(29_000))
     got = in_time(lambda: page.call("copied", "link", True), lambda got: got["most"] <= limit)
     count.add(got["most"] <= limit and letters(29_000) in got["text"] and got["shown"] == got["text"],

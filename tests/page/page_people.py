@@ -9,6 +9,8 @@ import tempfile
 
 from page_driver import HOSTILE, SECONDS, each_view
 
+ACCOUNT = "S-1-5-21-1-2-3-1101"
+
 
 def test_keyboard(count, page, given):
     """Everything by keys alone, from typing to the answer of each view."""
@@ -119,9 +121,8 @@ def test_names(count, page, _):
     """Names come from a file, also in UTF-16, or from a paste of what people have; what was read is said, and no name
     takes the place of one of Windows."""
     page.open()
-    account = "S-1-5-21-1-2-3-1101"
-    page.see(f"O:BAD:(A;;FA;;;{account})(A;;FA;;;BA)")
-    text = f'"Name","SID"\r\n"Ann, Lee","{account}"\r\n"Nobody","S-1-5-32-544"\r\n"x","y"\r\n'
+    page.see(f"O:BAD:(A;;FA;;;{ACCOUNT})(A;;FA;;;BA)")
+    text = f'"Name","SID"\r\n"Ann, Lee","{ACCOUNT}"\r\n"Nobody","S-1-5-32-544"\r\n"x","y"\r\n'
     told = "1 names. 1 of Windows' own SIDs are left out. 1 lines or entries have no SID and name."
     for form in ("utf-8", "utf-8-sig", "utf-16", "utf-16-be"):
         data = (b"\xfe\xff" if form == "utf-16-be" else b"") + text.encode(form)
@@ -132,7 +133,7 @@ def test_names(count, page, _):
     count.add(is_right, f"a large file of names: {got}")
     got = page.do("put('names', given[0]); await until(isIdle); return [byId('names-told').textContent, "
                   "each('.trustee .name', (one) => one.textContent)];",
-                  f"dn: CN=Ann,DC=x\nobjectSid: {account}\ncn: Ann <b>\n\ndn: CN=Bob\nobjectSid: {account[:-1]}2\n")
+                  f"dn: CN=Ann,DC=x\nobjectSid: {ACCOUNT}\ncn: Ann <b>\n\ndn: CN=Bob\nobjectSid: {ACCOUNT[:-1]}2\n")
     count.add(got == ["2 names.", ["Ann <b>", "Administrators"]], f"names of LDIF: {got}")
     link = page.call("copied", "link", True)["text"]
     count.add("Ann" not in link, f"a name in a link: {link}")
@@ -194,6 +195,13 @@ def test_first_line(count, page, _):
     wanted = ["O:BA G:SY", "D:AI", "1", "2", "3", "4", "S:AI", "1"]
     is_so = len(lines) == len(wanted) and all(one.startswith(start) for one, start in zip(lines, wanted))
     count.add(is_so, f"the text line by line: {lines}")
+    # What an ACE of its own gives a trustee is told, also behind that of a wider group. Those alike have one row.
+    got = page.do("return each('.trustee', (row) => [row.querySelector('.name').textContent, row.cells[1].textContent, "
+                  "row.cells[2].textContent]);")
+    wanted = [["Authenticated Users", "modify", "ACE 3, inherited"],
+              ["Users", "modify, but not add subfolders", "ACE 3, inherited; ACE 1 denies"],
+              ["Administrators", "full control", "ACEs 2, 4, inherited; owner"]]
+    count.add(got == wanted, f"who can do what: {got}")
     # What somebody points at and its ACEs are marked, and one row at a time is in the order of the Tab key.
     point = "dispatchEvent(new PointerEvent('pointerover', {bubbles: true}));"
     got = page.do(f"byId('dacl-3').{point} return [each('.trustee.tied', (row) => "
@@ -204,6 +212,13 @@ def test_first_line(count, page, _):
     count.add(got == ["dacl-3"], f"the ACEs of a trustee: {got}")
     got = page.do("byId('share-another').click(); return [byId('text').checkVisibility(), document.activeElement.id];")
     count.add(got == [True, "text"], f"another text: {got}")
+    # What is dropped into a field is the field's, and what is dropped elsewhere is a new text.
+    got = page.do("const dataTransfer = new DataTransfer(); dataTransfer.setData('text/plain', given[0]); "
+                  "const isTaken = (place) => !place.dispatchEvent(new DragEvent('drop', {dataTransfer, bubbles: "
+                  "true, cancelable: true})); const before = [isTaken(byId('names')), byId('text').value]; "
+                  "const after = isTaken(document.body); await until(isIdle); "
+                  "return [...before, after, byId('text').value];", "O:BAD:")
+    count.add(got == [False, PROJECTS, True, "O:BAD:"], f"what is dropped: {got}")
 
 
 def test_several_verdicts(count, page, _):
@@ -229,7 +244,7 @@ def test_several_verdicts(count, page, _):
     count.add("5 descriptors, this is number 2" in told, f"the other one of two: {told[:200]}")
     page.do("byId('tab-look').click();")
     got = page.do("const one = document.querySelector('tr[data-verdict=named] .open'); one.focus(); one.click(); "
-                  "await until(isIdle); return [byId('one').textContent, byId('chosen').value, "
+                  "await until(isIdle); return [byId('one').firstChild.textContent, byId('chosen').value, "
                   "document.activeElement === one];")
     sentence = "C:\\Ann: Account 1105 can modify this folder, beside administrators"
     count.add(got == [sentence, "4", True], f"one of them: {got}")
@@ -264,6 +279,11 @@ def test_several_verdicts(count, page, _):
                   "row.cells[1].textContent)];")
     is_told = "1 line is no descriptor." in got[0] and "C:\\Gone: access is denied" in got[1]
     count.add(is_told, f"a line that is none: {got}")
+    # A text that is refused has no kind, nor has one whose conditions leave several.
+    got = page.do(f"{PASTE} await until(() => byId('many-heading')); return [byId('kind').value, "
+                  "each('table.many tbody tr', (row) => [row.dataset.verdict, row.cells[2].textContent])];",
+                  "D:(A;;FA;;;Ann)\nD:(XD;;0x1;;;WD;(Member_of{SID(BA)}))\nO:BAD:(A;;FA;;;BA)\n")
+    count.add(got == ["", [["unknown", ""], ["look", ""], ["fine", "Folder"]]], f"kinds of what is refused: {got}")
     got = page.do("put('text', 'D:P'); return ['many', 'one', 'chosen-field'].map((id) => byId(id).textContent);")
     count.add(got == ["", "", ""], f"beside a newer text stands {got}")
 
@@ -456,6 +476,7 @@ def test_address(count, page, _):
     before, text = page.do(here), "O:BAD:(A;;FA;;;BU)(A;;FR;;;WD)"
     acts = [
         "await see(given[0]);",
+        "pasteOver(given[0]);",
         "byId('example-ds').click();",
         "put('text', ''); pasteInto('text', given[0].padEnd(30_000)); await until(isIdle); byId('text-clear').click();",
         "put('kind', 'key'); put('domain', 'S-1-5-21-1-2-3'); put('names', 'S-1-1-0 All');",
@@ -503,8 +524,9 @@ def test_accessible(count, page, _):
             page.do("document.documentElement.dataset.theme = given[0]; await pause(50);", theme)
             faint = page.call("contrast")
             count.add(not faint, f"{view}, {theme}: too little contrast: {faint[:5]}")
-            names = page.call("namesAndLabels")
+            names, small = page.call("namesAndLabels"), page.call("smallControls")
             count.add(not any(names.values()), f"{view}: {names}")
+            count.add(not small, f"{view}: {len(small)} controls are too small: {small[:8]}")
 
 
 # What a screen reader says of an answer, once the keys are still.
@@ -612,13 +634,38 @@ def test_order_of_keys(count, page, _):
         count.add(not unseen, f"{view}: no sign of the focus on {unseen}")
 
 
-def test_narrow(count, page, _):
-    """A phone, and a window of 1,280 pixels at 200 and 400 %: nothing is cut off, and nothing moves sideways."""
+WIDTHS = (320, 390, 640, 1280, 1700)
+LONG = "\u05e9\u05dc\u05d5\u05dd \u0645\u0631\u062d\u0628\u0627 " * 20 + "x" * 200
+LONG_NAMED = f"{LONG} O:{ACCOUNT}D:AI(A;OICIID;FA;;;{ACCOUNT})(D;;LC;;;BU)(A;;FA;;;BA)(A;;FR;;;AU)(A;;FA;;;WD)"
+# What the page shows of long names, in each view that has them.
+OF_LONG_NAMES = [
+    f"put('names', '{ACCOUNT} {LONG}'); put('kind', given[0]); await see(given[1]); byId('text-details').open = true;",
+    "byId('share-another').click();", "byId('tab-ask').click();", "byId('tab-inherit').click();",
+    "byId('tab-compare').click(); put('other-text', given[1].replace('FA', 'FR'));",
+    "byId('tab-edit').click(); await until(isIdle); byId('edit-take').click();",
+    "byId('tab-look').click(); await see(`${given[1]}\n${given[1].replace('AI', '')}\n${given[1]}x`);",
+]
+
+
+def judge_widths(count, page, what):
+    """Phones, windows at 200 and 400 %, and wide ones: nothing is cut off, and nothing moves sideways."""
     try:
-        for width in (360, 640, 320):
+        for width in WIDTHS:
             page.browser.size(width, 800)
-            for view in each_view(page):
-                got = page.do("return [document.scrollingElement.scrollWidth, innerWidth];")
-                count.add(got[0] <= got[1], f"{view} at {width} pixels is {got[0]} wide in {got[1]}")
+            got = page.do("return [document.scrollingElement.scrollWidth, innerWidth];")
+            count.add(got[0] <= got[1], f"{what} at {width} pixels is {got[0]} wide in {got[1]}")
+            cut = page.call("cutTexts")
+            count.add(not cut, f"{what} at {width} pixels: {len(cut)} texts are cut: {cut[:5]}")
     finally:
         page.browser.size(1280, 900)
+
+
+def test_narrow(count, page, _):
+    """Each view, also with long and right-to-left names, in windows of many widths."""
+    for view in each_view(page):
+        judge_widths(count, page, view)
+    page.open()
+    for kind in ("folder", "ds"):
+        for script in OF_LONG_NAMES:
+            page.do(f"{script} await until(isIdle); await pause(200);", kind, LONG_NAMED)
+            judge_widths(count, page, f"{kind}: {script[:60]}")

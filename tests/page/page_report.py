@@ -17,6 +17,7 @@ import tempfile
 import audit
 import audit_reports
 import page_driver
+import page_people
 import preload
 
 TOP = pathlib.Path(__file__).resolve().parents[2]
@@ -50,7 +51,7 @@ class Maker:
         return name
 
     def ask(self, *words):
-        command = [page_driver.DEBIAN_PYTHON, "-m", "sdtool.audit", *words]
+        command = [preload.DEBIAN_PYTHON, "-m", "sdtool.audit", *words]
         return subprocess.run(
             command, cwd=self.folder, env=self.environment, capture_output=True, timeout=page_driver.SECONDS
         ).stdout
@@ -172,12 +173,7 @@ def judge_people(count, local):
         count.add(not faint, f"a report, {theme}: too little contrast: {faint[:5]}")
     names = local.call("namesAndLabels")
     count.add(not any(names.values()), f"a report: {names}")
-    try:
-        local.browser.size(360, 800)
-        width = local.do("return [document.scrollingElement.scrollWidth, innerWidth];")
-        count.add(width[0] <= width[1], f"a report at 360 pixels is {width[0]} wide in {width[1]}")
-    finally:
-        local.browser.size(1280, 900)
+    page_people.judge_widths(count, local, "a report")
     local.do("document.querySelector('#report-table button.open').focus();")
     local.browser.press("Enter")
     local.do("await until(() => document.activeElement.id === 'opened-back');")

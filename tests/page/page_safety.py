@@ -120,10 +120,11 @@ def test_addresses(count, page, given):
             "location.hash = given[0]; await pause(30); await until(isIdle); "
             "return [window.wasHit ?? 0, byId('kind').value, byId('form').value, "
             "Array.from(document.querySelectorAll('[role=tabpanel]')).filter((one) => !one.hidden).length, "
-            "document.querySelectorAll('[role=tab][aria-selected=true]').length];",
+            "document.querySelectorAll('[role=tab][aria-selected=true]').length, byId('first').dataset.verdict];",
             address,
         )
-        is_right = got[0] == 0 and got[1] in KINDS and got[2] in ("auto", "sddl", "hex", "base64") and got[3:] == [1, 1]
+        is_kind = got[1] in KINDS or got[1] == "" and got[5] == "unknown"  # what is refused has no kind
+        is_right = got[0] == 0 and is_kind and got[2] in ("auto", "sddl", "hex", "base64") and got[3:5] == [1, 1]
         count.add(is_right, f"the address {address[:100]!r}: {got}")
     shown = page.see("O:BAD:(A;;FA;;;WD)")
     count.add("Everyone" in shown, f"after strange addresses: {shown[:200]}")

@@ -411,7 +411,7 @@ def test_warnings(count, page, _):
     shown = page.texts(".warning.danger, .warning.caution")
     blamed = [text.split(" can ")[0].split(" ")[1:] for text in shown]
     count.add(blamed == [["Authenticated", "Users"]], f"who is blamed for what Authenticated Users get: {shown}")
-    page.see("O:BAG:SYD:(A;;FA;;;BA)(A;;FA;;;SY)")
+    page.see("O:BAG:SYD:(A;;FA;;;BA)(A;;FA;;;SY)S:(ML;;NW;;;ME)")  # of a level as without a label
     shown = page.texts(".warning")
     count.add(shown == [], f"a harmless descriptor: {shown}")
 

@@ -1,7 +1,7 @@
-"""Asks the page for its first line: who can change an object, and how grave that is. It asks in Node, over the module
-that `make wasm` builds. Each case of the verdict has rows with its sentence, worked out by hand. Each row of
-windows/examples.toml, and each class of Windows' schema if Debian's samba-ad-provision is there, has the verdict that
-its findings and their severities give, and what Windows itself sets is never grave.
+"""Asks the page for its first line. That says who can change an object, and how grave it is. The test asks in Node,
+over the module that `make wasm` builds. Each case of the verdict has rows with its sentence, worked out by hand. Each
+row of windows/examples.toml, and each class of Windows' schema if Debian's samba-ad-provision is there, has the verdict
+that its findings and their severities give, and what Windows itself sets is never grave.
 Without Node or the module it is skipped in a line.
 """
 import functools
@@ -21,9 +21,12 @@ SECONDS = 1200
 
 ACCOUNT = "S-1-5-21-1-2-3-1105"
 RESET = "00299570-246d-11d0-a768-00aa006e0529"  # User-Force-Change-Password
+CHANGE = "ab721a53-1e2f-11d0-9819-00aa0040529b"  # User-Change-Password
+USER = "bf967aba-0de6-11d0-a285-00aa003049e2"
 FOLDER = "C:\\Data "
 BASE = "(A;OICI;FA;;;SY)(A;OICI;FA;;;BA)"
 ONLY = "Only administrators and the system can change this folder"
+MADE = "Account 1105 has full control of what is made in this folder, not the object itself, beside administrators"
 # The text, the verdict and the sentence.
 ROWS = [
     # No descriptor, or one that is refused.
@@ -92,6 +95,15 @@ ROWS = [
     (FOLDER + "D:(A;;FR;;;WD)", "fine", "Nobody can change this folder"),
     (FOLDER + "D:(A;;FR;;;BA)(A;;FA;;;S-1-5-80-956008885-3418522649-1831038044-1853292631-2271478464)", "fine",
      "Only TrustedInstaller can change this folder"),
+    # Everybody comes before an account that can do more.
+    ({"text": f"O:{ACCOUNT}G:SYD:(OA;;KR;{RESET};;WD)", "kind": "process", "isKindChosen": True}, "named",
+     "Only Everyone and Account 1105 can change this process"),
+    # What is made in a folder. A deny that ends at its own children, or that is for a class, leaves the others.
+    (FOLDER + f"O:BAG:SYD:(D;OICIIO;FA;;;{ACCOUNT})(A;OICIIO;FA;;;{ACCOUNT})(A;;FA;;;BA)", "fine",
+     "Only administrators can change this folder"),
+    (FOLDER + f"O:BAG:SYD:(D;OICINPIO;FA;;;{ACCOUNT})(A;OICIIO;FA;;;{ACCOUNT})(A;;FA;;;BA)", "named", MADE),
+    ({"text": f"O:BAG:SYD:(OD;OICIIO;FA;;{USER};{ACCOUNT})(A;OICIIO;FA;;;{ACCOUNT})(A;;FA;;;BA)", "kind": "folder",
+      "isKindChosen": True}, "named", MADE),
     # The kind is open: what all that fit have in common, or on whom it depends.
     ("D:(A;;GA;;;WD)", "act", "Everyone has full control"),
     ("D:(A;;WD;;;WD)", "act", "Everyone can change the permissions of this"),
@@ -113,10 +125,20 @@ REASONS = [
     (FOLDER + "O:BAG:SYD:", "Administrators can still change that, as owner."),
     ('O:BAG:SYD:(XA;;FR;;;BU;(Member_of {SID(BA)}))(A;;FA;;;BA)', "ACE 1 has a condition"),
     ({"text": "O:BAG:SYD:(A;;FA;;;WD)", "kind": "share", "isKindChosen": True}, "permissions of their own"),
-    ({"text": "O:BAD:(OA;;CR;ab721a53-1e2f-11d0-9819-00aa0040529b;;WD)(A;;0xf01ff;;;BA)", "kind": "ds",
-      "isKindChosen": True, "classes": "user"}, "Everyone has what Windows itself gives."),
+    ({"text": f"O:BAD:(OA;;CR;{CHANGE};;WD)(A;;0xf01ff;;;BA)", "kind": "ds", "isKindChosen": True, "classes": "user"},
+     "Everyone has what Windows itself gives."),
     ("hello", "(Get-Acl PATH).Sddl"),
 ]
+# Windows gives these rights, but here they are for children alone, denied, denied first, or given by another ACE.
+UNGIVEN = [*({"text": f"O:SYG:SYD:(A;OIIO;RPWPSDRCWDWO;;;AC){aces}(A;;GA;;;BA)", "kind": "printer",
+              "isKindChosen": True} for aces in ("", "(A;;SWRC;;;AC)")),
+           *({"text": f"O:BAD:{aces}(A;;0xf01ff;;;BA)", "kind": "ds", "isKindChosen": True, "classes": "user"}
+             for aces in (f"(OD;;CR;{CHANGE};;WD)", f"(D;;GA;;;WD)(OA;;CR;{CHANGE};;WD)",
+                          f"(A;;CR;;;WD)(OD;;CR;{CHANGE};;WD)"))]
+# No exception: what is denied is granted before, is denied to children alone, or isn't granted.
+UNEXCEPTED = [FOLDER + "O:BAG:SYD:(A;OICI;0x1301bf;;;AU)(D;;LC;;;BU)",
+              FOLDER + "O:BAG:SYD:(D;OICIIO;LC;;;BU)(A;OICI;0x1301bf;;;AU)",
+              FOLDER + "O:BAG:SYD:(D;;WO;;;BU)(A;OICI;0x1301bf;;;AU)"]
 DIRECTORY = ("ds", "template")
 OF_NOTHING = {"fine", "named"}
 
@@ -172,6 +194,39 @@ def judge_example(count, row, got):
         count.add(got["verdict"] in {"act", "look"}, f"{found} of {what}")
 
 
+# What is shown first of each text, after what is chosen for it.
+SHOWN = """
+const found = [];
+for (const {text, kind, classes = '', domain = ''} of given[0]) {
+    if (kind && byId('kind').value !== kind) put('kind', kind);
+    if (byId('domain').value !== domain) put('domain', domain);
+    await see(text);
+    if (classes) {
+        put('classes', classes);
+        await until(isIdle);
+    }
+    found.push([byId('first').dataset.verdict, byId('sentence').lastChild.textContent,
+                byId('sentence-why').textContent]);
+}
+return found;
+"""
+
+
+def test_verdicts(count, page, _):
+    """What the page itself shows first: the rows above, those that choose no kind before the others, and each example.
+    """
+    page.open()
+    examples = risk_rows.rows()
+    known = [(state if isinstance(state, dict) else {"text": state}, *wanted) for state, *wanted in ROWS]
+    known.sort(key=lambda row: "kind" in row[0])
+    shown = page.do(SHOWN, [row[0] for row in known] + [state_of(row) for row in examples])
+    for (state, *wanted), got in zip(known, shown):
+        count.add(got[:2] == wanted, f"{state}: the page shows {got}, not {wanted}")
+    for row, (verdict, sentence, reasons) in zip(examples, shown[len(known):]):
+        key = "nobody" if sentence.startswith("Nobody gets in") else ""
+        judge_example(count, row, {"verdict": verdict, "sentence": sentence, "reasons": reasons, "key": key})
+
+
 def judge_bare(count, row, own, got):
     """Where nothing tells the kind nothing is graver. The two attributes are told by their names, and what broad groups
     may do to a share is less grave."""
@@ -198,7 +253,7 @@ def main(count: preload.Count, chosen: preload.Given) -> None:
         print(f"skipped: no Node, or no {chosen.library}")
         return
     examples = risk_rows.rows()
-    texts = (row[0] for row in (*ROWS, *REASONS))
+    texts = (*(row[0] for row in (*ROWS, *REASONS)), *UNEXCEPTED, *UNGIVEN)
     states = [*(text if isinstance(text, dict) else {"text": text} for text in texts), *map(state_of, examples),
               *({"text": row["sddl"]} for row in examples)]
     answers = asked(chosen.library, states)
@@ -210,7 +265,12 @@ def main(count: preload.Count, chosen: preload.Given) -> None:
                   f"{text}: {got['verdict']} {got['sentence']!r}, not {verdict} {sentence!r}")
     for (text, said), got in zip(REASONS, answers[len(ROWS):]):
         count.add(said in got["reasons"], f"{text}: {got['reasons']!r} has not {said!r}")
-    rest = answers[len(ROWS) + len(REASONS):]
+    for text, got in zip(UNEXCEPTED, answers[len(ROWS) + len(REASONS):]):
+        is_right = got["verdict"] == "act" and "Except" not in got["reasons"]
+        count.add(is_right, f"{text}: {got['verdict']}, {got['sentence']}, {got['reasons']}")
+    for text, got in zip(UNGIVEN, answers[len(ROWS) + len(REASONS) + len(UNEXCEPTED):]):
+        count.add("Windows itself gives" not in got["reasons"], f"{text}: {got['reasons']}")
+    rest = answers[len(texts):]
     for row, own, bare in zip(examples, rest, rest[len(examples):]):
         judge_example(count, row, own)
         judge_bare(count, row, own, bare)

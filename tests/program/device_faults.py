@@ -1,6 +1,6 @@
-"""Fails the program's reads and writes: each of a few runs in turn, once and for good, in several of the ways in which
-such a call fails. A small library (faults.c) that is preloaded under it fails them, and tells of each call, so that is
-seen which ones came after the failed one.
+"""Fails the program's reads and writes. Each call of a few runs fails in turn, once and for good, in several of the
+ways in which such a call fails. A small library (faults.c) that is preloaded under it fails them, and tells of each
+call, so that is seen which ones came after the failed one.
 
   A read that fails     60 and status 3. The answers to the lines that had ended arrived before it, nothing after it.
                         An interrupted one and one that would block are failed reads too, and never the end.

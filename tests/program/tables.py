@@ -1,4 +1,4 @@
-"""Tries every key of the program's tables: what is listed has its value, and nothing else is there. The values are
+"""Tries every key of the program's tables. What is listed has its value, and nothing else is there. The values are
 those of the reference, from MS-DTYP 2.4.2.4, 2.4.3, 2.4.4.1 and 2.5.1.
 
   read      every text of two letters in each case, as an alias under a domain and under none, as rights, as flags and

@@ -23,7 +23,6 @@ import threading
 import time
 import uuid
 
-OTHER_PYTHON = "/usr/bin/python3"  # which has Debian's modules
 WITHOUT_EXTENSION = "--without-extension"
 TOP = pathlib.Path(__file__).resolve().parents[2]
 if WITHOUT_EXTENSION in sys.argv:
@@ -752,7 +751,7 @@ print(list(sdtool.lines(["zz", ""], ["convert"])))
     expected = ("O:BUD:PAI(A;OICI;FR;;;BU) None Sid('S-1-5-32-544') S-1-5-32-544 True\nVerdict(granted=True, mask=1)\n"
                 "['error 2 hex-digit', '']\n")
     for words in (["-W", "error"], ["-bb", "-W", "error"], ["-X", "dev", "-W", "error"], ["-O"], ["-OO"],
-                  ["-I"], ["-S"]):
+                  ["-I", "-B"], ["-S"]):
         if "-I" in words:  # without the path of the environment
             found = ran(f"import sys; sys.path.insert(0, {str(TOP / 'python')!r})\n{code}", *words)
         else:
@@ -1042,9 +1041,7 @@ def add_options(parser):
 
 
 def main(count: preload.Count, arguments: preload.Given) -> None:
-    if hypothesis is None and os.access(OTHER_PYTHON, os.X_OK) and subprocess.run(
-            [OTHER_PYTHON, "-c", "import hypothesis"], stderr=subprocess.DEVNULL, check=False).returncode == 0:
-        preload.go_on_in(OTHER_PYTHON)
+    preload.go_on_in(preload.python_with("hypothesis") or sys.executable)
     tests = [test_rows, test_sids, test_acls, test_aces, test_names, test_building, test_values, test_tokens,
              test_questions, test_many, test_places, test_places_of_texts, test_places_of_parts,
              test_threads_and_processes, test_handlers, test_modes, test_interpreters, test_leaks, test_no_memory,

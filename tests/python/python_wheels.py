@@ -83,6 +83,7 @@ def wheels_of(system, folder):
     tree = pathlib.Path(folder, "tree")
     for name in ("python", "packaging", "include"):
         shutil.copytree(TOP / name, tree / name, ignore=shutil.ignore_patterns("__pycache__", "*.so"))
+    shutil.copy(TOP / "LICENSE", tree)
     shutil.copytree(SYSTEMS / system, tree / "out/systems" / system, symlinks=True)
     printed, status = ran([sys.executable, tree / "packaging/wheels.py", system])
     found = list((tree / "out/dist").glob("*.whl"))
@@ -117,6 +118,9 @@ def test_contents(count, wheel, system, folder):
     binaries = {f"sdtool/{name}" for name in NAMES[system]}
     found = {name for name in files if not name.startswith("sdtool-")}
     count.add(module | binaries <= found, f"{wheel.name} lacks {(module | binaries) - found}")
+    licences = [files.get(f"{wheel.name.split('-py3')[0]}.dist-info/{name}") for name in ("LICENSE", "COPYRIGHT")]
+    count.add(licences == [(TOP / path).read_bytes() for path in ("LICENSE", "packaging/copyright")],
+              f"licences of {wheel.name}")
     record = list(csv.reader(io.StringIO(next(data for name, data in files.items()
                                               if name.endswith("/RECORD")).decode())))
     digests = {name: base64.urlsafe_b64encode(hashlib.sha256(data).digest()).rstrip(b"=")

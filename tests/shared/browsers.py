@@ -166,7 +166,8 @@ class Firefox:
         }  # a window that nobody sees has the focus too
         lines = [f"user_pref({json.dumps(name)}, {json.dumps(value)});\n" for name, value in settings.items()]
         pathlib.Path(self.folder, "user.js").write_text("".join(lines))
-        words = [self.program(), "--headless", "--marionette", "--no-remote", "--profile", self.folder]
+        words = [self.program(), "--headless", "--marionette", "--remote-allow-system-access", "--no-remote",
+                 "--profile", self.folder]
         surroundings = {**os.environ, "HOME": self.folder}
         self.child = subprocess.Popen(words, env=surroundings, stdout=subprocess.DEVNULL, stderr=subprocess.DEVNULL)
         try:
@@ -231,16 +232,24 @@ class Firefox:
         self.ask("WebDriver:PerformActions", {"actions": key_actions(keys)})
 
     def size(self, width, height):
-        """The size of what is inside the window, or what is nearest to it: Firefox has no window narrower than 500
-        pixels. The window may have its size a while after it was asked for."""
-        inside, before = self.run("return [innerWidth, innerHeight]"), None
+        """The size of what is inside the window, or what is nearest to it. Firefox has no window narrower than 500
+        pixels, but a page that is zoomed can be. The window may have its size a while after it was asked for."""
+        zoom = 2 if width < 500 else 1
+        self.ask("Marionette:SetContext", {"value": "chrome"})
+        self.run("Cc['@mozilla.org/content-pref/service;1'].getService(Ci.nsIContentPrefService2).setGlobal("
+                 "FullZoom.name, arguments[0], Cu.createLoadContext())", zoom)
+        self.ask("Marionette:SetContext", {"value": "content"})
+        inside, before = self.inside(f"devicePixelRatio === {zoom}"), None
         while inside not in ([width, height], before):
             before, window = inside, self.ask("WebDriver:GetWindowRect")
-            self.ask("WebDriver:SetWindowRect", {"width": window["width"] + width - inside[0],
-                                                 "height": window["height"] + height - inside[1]})
-            inside = self.wait("const [width, height, tell] = arguments; const end = Date.now() + 3000; const "
-                               "look = () => innerWidth === width && innerHeight === height || Date.now() > end ? "
-                               "tell([innerWidth, innerHeight]) : setTimeout(look, 10); look();", width, height)
+            self.ask("WebDriver:SetWindowRect", {"width": window["width"] + zoom * (width - inside[0]),
+                                                 "height": window["height"] + zoom * (height - inside[1])})
+            inside = self.inside(f"innerWidth === {width} && innerHeight === {height}")
+
+    def inside(self, condition):
+        """The size of what is inside the window, once a condition holds, or three seconds later."""
+        return self.wait(f"const [tell] = arguments; const end = Date.now() + 3000; const look = () => {condition} || "
+                         "Date.now() > end ? tell([innerWidth, innerHeight]) : setTimeout(look, 10); look();")
 
     def picture(self, path):
         shown = self.ask("WebDriver:TakeScreenshot", {"full": False, "hash": False})["value"]

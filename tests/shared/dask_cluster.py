@@ -1,5 +1,6 @@
 """A Dask scheduler and workers for tests and measurements: processes on 127.0.0.1."""
 import contextlib
+import importlib
 import json
 import os
 import pathlib
@@ -8,6 +9,8 @@ import signal
 import subprocess
 import sys
 import time
+
+import preload
 
 PYTHON = pathlib.Path(__file__).resolve().parents[2] / "python"
 PACKAGES = ("dask", "distributed", "fsspec")
@@ -19,13 +22,18 @@ NO_PROFILER = {"DASK_DISTRIBUTED__WORKER__PROFILE__ENABLED": "False"}
 
 
 def python_with_dask(folder):
-    """An interpreter that has the packages, or None; asked from a folder that has no file of their names."""
-    for python in (sys.executable, "/usr/bin/python3"):
-        with contextlib.suppress(OSError):
-            asked = [python, "-c", f"import {', '.join(PACKAGES)}"]
-            if subprocess.run(asked, cwd=folder, stderr=subprocess.DEVNULL).returncode == 0:
-                return python
-    return None
+    return preload.python_with(*PACKAGES, folder=folder)
+
+
+def client_of(address, **more):
+    """A client of a scheduler in this process. Its package is called as a test is."""
+    path = list(sys.path)
+    sys.path[:] = [folder for folder in path if not folder.startswith(str(PYTHON.parent / "tests"))]
+    try:
+        client = importlib.import_module("distributed").Client
+    finally:
+        sys.path[:] = path
+    return client(address, timeout=SECONDS, **more)
 
 
 def wait_for(is_so, seconds=SECONDS, what="something"):
@@ -49,11 +57,11 @@ class Processes:
     They have the module and the library from copies in the folder. Runs compare digests of these files, so a build that
     changes them would change what a run keeps, and which workers are fit."""
 
-    def __init__(self, folder, python, library):
+    def __init__(self, folder, python, library, ignored=("audit",)):
         self.folder, self.python = pathlib.Path(folder), python
         self.modules, self.library = self.folder / "modules", self.folder / "library/libsdtool.so"
         shutil.copytree(PYTHON / "sdtool", self.modules / "sdtool",
-                        ignore=shutil.ignore_patterns("__pycache__", "audit"))
+                        ignore=shutil.ignore_patterns("__pycache__", *ignored))
         subprocess.run([python, "-m", "compileall", "-q", self.modules], check=True)
         self.library.parent.mkdir()
         shutil.copy(library, self.library)
@@ -61,6 +69,13 @@ class Processes:
         self.environment = {**os.environ, "PYTHONPATH": str(self.modules), "SDTOOL_LIBRARY": str(self.library),
                             "DASK_DISTRIBUTED__SCHEDULER__WORKER_TTL": WORKER_TTL, **NO_PROFILER,
                             "DASK_TEMPORARY_DIRECTORY": str(self.folder)}
+
+    def other_library(self):
+        """A library with another digest, which answers the same."""
+        path = self.folder / "other" / "libsdtool.so"
+        path.parent.mkdir(exist_ok=True)
+        path.write_bytes(self.library.read_bytes() + b"\n")
+        return {"SDTOOL_LIBRARY": str(path)}
 
     def start(self, words, environment=None, **others):
         """A process in a session of its own, so that what it starts can be ended with it."""
@@ -85,11 +100,10 @@ class Processes:
         wait_for(lambda: file.exists() and file.read_text().strip().endswith("}"), what="a scheduler")
         return scheduler, json.loads(file.read_text())["address"]
 
-    def start_worker(self, address, environment=None, before=(), memory="0"):
-        """A worker with one thread; `before` are the words of a program that starts it, `memory` is its limit, 0 for
-        none."""
-        return self.start_of_dask("dask_worker", address, "--nthreads", "1", "--no-nanny", "--memory-limit", memory,
-                                  "--local-directory", str(self.folder / "workers"), environment=environment,
+    def start_worker(self, address, environment=None, before=(), memory="0", threads=1):
+        """A worker; `before` are the words of a program that starts it, `memory` is its limit, 0 for none."""
+        return self.start_of_dask("dask_worker", address, "--nthreads", str(threads), "--no-nanny", "--memory-limit",
+                                  memory, "--local-directory", str(self.folder / "workers"), environment=environment,
                                   before=before)
 
     def asked(self, address, code):

@@ -16,6 +16,7 @@ TOP = pathlib.Path(__file__).resolve().parents[2]
 FOLDERS = {path.parent for path in TOP.glob("tests/*/*.py")} - {TOP / "tests/reference"}
 sys.path[:0] = map(str, [*sorted(FOLDERS), TOP / "tests", TOP / "tools"])
 PROGRAM = os.path.abspath(os.environ.get("SDTOOL_PROGRAM", TOP / "crates/sdtool/out/sdtool"))
+DEBIAN_PYTHON = "/usr/bin/python3"  # which sees Debian's packages
 LIBRARY = os.path.abspath(os.environ.get("SDTOOL_LIBRARY", TOP / "out/lib/libsdtool.so"))
 COUNTED = re.compile(r"(\d+) passed, (\d+) failed")
 ONLY: List[str] = []  # words of --only
@@ -29,6 +30,15 @@ def is_chosen(part: Any) -> bool:
     if is_it:
         chosen.append(name)
     return is_it
+
+
+def python_with(*modules: str, folder: Union[str, "os.PathLike[str]"] = "/") -> Optional[str]:
+    """A Python that has the modules, or None. It is asked from a folder that has no file of their names."""
+    for python in (sys.executable, DEBIAN_PYTHON):
+        asked = [python, "-c", f"import {', '.join(modules)}"]
+        if os.access(python, os.X_OK) and subprocess.run(asked, cwd=folder, stderr=subprocess.DEVNULL).returncode == 0:
+            return python
+    return None
 
 
 def go_on_in(python: str) -> None:
@@ -55,6 +65,20 @@ def build(source: str, folder: Union[str, "os.PathLike[str]"]) -> str:
     options = ["-O2", "-shared", "-fPIC", "-nostdlib", "-fno-builtin"]
     subprocess.run([*compiler(), *options, "-o", library, str(path)], check=True)
     return library
+
+
+def copy_tree(place: pathlib.Path) -> pathlib.Path:
+    """A copy of the tree without the crates, in which what is built is new, so that make builds nothing. What writes
+    into a tree runs in one, since other tests read this one."""
+    left_out = shutil.ignore_patterns(".git", "crates", "dist", "mypy", "*.deb", "__pycache__")
+    shutil.copytree(TOP, place, symlinks=True, ignore=left_out)
+    (place / ".git").symlink_to(TOP / ".git")
+    program, library = place / "crates/sdtool/out/sdtool", place / "out/lib/libsdtool.so"
+    program.parent.mkdir(parents=True)
+    shutil.copy(PROGRAM, program)
+    for built in program, library:
+        os.utime(built)
+    return place
 
 
 class Event(NamedTuple):

@@ -27,7 +27,8 @@ OTHER_NAMES = {"bytes": "descriptor", "new": "descriptor", "kinds": "entries", "
 # What the header calls the length of a slice, if it is not 'NAME_size'.
 LENGTHS = {"entries": "sid_count", "changes": "change_count", "touched": "touched_count",
            "descriptors": "descriptor_count", "verdicts": "verdict_count",
-           "token": "token_words", "aces": "ace_count", "sacl": "sacl_room", "dacl": "dacl_room"}
+           "token": "token_words", "aces": "ace_count", "offsets": "offset_count",
+           "out_offsets": "out_offset_count", "outcomes": "outcome_count", "sacl": "sacl_room", "dacl": "dacl_room"}
 # The definition that says what a function answers, which its contract has to cite.
 DEFINITIONS = {
     "sdtool_version": "codes", "sdtool_version_number": "100", "sdtool_to_sddl": "to_sddl",
@@ -36,6 +37,7 @@ DEFINITIONS = {
     "sdtool_sid_to_text": "sid_to_text", "sdtool_sid_size": "sid_size_at", "sdtool_parts": "contents_in",
     "sdtool_next_ace": "next", "sdtool_check_many": "AnswersMany", "sdtool_token_read": "ReadsToken",
     "sdtool_check_with": "checked_held", "sdtool_build": "built", "sdtool_run": "Runs", "sdtool_fault_text": "name_of",
+    "sdtool_convert_many": "ConvertsMany", "sdtool_convert_many_large": "ConvertsMany",
     "sdtool_place": "place_told", "sdtool_sddl_place": "sddl_place_told",
     "sdtool_describe": "described",
     "sdtool_reasons": "explained", "sdtool_reasons_with": "explained_held", "sdtool_derive_origins": "TellsOrigins",
@@ -66,6 +68,7 @@ NAMED = [
     Named("sdtool_part", "", "crates/sd_faults/src/line_fault.rt", "part_number"),
     Named("sdtool_part", "", "crates/sd_call_convert/src/described.rt", "part_numbered"),
     Named("sdtool_mapping", "MAPPING_", "crates/sd_call/src/input.rt", "mapping_in"),
+    Named("sdtool_conversion_kind", "CONVERT_", "crates/sd_call_convert/src/row.rt", "kind_in"),
     Named("sdtool_kind", "KIND_", "crates/sd_call_access/src/derivations.rt", "target_in"),
     Named("sdtool_entry", "", "crates/sd_call_access/src/token.rt", "kind_in"),
     Named("sdtool_acl_state", "ACL_", "crates/sd_call/src/contents.rt", "acl_state"),
@@ -100,6 +103,7 @@ CONSTANTS = [
     *((f"SDTOOL_{name}", "crates/sd_call_edit/src/change_in.rt", name) for name in (
         "PUT", "TAKE", "REPLACE", "TAKE_EACH", "SET_EACH", "ORDER", "STATE", "SET_OWNER", "SET_GROUP", "CONTROL",
         "AT_END", "BY_ORDER", "COMPARE_KIND", "COMPARE_MASK", "TYPE_NONE", "TYPE_GIVEN")),
+    ("SDTOOL_NUMERIC", "crates/sd_call_convert/src/row.rt", "NUMERIC"),
     ("SDTOOL_MOST_DERIVED_ACES", "crates/sd_call_access/src/origins.rt", "MOST_DERIVED_ACES"),
 ]
 IN_HEADER = {name: declared for declared, _, name in CONSTANTS if name == "MOST_SID_SIZE"}  # lengths of arrays

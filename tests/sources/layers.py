@@ -1,10 +1,10 @@
-"""Checks what each crate, and each module of audit and page, may import. It also checks the size of crates. Each crate
-has four checks:
+"""Checks what each crate and module may import. Modules are those of the audit and of the page. It also checks the size
+of crates. Each crate has four checks:
 
   parts of others  no file names another crate's `specs.Inner`, or a module of its `proofs` outside `proofs.laws`
   laws             no file of `proofs/laws` names `specs.Inner` of its own crate, or the goals of one of its functions
   dependencies     crates.txt lists for this crate each crate that a file of `src` names, and none that no file names
-  size             `src` has at most 1,200 lines, since a change below a crate has all of it checked again
+  size             `src` has at most 1,600 lines, since a change below a crate has all of it checked again
 
 Of the page and of the audit, docs/ARCHITECTURE.md has a table of modules from the top. Each imports only what comes
 later there, and the table has each module. A name with a slash is a folder of the audit: its modules may import each
@@ -20,7 +20,7 @@ COMMENTS = {".rt": re.compile(r"//.*"), ".antt": re.compile(r"(?<!\S)--.*")}
 MODULE = re.compile(r"\bRattle[.·](?:\w+[.·]below[.·])?(\w+)((?:[.·][\w-]+)*)")
 RUST_PATH = re.compile(r"(?<![\w:.])(\w+)::|\buse\s+(\w+)(?:\s*;|\s+as\b)")
 OF_ONE_FUNCTION = {"Goals", "Given", "Answers", "Invariants", "Proof"}
-MOST_LINES = 1200  # of src
+MOST_LINES = 1600  # of src
 PAGE = "web"
 AUDIT = "sdtool.audit"
 IMPORT_OF_PAGE = re.compile(r'\bfrom\s+"\./(\w+)\.mjs"|\bimport\(\s*"\./(\w+)\.mjs"')

@@ -93,6 +93,14 @@ def rights(folder):
                 yield entry["rightsguid"][0][1].lower(), name, OF_ACCESSES[entry["validaccesses"][0][1]]
 
 
+def judge_shown(count, folder):
+    """What Windows calls each property set. Of rights and writes these files have other names."""
+    names = {entry["rightsguid"][0][1].lower(): entry["displayname"][0][1]
+             for entry in entries(text_of(folder / "extended-rights.ldif")) if "rightsguid" in entry}
+    for name, row in rows()["set"].items():
+        count.add(row.get("shown") == names.get(row["guid"]), f"{name} is shown as {names.get(row['guid'])}")
+
+
 def named_in_aces(folder):
     for path in sorted(folder.glob("ad-schema/*")):
         for ace in re.findall(r"\(O[ADU];[^()]*\)", text_of(path)):
@@ -256,6 +264,7 @@ def main(count: preload.Count, given: preload.Given) -> None:
     if (folder / "extended-rights.ldif").exists():
         judge(count, folder)
         judge_sets(count, folder)
+        judge_shown(count, folder)
         judge_descriptors(count, folder)
         judge_templates(count, folder)
         judge_defaults(count, folder)

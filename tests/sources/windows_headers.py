@@ -1,6 +1,6 @@
-"""Compares windows/kinds.toml and windows/sids.toml with Windows' headers, as mingw-w64 brings them: each right of a
-kind, the mappings of generic rights, the last numbers of SIDs and of a domain's SIDs, and the families. Nothing of a
-header is taken over. Without the headers (Debian: mingw-w64-common) it is skipped in a line.
+"""Compares windows/kinds.toml and windows/sids.toml with Windows' headers. mingw-w64 brings these. It compares each
+right of a kind, the mappings of generic rights, the last numbers of SIDs and of a domain's SIDs, and the families.
+Nothing of a header is taken over. Without the headers (Debian: mingw-w64-common) it is skipped in a line.
 """
 import pathlib
 import re

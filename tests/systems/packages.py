@@ -189,9 +189,7 @@ def test_wheels(count, program, folder, arm64):
 def archives_of(place, changes, mask, time):
     """What dist.sh makes in a copy of the tree at a place, with other surroundings, of documents and modules of that
     time."""
-    place.parent.mkdir(parents=True)
-    left_out = shutil.ignore_patterns("__pycache__", "dist", "incremental", "*.rlib", "must-fail")
-    shutil.copytree(TOP, place, symlinks=True, ignore=left_out)
+    preload.copy_tree(place)
     for path in (path for folder in ("docs", "examples", "python") for path in (place / folder).rglob("*")):
         os.utime(path, (time, time))
     ended = ran(["sh", "-c", f"umask {mask} && exec packaging/dist.sh"], cwd=place, env={**os.environ, **changes})

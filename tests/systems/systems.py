@@ -26,7 +26,6 @@ import errno
 import functools
 import hashlib
 import http.server
-import importlib.util
 import json
 import os
 import pathlib
@@ -35,6 +34,7 @@ import re
 import shlex
 import shutil
 import subprocess
+import sys
 import tempfile
 import threading
 import time
@@ -58,7 +58,6 @@ from reference.places import place_of_bytes
 
 TESTS = pathlib.Path(__file__).resolve().parent
 BUILT = preload.TOP / "out" / "systems"
-DEBIAN_PYTHON = "/usr/bin/python3"
 SECONDS = 3000
 MEANINGS = fault_words.documented()
 JOBS = os.cpu_count() or 1
@@ -823,8 +822,7 @@ def test_system(count, native, name, folder, files, lines):
 
 def start_again():
     """Debian's Python sees Debian's selenium; another one may not."""
-    if importlib.util.find_spec("selenium") is None and os.path.exists(DEBIAN_PYTHON):
-        preload.go_on_in(DEBIAN_PYTHON)
+    preload.go_on_in(preload.python_with("selenium") or sys.executable)
 
 
 def add_options(parser):

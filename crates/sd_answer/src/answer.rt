@@ -10,11 +10,10 @@ ghost use Rattle.sd_view.specs.Descriptor.{Descriptor, Shows};
 ghost use Rattle.sd_view.specs.Layout.{layout};
 ghost use Rattle.sd_view.specs.WrittenForm.{IsWrittenForm};
 ghost use Rattle.sd_token.specs.Token.{Compares, Holder};
-ghost use Rattle.sd_inherit.specs.Derived.{derive_fault, derived};
 ghost use Rattle.sd_explain.specs.Explain.{explain};
 ghost use Rattle.sd_sddl_printer.specs.Printed.{sddl};
-ghost use Rattle.sd_answer.specs.Answer.{act_outcome, answer, bound, converted, form_text, is_error};
-ghost use Rattle.sd_answer.specs.Answer.{naming_of, refused, unless_too_large, verdict_text};
+ghost use Rattle.sd_answer.specs.Answer.{act_outcome, answer, bound, form_text, is_error};
+ghost use Rattle.sd_answer.specs.Answer.{naming_of, refused, verdict_text};
 ghost use Rattle.sd_answer.specs.Inner.Printing.{PrintsAnswer};
 ghost use Rattle.sd_answer.specs.LineEnd.{line_feed};
 ghost use Rattle.sd_answer.specs.LineInHand.{HoldsText, IsReady, PutsAnswer};
@@ -90,6 +89,7 @@ fn put_hex_answer<S: Sink>(
         → PutsAnswer (S.told sink.old) (S.told sink.new)
         (answer task.now holder text) (is_error task.now holder text) result }
 {
+    // Only the contract names the task.
     let _ = task;
     if line.is_too_long() {
         return put_error(&LineFault::TooLong, sink);

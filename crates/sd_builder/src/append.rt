@@ -95,6 +95,7 @@ pub(crate) fn plain_size(head: AceHead, trustee: Trustee<'_>) -> u16
 }
 
 // The bytes of an account's SID behind those that an ACE has before it.
+#[tactic(auto, using(crate::proofs::PlainAces::behind))]
 #[inline(always)]
 fn account_ace(front: &[u8; FRONT_SIZE], sid: &[u8; ACCOUNT_SID_SIZE]) -> [u8; ACCOUNT_ACE_SIZE]
     ensures { result ≡ front.now ++ sid.now }
@@ -106,6 +107,7 @@ fn account_ace(front: &[u8; FRONT_SIZE], sid: &[u8; ACCOUNT_SID_SIZE]) -> [u8; A
 }
 
 // The same for the SID of a name, with room for two numbers.
+#[tactic(auto, using(crate::proofs::PlainAces::behind))]
 #[inline(always)]
 fn named_ace(front: &[u8; FRONT_SIZE], sid: &[u8; NAMED_SID_SIZE]) -> [u8; NAMED_ACE_SIZE]
     ensures { result ≡ front.now ++ sid.now }
@@ -166,6 +168,7 @@ fn append_any_sid(buf: &mut SdBuf, sid: &Sid)
 }
 
 // The bytes of a SID that has as many sub-authorities as an account of a domain.
+#[tactic(auto, using(crate::proofs::PlainAces::behind))]
 #[inline(always)]
 fn usual_bytes(header: &[u8; 8], subs: &[u32]) -> [u8; ACCOUNT_SID_SIZE]
     requires { length subs.now ≡ ACCOUNT_SUBS }

@@ -35,8 +35,9 @@ other_arguments : (argument_number which.Creator ≡ 7) × (argument_number whic
 other_arguments = (refl, refl, refl, refl, refl, refl, refl, refl, refl, refl)
 
 later_arguments : (argument_number which.Options ≡ 17) × (argument_number which.Ace ≡ 18)
-    × (argument_number which.Flags ≡ 19) × (argument_number which.Guid ≡ 20)
-later_arguments = (refl, refl, refl, refl)
+    × (argument_number which.Flags ≡ 19) × (argument_number which.Guid ≡ 20) × (argument_number which.Offsets ≡ 21)
+    × (argument_number which.Conversion ≡ 22)
+later_arguments = (refl, refl, refl, refl, refl, refl)
 
 none_and_empty : (optional_sid_in which.Domain [] ≡ Ok None)
     × (sid_in which.Owner [] ≡ Err (call.Argument which.Owner 0))

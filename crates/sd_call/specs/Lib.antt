@@ -1,4 +1,5 @@
 pub mod Arguments
+pub mod Columns
 pub mod Contents
 pub mod FaultNames
 pub mod Outcomes

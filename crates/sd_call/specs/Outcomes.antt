@@ -51,6 +51,8 @@ argument_number which.Options = 17
 argument_number which.Ace = 18
 argument_number which.Flags = 19
 argument_number which.Guid = 20
+argument_number which.Offsets = 21
+argument_number which.Conversion = 22
 
 -- the argument that a fault is about, as a number; 0 where it is about none
 abbrev pub argument_of : CallFault → ℕ

@@ -40,6 +40,10 @@ pub enum Argument {
     Flags,
     /// A GUID.
     Guid,
+    /// The offsets of a row, or the room for those of all answers.
+    Offsets,
+    /// What each row of a column is converted to.
+    Conversion,
 }
 
 /// The number of an argument.
@@ -67,5 +71,7 @@ pub fn argument_number(argument: Argument) -> u32
         Argument::Ace => 18,
         Argument::Flags => 19,
         Argument::Guid => 20,
+        Argument::Offsets => 21,
+        Argument::Conversion => 22,
     }
 }

@@ -4,6 +4,7 @@
 
 mod ace;
 mod argument;
+mod column;
 mod contents;
 mod counter;
 mod fault_names;
@@ -17,6 +18,7 @@ mod walk;
 
 pub use ace::AceFound;
 pub use argument::Argument;
+pub use column::{Column, Offsets, row_at, row_count};
 pub use contents::{AclPlace, Contents, parts_of};
 pub use counter::Counter;
 pub use fault_names::fault_text;

@@ -1,5 +1,6 @@
 mod ConvertRows
 pub mod DescribedLemmas
+pub mod ManyLemmas
 pub mod NameLemmas
 pub mod PartLemmas
 mod SidRows

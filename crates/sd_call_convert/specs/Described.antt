@@ -39,6 +39,8 @@ argument_text number =
     else if nat_eq number 18 then codes "ace: "
     else if nat_eq number 19 then codes "flags: "
     else if nat_eq number 20 then codes "guid: "
+    else if nat_eq number 21 then codes "offsets: "
+    else if nat_eq number 22 then codes "conversion: "
     else []
 
 -- 2. The fault, as in the program's `error` line, and what it means.

@@ -13,7 +13,7 @@ use Rattle.sd_fault_places.specs.Places.{place_of_fault}
 use Rattle.sd_fault_places.specs.declared.place.FaultPlace.{FaultPlace}
 use Rattle.sd_fault_places.specs.declared.place.Field.{Field}
 use Rattle.sd_fault_places.specs.declared.place.Field.TheVariants as field
-use Rattle.sd_sddl_places.specs.Places.{place_of_sddl_fault}
+use Rattle.sd_fault_places.specs.SddlPlaces.{place_of_sddl_fault}
 use Rattle.sd_call_convert.specs.declared.told.PlaceTold.{PlaceTold}
 
 -- a field as a number; 0 where there is none

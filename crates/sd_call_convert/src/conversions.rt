@@ -82,8 +82,7 @@ pub(crate) fn domain_of_size(size: usize, domain: &[u8]) -> Result<Option<Sid>, 
     Ok(domain)
 }
 
-// Gives the layout of what a text means. It is read into the buffer, whatever that holds, unless memory was refused for
-// one.
+// Gives the layout of what a text means, unless memory was refused for a buffer.
 fn give_meant(
     text: &[u8],
     domain: Option<&Sid>,
@@ -95,11 +94,23 @@ fn give_meant(
         (λ _. Refused output.old output.new result) }
 {
     match buf {
-        Ok(mut buf) => match read_text(text, domain, &mut buf) {
-            Ok(view) => give_layout(&view, output),
-            Err(fault) => failed(fault),
-        },
+        Ok(mut buf) => give_read(text, domain, &mut buf, output),
         Err(refused) => no_memory(refused),
+    }
+}
+
+/// Gives the layout of what a text means. It is read into the buffer, whatever that holds.
+pub(crate) fn give_read(
+    text: &[u8],
+    domain: Option<&Sid>,
+    buf: &mut SdBuf,
+    output: &mut [u8],
+) -> Outcome
+    ensures { Answers (laid_out (text_in (option_copied domain.entry) text.now)) output.old output.new result }
+{
+    match read_text(text, domain, buf) {
+        Ok(view) => give_layout(&view, output),
+        Err(fault) => failed(fault),
     }
 }
 

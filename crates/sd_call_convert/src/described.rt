@@ -180,6 +180,8 @@ fn argument_text(number: u32) -> &'static str
         18 => "ace: ",
         19 => "flags: ",
         20 => "guid: ",
+        21 => "offsets: ",
+        22 => "conversion: ",
         _ => "",
     }
 }

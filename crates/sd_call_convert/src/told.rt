@@ -4,13 +4,12 @@ ghost use Rattle.std.specs.Prelude.{◌≡◌, ◌<◌, ◌^◌, length};
 ghost use Rattle.std.specs.Option.{option_copied};
 ghost use Rattle.sd_faults.specs.declared.line_fault.LineFault.TheVariants as line;
 ghost use Rattle.sd_call_convert.specs.PlaceTold.{field_number, no_place, place_told, sddl_place_told, told, told_at};
-ghost use Rattle.sd_sddl_places.specs.Places.{place_of_sddl_fault};
+ghost use Rattle.sd_fault_places.specs.SddlPlaces.{place_of_sddl_fault};
 
 use sd_call::{Place, domain_in};
-use sd_fault_places::{FaultPlace, Field, place_of_fault};
+use sd_fault_places::{FaultPlace, Field, place_of_fault, place_of_sddl_fault};
 use sd_faults::{LineFault, part_number};
 use sd_parts::CAPACITY;
-use sd_sddl_places::place_of_sddl_fault;
 use sd_sid::Sid;
 use sd_text::MOST_SDDL_TEXT;
 

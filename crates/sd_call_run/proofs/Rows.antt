@@ -8,8 +8,8 @@ use Rattle.sd_answer.specs.Answer.{is_error}
 use Rattle.sd_answer.specs.LineEnd.{without_cr}
 use Rattle.sd_run.specs.Answers.{answers}
 use Rattle.sd_run.specs.Lines.{cut_at_line_feeds, ended, lines}
-use Rattle.sd_command_line.specs.CommandLine.{bare_line, check_line, convert_line, derive_line, explain_line, line}
-use Rattle.sd_command_line.specs.declared.options.OptionName.TheVariants as name
+use Rattle.sd_command.specs.CommandLine.{bare_line, check_line, convert_line, derive_line, explain_line, line}
+use Rattle.sd_command.specs.declared.options.OptionName.TheVariants as name
 use Rattle.sd_command.specs.Settings.{Settings, settings_of}
 use Rattle.sd_command.specs.declared.settings.UsageFault.TheVariants.{Value}
 use Rattle.sd_call_run.specs.Runs.{EndsBehind, EndsBy, EndsOn, EndsRefused, EndsRun, EndsSettled, EndsTaken}

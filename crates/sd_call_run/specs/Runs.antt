@@ -7,12 +7,12 @@ use Rattle.std.specs.Str.{is_utf8}
 use Rattle.clap.specs.Words.{IsAmong, Text, fault_of, takes}
 use Rattle.clap.specs.declared.error.ErrorKind.TheVariants as kind
 use Rattle.sd_answer.specs.Answer.{is_error}
-use Rattle.sd_command_line.specs.CommandLine.{line}
+use Rattle.sd_command.specs.CommandLine.{line}
 use Rattle.sd_command.specs.Endings.{run_line}
-use Rattle.sd_command_line.specs.EarlyEnds.{is_mistake}
+use Rattle.sd_command.specs.EarlyEnds.{is_mistake}
 use Rattle.sd_command.specs.Settings.{Settings, settings_of}
 use Rattle.sd_command.specs.Usage.{usage_line}
-use Rattle.sd_command_line.specs.FaultLines.{fault_line}
+use Rattle.sd_command.specs.FaultLines.{fault_line}
 use Rattle.sd_command.specs.declared.settings.UsageFault.{UsageFault}
 use Rattle.sd_run.specs.Answers.{answers}
 use Rattle.sd_run.specs.Lines.{lines}

@@ -6,8 +6,10 @@ ghost use Rattle.sd_call_run.specs.Runs.{EndsRun, Runs, Shows};
 
 use crate::batch::answer_batch;
 use crate::words::{WordsFault, words_in};
-use sd_command::{Notice, Prepared, Stop, prepare, run_line};
-use sd_command_line::{ANSWERED_STATUS, EarlyEnd, FAILED_STATUS, FAULTY_STATUS};
+use sd_command::{
+    ANSWERED_STATUS, EarlyEnd, FAILED_STATUS, FAULTY_STATUS, Notice, Prepared, Stop, prepare,
+    run_line,
+};
 use sd_run::RunFault;
 use std::alloc::Global;
 

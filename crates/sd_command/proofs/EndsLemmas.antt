@@ -2,10 +2,10 @@
 use Rattle.std.proofs.Common.{◌≡◌, ℕ, inl, inr, List, Result, Ok, Err, sym, subst, true}
 use Rattle.std.specs.String.{string_bytes}
 use Rattle.clap.specs.Words.{Text, takes}
-use Rattle.sd_command_line.specs.CommandLine.{line}
+use Rattle.sd_command.specs.CommandLine.{line}
 use Rattle.sd_command.specs.Endings.{Told, EndsBy, EndsTaken, EndsSettled, EndsRun, settled}
 use Rattle.sd_command.specs.Preparing.{EndsPrepared, PreparesBy, StopsTaken, settled as of}
-use Rattle.sd_command_line.specs.declared.parse.EarlyEnd.TheVariants.{Help, NoMemory, Usage}
+use Rattle.sd_command.specs.declared.parse.EarlyEnd.TheVariants.{Help, NoMemory, Usage}
 use Rattle.sd_command.specs.declared.program.Stop.{Stop}
 use Rattle.sd_command.specs.declared.program.Stop.TheVariants as stop
 use Rattle.sd_command.specs.Settings.{Settings}

@@ -3,7 +3,7 @@ use Rattle.std.proofs.Common.{◌≡◌, Option, Some, None, Ok, Err, option_map
 use Rattle.std.specs.Option.{unwrap_or}
 use Rattle.clap.specs.Words.{Text}
 use Rattle.sd_command.specs.Settings.{given, value_if, value_needed, value_or}
-use Rattle.sd_command_line.specs.declared.options.OptionName.{OptionName}
+use Rattle.sd_command.specs.declared.options.OptionName.{OptionName}
 use Rattle.sd_command.specs.declared.settings.UsageFault.{UsageFault}
 use Rattle.sd_command.specs.declared.settings.UsageFault.TheVariants.{Value}
 

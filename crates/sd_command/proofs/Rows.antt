@@ -26,16 +26,16 @@ use Rattle.sd_answer.specs.declared.job.Act.TheVariants.{Check, Convert, Derive,
 use Rattle.sd_answer.specs.declared.job.Form.TheVariants.{Base64, Hex, Sddl}
 use Rattle.sd_answer.specs.declared.job.Job.{Job}
 use Rattle.sd_answer.specs.declared.job.OutputForm.TheVariants as output
-use Rattle.sd_command_line.specs.declared.options.OptionName.TheVariants as name
-use Rattle.sd_command_line.specs.declared.parse.EarlyEnd.TheVariants.{Help, NoMemory, Usage}
+use Rattle.sd_command.specs.declared.options.OptionName.TheVariants as name
+use Rattle.sd_command.specs.declared.parse.EarlyEnd.TheVariants.{Help, NoMemory, Usage}
 use Rattle.sd_command.specs.declared.settings.UsageFault.TheVariants.{NoCommand, Unasked, Value}
 use Rattle.sd_command.specs.declared.settings.CommandName.TheVariants as command
 use Rattle.sd_command.specs.declared.program.Prepared.{Prepared}
 use Rattle.sd_command.specs.declared.program.Stop.TheVariants as stop
 use Rattle.sd_run.specs.declared.engine.RunFault.{RunFault}
 use Rattle.sd_run.specs.declared.engine.RunFault.TheVariants.{Read, TooManyReads, Write}
-use Rattle.sd_command_line.specs.CommandLine.{bare_line, check_line, convert_line, derive_line, explain_line, line}
-use Rattle.sd_command_line.specs.CommandLine.{option_text}
+use Rattle.sd_command.specs.CommandLine.{bare_line, check_line, convert_line, derive_line, explain_line, line}
+use Rattle.sd_command.specs.CommandLine.{option_text}
 use Rattle.sd_run.specs.declared.engine.Report.{Report}
 use Rattle.sd_run.specs.Told.{DrainTold, SourceTold}
 use Rattle.sd_command.specs.Endings.{EndsBy, EndsRefused, EndsWithHelp, EndsWithoutMemory, IsIdle, IsIdleAt, RunOf}

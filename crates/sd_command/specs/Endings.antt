@@ -9,11 +9,11 @@ use Rattle.sd_token.specs.Token.{TokenShown}
 use Rattle.sd_run.specs.Told.{SourceTold, DrainTold, failed_flushes_after, is_flush, sink_of}
 use Rattle.sd_run.specs.declared.device.DeviceFault.{DeviceFault}
 use Rattle.sd_run.specs.Outcome.{Outcome}
-use Rattle.sd_command_line.specs.CommandLine.{line}
-use Rattle.sd_command_line.specs.EarlyEnds.{is_mistake}
+use Rattle.sd_command.specs.CommandLine.{line}
+use Rattle.sd_command.specs.EarlyEnds.{is_mistake}
 use Rattle.sd_command.specs.Settings.{Settings, settings_of}
 use Rattle.sd_command.specs.Usage.{usage_line}
-use Rattle.sd_command_line.specs.FaultLines.{fault_line}
+use Rattle.sd_command.specs.FaultLines.{fault_line}
 use Rattle.sd_command.specs.declared.settings.UsageFault.{UsageFault}
 use Rattle.sd_run.specs.declared.engine.Report.{Report}
 use Rattle.sd_run.specs.declared.engine.RunFault.{RunFault}

@@ -1,4 +1,7 @@
+pub mod CommandLine
+pub mod EarlyEnds
 pub mod Endings
+pub mod FaultLines
 pub mod Inner
 pub mod Preparing
 pub mod Settings

@@ -2,13 +2,13 @@
 use Rattle.std.specs.Prelude.{◌≡◌, ℕ, List, [], Result, Ok, Err, codes}
 use Rattle.std.specs.String.{string_bytes}
 use Rattle.clap.specs.Words.{Text, fault_of}
-use Rattle.sd_command_line.specs.CommandLine.{line}
-use Rattle.sd_command_line.specs.EarlyEnds.{AllowsEnd}
+use Rattle.sd_command.specs.CommandLine.{line}
+use Rattle.sd_command.specs.EarlyEnds.{AllowsEnd}
 use Rattle.sd_command.specs.Settings.{Settings, settings_of}
 use Rattle.sd_command.specs.Usage.{usage_line}
 use Rattle.sd_command.specs.Endings.{Told, EndsIdle, EndsRun, ShowsHelp}
-use Rattle.sd_command_line.specs.FaultLines.{fault_line}
-use Rattle.sd_command_line.specs.declared.parse.EarlyEnd.TheVariants.{NoMemory, Usage, Help}
+use Rattle.sd_command.specs.FaultLines.{fault_line}
+use Rattle.sd_command.specs.declared.parse.EarlyEnd.TheVariants.{NoMemory, Usage, Help}
 use Rattle.sd_command.specs.declared.program.Notice.TheVariants as said
 use Rattle.sd_command.specs.declared.program.Notice as program
 use Rattle.sd_command.specs.declared.program.Prepared.{Prepared}

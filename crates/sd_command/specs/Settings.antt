@@ -17,7 +17,7 @@ use Rattle.sd_check.specs.Ask.{Asked, ask_fault, asks_maximum, wanted_of}
 use Rattle.sd_sddl_builder.specs.Meaning.{means}
 use Rattle.sd_inherit.specs.declared.plan.Target.{Target}
 use Rattle.sd_inherit.specs.declared.plan.Target.TheVariants.{File, Container}
-use Rattle.sd_command_line.specs.CommandLine.{line, option_text}
+use Rattle.sd_command.specs.CommandLine.{line, option_text}
 use Rattle.sd_rights.specs.Mapping.{GenericMapping, directory_mapping, file_mapping, key_mapping}
 use Rattle.sd_command.specs.TokenText.{entries_read, sid_under}
 use Rattle.sd_answer.specs.Answer.{output_of}
@@ -31,8 +31,8 @@ use Rattle.sd_answer.specs.declared.job.OutputForm.TheVariants as output
 use Rattle.sd_answer.specs.declared.job.Task.{Task}
 use Rattle.sd_command.specs.declared.settings.CommandName.{CommandName}
 use Rattle.sd_command.specs.declared.settings.CommandName.TheVariants as command
-use Rattle.sd_command_line.specs.declared.options.OptionName.{OptionName}
-use Rattle.sd_command_line.specs.declared.options.OptionName.TheVariants as name
+use Rattle.sd_command.specs.declared.options.OptionName.{OptionName}
+use Rattle.sd_command.specs.declared.options.OptionName.TheVariants as name
 use Rattle.sd_command.specs.declared.settings.UsageFault.{UsageFault}
 use Rattle.sd_command.specs.declared.settings.UsageFault.TheVariants.{NoCommand, Unasked, Value}
 

@@ -3,7 +3,7 @@ use Rattle.std.specs.Prelude.{◌++◌, codes}
 use Rattle.clap.specs.Words.{Text}
 use Rattle.sd_check.specs.declared.ask.AskFault.{AskFault}
 use Rattle.sd_check.specs.declared.ask.AskFault.TheVariants.{EmptyRequest, ReservedBits}
-use Rattle.sd_command_line.specs.FaultLines.{fault_line, value_line}
+use Rattle.sd_command.specs.FaultLines.{fault_line, value_line}
 use Rattle.sd_command.specs.declared.settings.UsageFault.{UsageFault}
 use Rattle.sd_command.specs.declared.settings.UsageFault.TheVariants.{NoCommand, Unasked, Value}
 

@@ -8,6 +8,7 @@ ghost use Rattle.sd_command.specs.Settings as specs;
 ghost use Rattle.sd_command.specs.Inner.Adding.{gives};
 ghost use Rattle.sd_command.specs.Inner.Choosing.{own_with};
 
+use crate::options::OptionName;
 use crate::settings::{
     Own, UsageFault, given_if, given_mapping, given_or, given_sid, is_set, text_of, without_creator,
 };
@@ -16,7 +17,6 @@ use clap::ArgMatches;
 use sd_ace::guid_from_text;
 use sd_answer::Act;
 use sd_check::{Ask, Privileges};
-use sd_command_line::OptionName;
 use sd_rights::{Mapping, rights_from_text};
 use sd_sid::Sid;
 use sd_text::read_number;

@@ -8,12 +8,12 @@ ghost use Rattle.sd_command.specs.Settings.{nobody};
 ghost use Rattle.sd_command.specs.Inner.Adding.{gives};
 ghost use Rattle.sd_command.specs.Inner.Choosing.{own_with};
 
+use crate::options::OptionName;
 use crate::settings::{
     Own, UsageFault, given_mapping, given_needed, given_output_form, given_sid, text_of,
 };
 use clap::ArgMatches;
 use sd_answer::Act;
-use sd_command_line::OptionName;
 use sd_inherit::{Plan, Target};
 use sd_run::Engine;
 use sd_sid::Sid;

@@ -2,22 +2,23 @@
 ghost use Rattle.std.specs.Prelude.{◌≡◌, Err, IfOk, MatchResult, Ok, true, map, codes};
 ghost use Rattle.std.specs.String.{string_bytes};
 ghost use Rattle.clap.specs.Words.{subcommand_rows_of, takes};
-ghost use Rattle.sd_command_line.specs.CommandLine.{line};
+ghost use Rattle.sd_command.specs.CommandLine.{line};
 ghost use Rattle.sd_command.specs.Endings as ends;
 ghost use Rattle.sd_command.specs.Preparing as steps;
 ghost use Rattle.sd_command.specs.Settings.{nobody, settings};
-ghost use Rattle.sd_command_line.specs.FaultLines.{fault_line};
-ghost use Rattle.sd_command_line.specs.declared.parse.EarlyEnd.TheVariants as early;
+ghost use Rattle.sd_command.specs.FaultLines.{fault_line};
+ghost use Rattle.sd_command.specs.declared.parse.EarlyEnd.TheVariants as early;
 ghost use Rattle.sd_command.specs.declared.program.Stop.TheVariants.{Early};
 
 use crate::derive_settings::give_creator;
+use crate::fault_lines::{NO_MEMORY_LINE, USAGE_LINE};
+use crate::parse::{EarlyEnd, parse_words};
 use crate::settings::{UsageFault, choose};
+use crate::statuses::{
+    ANSWERED_STATUS, FAILED_STATUS, FAULTY_STATUS, NO_MEMORY_STATUS, USAGE_STATUS,
+};
 use clap::ArgMatches;
 use sd_buffer::{SdBuf, TextBuf};
-use sd_command_line::{
-    ANSWERED_STATUS, EarlyEnd, FAILED_STATUS, FAULTY_STATUS, NO_MEMORY_LINE, NO_MEMORY_STATUS,
-    USAGE_LINE, USAGE_STATUS, parse_words,
-};
 use sd_run::{Drain, Engine, RunFault, Source, run, write_whole};
 use sd_sink::NoMemory;
 use sd_token::Token;

@@ -1,12 +1,12 @@
 //! Lists of ACEs that are edited.
 
 ghost use Rattle.std.specs.Prelude.{◌≡◌, ◌≤◌, ◌<◌, ◌+◌, ◌^◌, ◌++◌, ◌∷◌, [], not, length, map, count_by};
-ghost use Rattle.std.specs.Prelude.{vec_len, None, Some, IfOk, OnOk, IfSome, MatchOption, take, drop, if◌then◌else◌};
+ghost use Rattle.std.specs.Prelude.{vec_len, None, Some, IfOk, OnOk, IfSome, MatchOption, take, if◌then◌else◌};
 ghost use Rattle.std.specs.List.{filter, insert, remove};
 ghost use Rattle.sd_acl_view.specs.Acl.{acl_size};
 ghost use Rattle.sd_edit.specs.declared.change.ListChange.TheVariants as lists;
 ghost use Rattle.sd_edit.specs.Matching.{matches};
-ghost use Rattle.sd_edit.specs.Order.{Seen, behind_last, first_fall, no_higher, of_rank, ordered, rank, ranks};
+ghost use Rattle.sd_edit.specs.Order.{behind_last, first_fall, no_higher, of_rank, ordered, rank, ranks};
 ghost use Rattle.sd_edit.specs.Lists.{Changes, list_edited, place_for, set_where};
 
 use crate::change::{ListChange, Place};
@@ -139,6 +139,7 @@ fn without(alloc: Global, matching: &Match, aces: &[Ace]) -> Result<Vec<Ace>, No
 }
 
 // Gives each ACE that matches the setting.
+#[tactic(auto, using(crate::proofs::WalkLemmas::set_next))]
 fn set_each(matching: &Match, setting: &Setting, aces: &mut [Ace])
     ensures { aces.new ≡ map (set_where matching.now setting.now) aces.old }
 {

@@ -1,6 +1,6 @@
 //! A descriptor by value, which changes are made to.
 
-ghost use Rattle.std.specs.Prelude.{◌≡◌, ◌≤◌, ◌<◌, ◌^◌, ◌++◌, ◌∷◌, [], IfOk, OnOk, Ok, Err};
+ghost use Rattle.std.specs.Prelude.{◌≡◌, ◌<◌, ◌^◌, IfOk, OnOk, Ok, Err};
 ghost use Rattle.sd_builder.specs.Draft.{is_present};
 ghost use Rattle.sd_view.specs.Layout.{acl_part_size};
 ghost use Rattle.sd_view.specs.declared.acl_part.AclPart.TheVariants as acl;
@@ -146,6 +146,7 @@ fn acl_of(alloc: Global, part: &AclPart<'_>) -> Result<EditedAcl, NoMemory>
     }
 }
 
+#[tactic(auto, using(crate::proofs::WalkLemmas::all_yielded, crate::proofs::WalkLemmas::parts_one))]
 fn aces_of(alloc: Global, aces: Aces<'_>) -> Result<Vec<Ace>, NoMemory>
     ensures { IfOk result (λ v. v.items ≡ aces.entry) }
 {

@@ -58,18 +58,11 @@ pub fn print_explain<P: Print>(view: &SdView<'_>, domain: Option<&Sid>, numeric:
         domain: domain.copied(),
         numeric,
     };
-    print_lines(&naming, view, out);
-}
-
-fn print_lines<P: Print>(naming: &Naming, view: &SdView<'_>, out: &mut P)
-    ensures printed { Prints (P.told out.old) (P.told out.new) (explain naming.now view.now) }
-    ensures limits { IsDescriptor view.now }
-{
     print_control(view.control(), out);
     print_rm(view.rm(), out);
-    print_sid_line(naming, b"owner ", view.owner_in_place(), out);
-    print_sid_line(naming, b"group ", view.group_in_place(), out);
-    print_acl(naming, b"dacl ", &view.dacl(), out);
-    print_acl(naming, b"sacl ", &view.sacl(), out);
+    print_sid_line(&naming, b"owner ", view.owner_in_place(), out);
+    print_sid_line(&naming, b"group ", view.group_in_place(), out);
+    print_acl(&naming, b"dacl ", &view.dacl(), out);
+    print_acl(&naming, b"sacl ", &view.sacl(), out);
     out.put(b"end\n");
 }

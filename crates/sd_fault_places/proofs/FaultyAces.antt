@@ -23,7 +23,3 @@ pub sound-stop : (m : ℕ) (left : List ℕ) (f : AclFault) → 1 ≤ m → ace_
     → (sound_aces m left ≡ 0) × (behind_sound m left ≡ left)
 sound-stop zero left f some e = absurd (omega arith)
 sound-stop (suc k) left f some e = rw e (refl, refl)
-
--- no further one
-pub sound-none : (m : ℕ) (left : List ℕ) → m ≡ 0 → (sound_aces m left ≡ 0) × (behind_sound m left ≡ left)
-sound-none m left e = rw e (refl, refl)

@@ -1,1 +1,5 @@
+pub mod Fields
+pub mod Inner
 pub mod Places
+pub mod SddlPlaces
+pub mod Shape

@@ -369,3 +369,5 @@ module _ (w : Which) (d : Descriptor) (creator : Option Descriptor) (plan : Plan
       let other = count_other giver.Parent giver.Creator plan (givers_aces giver.Creator w d creator) k refl in
       let split = sum_by-append (λ (o : AceOrigin). cond (is_at giver.Parent k o) 1 0) first second in
       omega (arith, mine, other, split)
+
+pub ruleset cells_told = (copied, counted, rising)

@@ -52,9 +52,37 @@ plan target = record {
 ace : AceKind → ℕ → ℕ → SecurityId → AccessControlEntry
 ace kind flags mask sid = record { kind = kind; flags = flags; mask = mask; object = None; inherited = None; sid = sid }
 
+system : SecurityId
+system = record { authority = 5; subs = 18 ∷ [] }
+
+-- what is made for the user, what others have, and a parent and a creator of theirs
+made : ℕ → AclPart → AclPart → Descriptor
+made control sacl dacl = record {
+  control = control;
+  rm = 0;
+  owner = Some user;
+  group = Some everyone;
+  sacl = sacl;
+  dacl = dacl;
+}
+
+given : SecurityId → ℕ → AclPart → AclPart → Descriptor
+given owner control sacl dacl = record (made control sacl dacl) { rm = 0xff; owner = Some owner; group = None }
+
+parent : AclPart → AclPart → Descriptor
+parent sacl dacl = given users 0xbf14 sacl dacl
+
+creator : ℕ → AclPart → AclPart → Descriptor
+creator control sacl dacl = given everyone control sacl dacl
+
+-- the container hands its first ACE on to files
+handing_on : Descriptor
+handing_on = parent acl.Absent (acl.List (ace kinds.Allow 0x3 0x1f01ff system ∷ []))
+
 -- `unfolding computed` lets `refl` compute a row
 computed : Unit {0}
-unfolding copies taken mapped derived derive_fault creator_owner creator_group user users everyone high plan ace
+unfolding copies taken mapped derived derive_fault creator_owner creator_group user users everyone high system plan ace
+    made given parent creator handing_on
 computed = tt
 
 -- CI with a generic right or for the creator: an effective copy, and one to hand on
@@ -164,60 +192,20 @@ label_does_not_split_and_more = search rules
 
 -- whole descriptors
 
-parent : AclPart → AclPart → Descriptor
-parent sacl dacl = record { control = 0xbf14; rm = 0xff; owner = Some users; group = None; sacl = sacl; dacl = dacl }
-
-child : ℕ → AclPart → List AccessControlEntry → Descriptor
-child control sacl dacl = record {
-  control = control;
-  rm = 0;
-  owner = Some user;
-  group = Some everyone;
-  sacl = sacl;
-  dacl = acl.List dacl;
-}
-
 whole_descriptors : record {
-  null_dacl : derived (parent acl.Absent acl.Null) None (plan File) ≡ child 0x8404 acl.Absent [];
+  null_dacl : derived (parent acl.Absent acl.Null) None (plan File) ≡ made 0x8404 acl.Absent (acl.List []);
   no_copy_in_the_sacl : derived (parent (acl.List (ace kinds.Label 0x2 0x1 high ∷ [])) acl.Absent) None (plan File)
-      ≡ child 0x8404 acl.Absent [];
+      ≡ made 0x8404 acl.Absent (acl.List []);
   copy_in_the_sacl : derived
       (parent (acl.List (ace kinds.Label 0x1 0x1 high ∷ [])) (acl.List (ace kinds.Allow 0x1 0x1 users ∷ [])))
       None (plan File)
-      ≡ child 0x8c14 (acl.List (ace kinds.Label 0x10 0x1 high ∷ [])) (ace kinds.Allow 0x10 0x1 users ∷ []);
+      ≡ made 0x8c14 (acl.List (ace kinds.Label 0x10 0x1 high ∷ [])) (acl.List (ace kinds.Allow 0x10 0x1 users ∷ []));
   nothing_too_large : derive_fault (parent acl.Null acl.Null) None (plan Container) ≡ None;
 }
-unfolding computed parent child
+unfolding computed
 whole_descriptors = search rules
 
 -- beside a creator's descriptor
-
-system : SecurityId
-system = record { authority = 5; subs = 18 ∷ [] }
-
--- the container hands its first ACE on to files
-handing_on : Descriptor
-handing_on = parent acl.Absent (acl.List (ace kinds.Allow 0x3 0x1f01ff system ∷ []))
-
-creator : ℕ → AclPart → AclPart → Descriptor
-creator control sacl dacl = record {
-  control = control;
-  rm = 0xff;
-  owner = Some everyone;
-  group = None;
-  sacl = sacl;
-  dacl = dacl;
-}
-
-made : ℕ → AclPart → AclPart → Descriptor
-made control sacl dacl = record {
-  control = control;
-  rm = 0;
-  owner = Some user;
-  group = Some everyone;
-  sacl = sacl;
-  dacl = dacl;
-}
 
 taken_then_inherited_and_more : record {
   -- what is taken comes before the copies, and what the creator's object had inherited is not taken
@@ -257,7 +245,7 @@ taken_then_inherited_and_more : record {
       (acl.List (ace kinds.Allow 0x0 0x1f01ff user ∷ ace kinds.Allow 0xb 0x1000_0000 creator_owner
       ∷ ace kinds.Allow 0x13 0x1f01ff system ∷ []));
 }
-unfolding computed parent system handing_on creator made
+unfolding computed
 taken_then_inherited_and_more = search rules
 
 -- a creator's null SACL stays null, and keeps P; beside it the DACL is inherited
@@ -276,7 +264,7 @@ null_creators_sacl_and_more : record {
       ≡ made 0xa414 (acl.List [])
       (acl.List (ace kinds.Allow 0x0 0x120089 users ∷ ace kinds.Allow 0x10 0x1f01ff system ∷ []));
 }
-unfolding computed parent system handing_on creator made
+unfolding computed
 null_creators_sacl_and_more = search rules
 
 -- each generic right by itself splits
@@ -326,7 +314,7 @@ largest_acls : record {
   both_too_large : derive_fault (parent (acl.List (replicate 863 (for_files longest)))
       (acl.List (replicate 863 (for_files longest)))) None (plan File) ≡ Some (DerivedTooLarge Sacl);
 }
-unfolding computed parent longest shortest for_files
+unfolding computed longest shortest for_files
 largest_acls = search rules
 
 -- a plan's owner and its group are SIDs: each with one number too many
@@ -369,7 +357,7 @@ origins_rows : record {
       (plan Container)
       ≡ from_creator 1 false ∷ from_creator 1 true ∷ from_creator 2 true ∷ from_parent 0 false ∷ [];
 }
-unfolding computed parent from_parent system handing_on creator from_creator
+unfolding computed from_parent from_creator
 origins_rows = search rules
 
 -- nothing is inherited beside a protected ACL or a null one, and an ACL that is not there has no origins
@@ -383,7 +371,7 @@ origins_beside_protected_and_more : record {
   origins_of_a_sacl : new_origins Sacl (parent (acl.List (ace kinds.Label 0x1 0x1 high ∷ [])) acl.Null) None (plan File)
       ≡ from_parent 0 false ∷ [];
 }
-unfolding computed parent system handing_on creator from_creator from_parent
+unfolding computed from_creator from_parent
 origins_beside_protected_and_more = search rules
 
 -- the counts are told where there is room for both ACLs, and also where there is not
@@ -395,5 +383,5 @@ enough_room_and_more : record {
       (parent acl.Absent (acl.List (replicate 862 (for_files longest) ++ for_files shortest ∷ []))) None (plan File) 0 0
       ≡ Err (Derive (DerivedTooLarge Dacl));
 }
-unfolding computed parent system handing_on longest shortest for_files
+unfolding computed longest shortest for_files
 enough_room_and_more = search rules

@@ -39,6 +39,7 @@ use sd_view::SdView;
 /// assert!(rt; dacl[0] == AceOrigin { place: 1, from_creator: false, inherit_only: false });
 /// assert!(rt; dacl[1] == AceOrigin { place: 1, from_creator: false, inherit_only: true });
 /// ```
+#[tactic(auto, using(crate::proofs::OriginFacts::cells_told))]
 pub fn origins(
     parent: &SdView,
     creator: Option<&SdView>,

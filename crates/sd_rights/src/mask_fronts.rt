@@ -58,6 +58,7 @@ pub fn front_mask(text: &[u8]) -> Option<(u32, usize)>
 }
 
 // The same for the masks that most ACEs have.
+#[tactic(auto, unfolding(crate::specs::Rights::rights_reads, sd_text::specs::Names::run_of))]
 #[inline(always)]
 fn usual_mask(text: &[u8]) -> Option<(u32, usize)>
     ensures within { IfSome result (λ r. r.1 ≤ length text.now) }

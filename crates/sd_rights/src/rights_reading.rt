@@ -55,6 +55,7 @@ fn read_after_zero(text: &[u8]) -> Option<u32>
 }
 
 // The number below 2^32 that one digit or more write.
+#[tactic(auto, using(crate::proofs::MaskNumbers::number_is))]
 fn read_mask(base: u32, digits: &[u8]) -> Option<u32>
     requires low { 2 ≤ base }
     requires high { base ≤ 16 }

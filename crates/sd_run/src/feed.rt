@@ -6,9 +6,9 @@ ghost use Rattle.std.specs.List.{prefix_len};
 ghost use Rattle.sd_sink.specs.Sink.{SinkTold};
 ghost use Rattle.sd_token.specs.Token.{Compares, TokenShown};
 ghost use Rattle.sd_answer.specs.Answer.{answer, bound, is_error};
-ghost use Rattle.sd_run.specs.Lines.{ended, has_lf, lines};
+ghost use Rattle.sd_run.specs.Lines.{has_lf};
 ghost use Rattle.sd_answer.specs.LineEnd.{line_feed};
-ghost use Rattle.sd_run.specs.Inner.Running.{Answered, Failed, Feeds, HasRoom, RoseWithin, AfterBytes};
+ghost use Rattle.sd_run.specs.Inner.Running.{Answered, Closes, Failed, Feeds, HasRoom, RoseWithin, stands};
 ghost use Rattle.sd_answer.specs.LineInHand.{Holds, HoldsText, IsReady, PutsAnswer};
 ghost use Rattle.sd_run.specs.Told.{sink_of};
 
@@ -37,13 +37,10 @@ fn answer_line<W: Drain>(
     requires room { HasRoom state.old.report 1 }
     ensures answered { (token0 : TokenShown) (sink0 : SinkTold) (all : List (List ℕ)) (line : List ℕ)
         → HoldsText task.now.job state.old.line line
-        → Answered task.now token0 sink0 all
-        (record { state = state.old; token = token.old; sink = sink_of (W.told drain.old) })
+        → Answered task.now token0 sink0 all (stands state.old token.old (W.told drain.old))
         → MatchResult result
-        (λ _. Answered task.now token0 sink0 (all ++ line ∷ [])
-        (record { state = state.new; token = token.new; sink = sink_of (W.told drain.new) }))
-        (λ _. Failed task.now token0 sink0 all (all ++ line ∷ [])
-        (record { state = state.new; token = token.new; sink = sink_of (W.told drain.new) })) }
+        (λ _. Answered task.now token0 sink0 (all ++ line ∷ []) (stands state.new token.new (W.told drain.new)))
+        (λ _. Failed task.now token0 sink0 all (all ++ line ∷ []) (stands state.new token.new (W.told drain.new))) }
     ensures begun { IsOk result → Holds task.now.job state.new.line [] }
     ensures ready { IsOk result → IsReady state.new.line }
     ensures rose { RoseWithin 1 state.old.report state.new.report }
@@ -87,9 +84,8 @@ pub fn feed_all<W: Drain>(
 ) -> Result<bool, SinkFault>
     requires ready { IsReady state.old.line }
     requires room { HasRoom state.old.report (length piece.now) }
-    ensures fed { Feeds task.now piece.now
-        (record { state = state.old; token = token.old; sink = sink_of (W.told drain.old) })
-        (record { state = state.new; token = token.new; sink = sink_of (W.told drain.new) }) result }
+    ensures fed { Feeds task.now piece.now (stands state.old token.old (W.told drain.old))
+        (stands state.new token.new (W.told drain.new)) result }
     ensures ended { IfOk result (λ some. some ≡ has_lf piece.now) }
     ensures quiet { result ≡ Ok false → W.told drain.new ≡ W.told drain.old }
     ensures none_counted { result ≡ Ok false → state.new.report.lines ≡ state.old.report.lines }
@@ -181,14 +177,8 @@ pub fn finish<W: Drain>(
 ) -> Result<(), SinkFault>
     requires ready { IsReady state.old.line }
     requires room { HasRoom state.old.report 1 }
-    ensures finished { (token0 : TokenShown) (sink0 : SinkTold) (got : List ℕ)
-        → AfterBytes task.now token0 sink0 got
-        (record { state = state.old; token = token.old; sink = sink_of (W.told drain.old) })
-        → MatchResult result
-        (λ _. Answered task.now token0 sink0 (lines got)
-        (record { state = state.new; token = token.new; sink = sink_of (W.told drain.new) }))
-        (λ _. Failed task.now token0 sink0 (ended got) (lines got)
-        (record { state = state.new; token = token.new; sink = sink_of (W.told drain.new) })) }
+    ensures finished { Closes task.now (stands state.old token.old (W.told drain.old))
+        (stands state.new token.new (W.told drain.new)) result }
 {
     if state.line.is_untouched() {
         return Ok(());

@@ -1,13 +1,10 @@
 //! A run from the first read to the last flush.
 
-ghost use Rattle.std.specs.Prelude.{◌≡◌, ◌⊎◌, ◌<◌, ◌≤◌, ◌^◌, ℕ, List, length, true, IfOk, IsOk, MatchResult};
-ghost use Rattle.sd_token.specs.Token.{TokenShown};
-ghost use Rattle.sd_sink.specs.Sink.{SinkTold};
-ghost use Rattle.sd_run.specs.Told.{sink_of};
+ghost use Rattle.std.specs.Prelude.{◌≡◌, ◌⊎◌, ◌<◌, ◌≤◌, ◌^◌, length, true, IfOk, IsOk};
 ghost use Rattle.sd_answer.specs.Answer.{AnswersAreShort};
-ghost use Rattle.sd_run.specs.Lines.{AreBytes, LinesAreCut, ended, lines};
+ghost use Rattle.sd_run.specs.Lines.{AreBytes, LinesAreCut};
 ghost use Rattle.sd_run.specs.Splits.{AnswersSplit};
-ghost use Rattle.sd_run.specs.Inner.Running.{Answered, Failed, Feeds, HasRoom, RoseWithin, AfterBytes, ReadsPiece};
+ghost use Rattle.sd_run.specs.Inner.Running.{Closes, Feeds, HasRoom, RoseWithin, stands, ReadsPiece};
 ghost use Rattle.sd_answer.specs.LineInHand.{IsReady};
 ghost use Rattle.sd_run.specs.Outcome.{Outcome};
 
@@ -128,9 +125,8 @@ fn answer_piece<W: Drain>(
 ) -> Result<(), SinkFault>
     requires ready { IsReady state.old.line }
     requires room { HasRoom state.old.report (length piece.now) }
-    ensures fed { Feeds task.now piece.now
-        (record { state = state.old; token = token.old; sink = sink_of (W.told drain.old) })
-        (record { state = state.new; token = token.new; sink = sink_of (W.told drain.new) }) result }
+    ensures fed { Feeds task.now piece.now (stands state.old token.old (W.told drain.old))
+        (stands state.new token.new (W.told drain.new)) result }
     ensures bytes { AreBytes piece.now }
     ensures handed_on { IsOk result
         → ((W.told drain.new ≡ W.told drain.old) × (state.new.report.lines ≡ state.old.report.lines))
@@ -154,14 +150,8 @@ fn close<W: Drain>(
 ) -> Result<(), SinkFault>
     requires ready { IsReady state.old.line }
     requires room { HasRoom state.old.report 1 }
-    ensures closed { (token0 : TokenShown) (sink0 : SinkTold) (got : List ℕ)
-        → AfterBytes task.now token0 sink0 got
-        (record { state = state.old; token = token.old; sink = sink_of (W.told drain.old) })
-        → MatchResult result
-        (λ _. Answered task.now token0 sink0 (lines got)
-        (record { state = state.new; token = token.new; sink = sink_of (W.told drain.new) }))
-        (λ _. Failed task.now token0 sink0 (ended got) (lines got)
-        (record { state = state.new; token = token.new; sink = sink_of (W.told drain.new) })) }
+    ensures closed { Closes task.now (stands state.old token.old (W.told drain.old))
+        (stands state.new token.new (W.told drain.new)) result }
     ensures flushed { IsOk result → (W.told drain.new).flushed ≡ true }
 {
     finish(task, state, token, drain)?;

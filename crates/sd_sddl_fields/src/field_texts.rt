@@ -64,6 +64,7 @@ pub fn front_from_text(text: &[u8]) -> Option<AclFront>
     Some(AclFront { flags, null })
 }
 
+#[tactic(auto, using(std::proofs::lemmas::Bool::Decides::nat_tests, std::proofs::lemmas::List::take_rest))]
 fn ends_with_null(text: &[u8]) -> bool
     ensures { result ≡ ends_with_null text.now }
 {

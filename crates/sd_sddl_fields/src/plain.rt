@@ -28,6 +28,7 @@ pub fn is_plain_inside(byte: u8) -> bool
 }
 
 /// How many bytes at the front only go onto the text of a field inside parentheses: all up to the first other one.
+#[tactic(auto, using(std::proofs::lemmas::List::Folds::list_all_more))]
 #[inline(never)]
 pub fn plain_inside(text: &[u8]) -> usize
     ensures within { result ≤ length text.now }
@@ -50,6 +51,7 @@ pub fn is_plain_text(byte: u8) -> bool
 }
 
 /// How many bytes at the front are no parentheses, colons, semicolons or blanks: all up to the first of these.
+#[tactic(auto, using(std::proofs::lemmas::List::Folds::list_all_more))]
 pub fn plain_text(text: &[u8]) -> usize
     ensures within { result ≤ length text.now }
     ensures plain { list_all is_plain_text (take result text.now) ≡ true }

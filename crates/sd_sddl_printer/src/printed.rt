@@ -63,20 +63,13 @@ pub fn print_sddl<P: Print>(view: &SdView<'_>, domain: Option<&Sid>, numeric: bo
         domain: domain.copied(),
         numeric,
     };
-    print_parts(&naming, view, out);
-}
-
-fn print_parts<P: Print>(naming: &Naming, view: &SdView<'_>, out: &mut P)
-    ensures printed { Prints (P.told out.old) (P.told out.new) (sddl naming.now view.now) }
-    ensures limits { IsDescriptor view.now }
-{
     let control = view.control();
-    print_sid(naming, b"O:", view.owner_in_place(), out);
-    print_sid(naming, b"G:", view.group_in_place(), out);
+    print_sid(&naming, b"O:", view.owner_in_place(), out);
+    print_sid(&naming, b"G:", view.group_in_place(), out);
     let dacl_flags = AclFlags::of(Which::Dacl, control);
     let sacl_flags = AclFlags::of(Which::Sacl, control);
-    print_acl(naming, b"D:", dacl_flags, &view.dacl(), out);
-    print_acl(naming, b"S:", sacl_flags, &view.sacl(), out);
+    print_acl(&naming, b"D:", dacl_flags, &view.dacl(), out);
+    print_acl(&naming, b"S:", sacl_flags, &view.sacl(), out);
 }
 
 // Prints a SID behind its head; nothing where there is none.

@@ -1,6 +1,6 @@
 -- Which parts are given, and which ACL is open, in the middle of a line.
 use Rattle.std.proofs.Common.{◌≡◌, ℕ, List, Option, Some, None, Bool, true, false, refl, sym, ap, ◌∙◌, subst}
-use Rattle.std.proofs.Common.{true≢false}
+use Rattle.std.proofs.Common.{arith, true≢false}
 use Rattle.std.specs.Prelude.{if◌then◌else◌, ◌||◌, not, IfOk, Result, Ok, Err}
 use Rattle.std.proofs.lemmas.Bool.{or_left, or_right, not_from_false}
 use Rattle.sd_sid.specs.Sid.{SecurityId}
@@ -9,12 +9,12 @@ use Rattle.sd_parts.proofs.laws.PartLaws.{same-is, same-self}
 use Rattle.sd_sddl_builder.specs.Line.{part_of_head, same_head}
 use Rattle.sd_sddl_builder.specs.FoldedReading.{FieldsRead, nothing_read, take_field}
 use Rattle.sd_text.specs.Chains.{and_then, unless}
-use Rattle.sd_sddl_fields.specs.Held.{Held, held_text}
+use Rattle.sd_sddl_fields.specs.Held.{Held, held_text, no_text}
 use Rattle.sd_sddl_reader.specs.Inner.Progress.{Seen, ended_with, is_seen, state_of, with_head}
 use Rattle.sd_sddl_reader.proofs.Steps.{seen_with}
 use Rattle.sd_sddl_builder.proofs.laws.FieldParts.{if-ok, lacks-taken, open-front, open-taken}
 use Rattle.sd_sddl_builder.specs.FieldReading.{CanTake, HasReadFields, Lacks}
-use Rattle.sd_sddl_reader.specs.Inner.Reads.{Fits, LineHasRead, is_at_front, is_in_acl}
+use Rattle.sd_sddl_reader.specs.Inner.Reads.{Fits, IsCalm, LineHasRead, is_at_front, is_in_acl}
 use Rattle.sd_sddl_builder.specs.declared.fault.SddlFault.{SddlFault}
 use Rattle.sd_sddl_builder.specs.declared.slot.AceField.{AceField}
 use Rattle.sd_sddl_builder.specs.declared.slot.AceField.TheVariants as field
@@ -34,6 +34,9 @@ pub taken : (fault : Option SddlFault) (t u : FieldsRead) (next : FieldsRead →
     → (fault ≡ None) × (next t ≡ Ok u)
 taken None t u next e = (refl, sym e)
 taken (Some f) t u next e = absurd cc
+
+pub calm-cleared : (s : SddlReader) → s.field ≡ no_text → IsCalm s
+calm-cleared s e = record { held = rw e (record { clean = refl; fits = omega arith }); gap = λ _. rw e refl }
 
 -- 2. Places.
 

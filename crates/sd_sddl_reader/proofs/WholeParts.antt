@@ -17,13 +17,15 @@ use Rattle.sd_sddl_fields.specs.Held.{is_plain_text, no_text}
 use Rattle.sd_sddl_fields.proofs.laws.HeldRuns.{run-fits}
 use Rattle.sd_text.specs.Chains.{unless}
 use Rattle.sd_sddl_builder.specs.Line.{begins_with_colon, byte, head_at, head_of, pieces_from}
-use Rattle.sd_sddl_builder.specs.FoldedReading.{FieldsRead, take_field}
+use Rattle.sd_sddl_builder.specs.FoldedReading.{FieldsRead, take_field, with_owner_or_group}
 use Rattle.sd_sddl_reader.specs.Inner.Progress.{Seen, ended_with, is_inside, is_seen, rest_answer, state_of, with_head}
 use Rattle.sd_sddl_builder.specs.FieldReading.{HasReadFields}
-use Rattle.sd_sddl_reader.specs.Inner.Reads.{Feeds, IsFresh, IsReader, LineHasRead, Steps, answer_at}
-use Rattle.sd_sddl_reader.specs.Inner.WholePart.{HeadAfter, HeadBehind, IsPlainText}
+use Rattle.sd_sddl_reader.specs.Inner.Reads.{EndsPart, Feeds, IsFresh, IsReader, LineHasRead, NotesHead, Steps}
+use Rattle.sd_sddl_reader.specs.Inner.Reads.{TakesWhole, answer_at}
+use Rattle.sd_sddl_reader.specs.Inner.WholePart.{HeadAfter, HeadBehind, IsBehindBlanks, IsPlainText, SidBefore}
 use Rattle.sd_sddl_builder.specs.declared.fault.SddlFault.{SddlFault}
 use Rattle.sd_sddl_builder.specs.declared.fault.SddlFault.TheVariants as fault
+use Rattle.sd_sddl_builder.specs.declared.reading.FieldReader.{FieldReader}
 use Rattle.sd_sddl_builder.specs.declared.slot.AceField.TheVariants as field
 use Rattle.sd_sddl_builder.specs.declared.slot.Head.{Head}
 use Rattle.sd_sddl_builder.specs.declared.slot.Slot.{Slot}
@@ -34,6 +36,7 @@ use Rattle.sd_sddl_reader.specs.declared.reader.SddlReader.{SddlReader}
 use Rattle.sd_sddl_reader.proofs.FieldTexts.{same_blank, same_text, with_held}
 use Rattle.sd_sddl_reader.proofs.FitLaws.{fits-first, fits-head, lacks-ended, none-ended, unseen-head}
 use Rattle.sd_sddl_reader.proofs.Runs.{blank-is, not_true, nothing-held, plain-is}
+use Rattle.sd_sddl_builder.proofs.laws.WholeTexts.{whole-readable}
 use Rattle.sd_sddl_builder.proofs.laws.Heads.{no-colon, not_letter, no_head as unheaded}
 use Rattle.sd_sddl_reader.proofs.Steps.{begin-noted, open_first, outside_text}
 use Rattle.sd_sddl_reader.proofs.WholeFields.{fed-on, reader-at, whole-held}
@@ -147,23 +150,6 @@ text-then dm so tw se r p t (b ∷ bs) letter more plain fits all n =
 
 -- 3. A head.
 
--- the part at hand was read, and nothing is held of it
-pub record EndsPart (s : SddlReader) (before : List ℕ) (e : SddlReader) (after : List ℕ) : Type 0 where
-  pub read : (t : FieldsRead) → LineHasRead s before t → (u : FieldsRead)
-      × (e.fault ≡ None → HasReadFields e.fields after u)
-      × (unless e.fault u ≡ ended_with s.fields.domain s.state s.field (unless s.fault t))
-  pub cleared : e.field ≡ no_text
-  pub domain : e.fields.domain ≡ s.fields.domain
-  pub same : e ≡ record s { field = e.field; fault = e.fault; fields = e.fields }
-
--- a head was noted
-pub record NotesHead (e : SddlReader) (head : Head) (n : SddlReader) : Type 0 where
-  pub state : n.state ≡ state_of head
-  pub twice : n.twice ≡ (e.twice || is_seen e.seen head)
-  pub seen : n.seen ≡ with_head e.seen head
-  pub fault : n.fault ≡ (if is_seen e.seen head then Some fault.PartTwice else e.fault)
-  pub same : n ≡ record e { state = n.state; twice = n.twice; seen = n.seen; fault = n.fault }
-
 pub head-steps : (s e n : SddlReader) (before after : List ℕ) (letter : ℕ) (head : Head) → is_inside s.state ≡ false
     → IsHeld s.field → head_of letter ≡ Some head → EndsPart s before e after → NotesHead e head n
     → Steps s before (letter ∷ 58 ∷ []) n after
@@ -203,15 +189,6 @@ head-steps s e n before after letter head here held names ends notes = λ t k.
     )
 
 -- 4. A part that is whole.
-
--- a field was read
-pub record TakesWhole (s : SddlReader) (before : List ℕ) (sl : Slot) (text : List ℕ) (e : SddlReader) (after : List ℕ)
-    : Type 0 where
-  pub read : (t : FieldsRead) → HasReadFields s.fields before t → (u : FieldsRead)
-      × (e.fault ≡ None → HasReadFields e.fields after u)
-      × (unless e.fault u ≡ take_field s.fields.domain t sl text)
-  pub domain : e.fields.domain ≡ s.fields.domain
-  pub same : e ≡ record s { fault = e.fault; fields = e.fields }
 
 -- a step over what stands before a rest, after which nothing is held
 pub record StepsTo (s : SddlReader) (before text : List ℕ) (n : SddlReader) (after rest : List ℕ) : Type 0 where
@@ -336,3 +313,45 @@ feeds-to s n before text after rest none reader over =
           fed-on s n before after domain over.bytes rest text (fed ++ text) none over.pending over.steps over.stands
           (fed, h, refl);
     }
+
+-- an owner or a group, and the head behind it
+pub feeds-part : (s e n : SddlReader) (before after t rest text : List ℕ) (p : SidPart) (head : Head)
+    → s.state ≡ state.Sid p → IsFresh s → IsReader s before → HeadBehind t head rest text
+    → TakesWhole s before (slot.Sid p) t e after → NotesHead e head n → Feeds s before text n after rest
+feeds-part s e n before after t rest text p head here f reader h w notes =
+    feeds-to s n before text after rest f.none reader
+    (steps-sid s e n before after t rest text p head here f h w notes)
+
+-- the same where its SID is known
+pub feeds-sid : (s : SddlReader) (fields : FieldReader) (n : SddlReader) (before after rest text : List ℕ)
+    (p : SidPart) (head : Head) (sid : SecurityId)
+    → s.state ≡ state.Sid p → IsFresh s → IsReader s before → SidBefore sid head rest text
+    → ((r : FieldsRead) → HasReadFields s.fields before r → HasReadFields fields after (with_owner_or_group p r sid))
+    → fields.domain ≡ s.fields.domain → NotesHead (record s { fields = fields }) head n
+    → Feeds s before text n after rest
+unfolding take_field
+feeds-sid s fields n before after rest text p head sid here f reader at held domain notes =
+    let readable = whole-readable at.field (text-inside at.field at.before.whole.plain) at.before.whole.fits in
+    feeds-part s (record s { fields = fields }) n before after at.field rest text p head here f reader at.before
+    (record {
+      read = λ r k. (
+        with_owner_or_group p r sid,
+        λ none. held r k,
+        rw (f.clear, readable, at.reads s.fields.domain) refl,
+      );
+      domain = domain;
+      same = refl;
+    }) notes
+
+-- a SID's text at the front of a text, and a head behind the blanks that follow it
+pub head-behind : (t mid between text rest : List ℕ) (letter : ℕ) (head : Head) → list_all is_sid_byte t ≡ true
+    → length t ≤ 183 → text ≡ t ++ mid → IsBehindBlanks between mid → between ≡ letter ∷ 58 ∷ rest
+    → head_of letter ≡ Some head → HeadBehind t head rest text
+head-behind t mid between text rest letter head plain fits stands b next names = record {
+  whole = record { plain = sid-bytes-text t plain; fits = fits };
+  blanks = b.blanks;
+  blank = b.blank;
+  letter = letter;
+  stands = stands ∙ ap (λ (u : List ℕ). t ++ u) (b.stands ∙ ap (λ (u : List ℕ). b.blanks ++ u) next);
+  names = names;
+}

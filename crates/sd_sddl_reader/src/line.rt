@@ -7,10 +7,12 @@ ghost use Rattle.std.specs.List.{list_all};
 ghost use Rattle.sd_sddl_fields.specs.Held.{is_plain_text};
 ghost use Rattle.sd_sddl_reader.specs.Inner.Progress.{is_in_field, is_plain_outside, state_of};
 ghost use Rattle.sd_sddl_fields.specs.FieldTexts.{is_blank};
-ghost use Rattle.sd_sddl_reader.specs.Inner.WholePart.{AccountBefore, FrontBefore, HeadAfter, IsBehindBlanks};
-ghost use Rattle.sd_sddl_reader.specs.Inner.WholePart.{IsPlainText, NamedBefore};
+ghost use Rattle.sd_sddl_reader.specs.Inner.WholePart.{FrontBefore, HeadAfter, IsBehindBlanks, IsPlainText};
+ghost use Rattle.sd_sddl_reader.specs.Inner.WholePart.{SidBefore};
 ghost use Rattle.sd_sddl_builder.specs.Line.{head_of};
 ghost use Rattle.sd_sddl_reader.specs.Inner.Heads.{have_heads};
+ghost use Rattle.sd_sid.specs.Account.{account_sid};
+ghost use Rattle.sd_sid.specs.SidText.{known_sid};
 ghost use Rattle.sd_text.specs.Limits.{most_field};
 
 use sd_alias::WellKnown;
@@ -101,6 +103,7 @@ fn is_plain_outside(byte: u8) -> bool
 }
 
 /// How many bytes at the front only go onto the text of a field outside parentheses: all up to the first other one.
+#[tactic(auto, using(std::proofs::lemmas::List::Folds::list_all_more))]
 pub fn plain_outside(text: &[u8]) -> usize
     ensures within { result ≤ length text.now }
     ensures plain { list_all is_plain_outside (take result text.now) ≡ true }
@@ -128,6 +131,7 @@ pub fn front_head(text: &[u8]) -> Option<(u8, Head, &[u8])>
 }
 
 /// How many bytes at the front are blanks.
+#[tactic(auto, using(std::proofs::lemmas::List::Folds::list_all_more))]
 #[inline(always)]
 pub fn blanks(text: &[u8]) -> usize
     ensures within { result ≤ length text.now }
@@ -150,6 +154,7 @@ fn is_in_field(byte: u8) -> bool
 }
 
 /// How many bytes at the front are in one field, for a text inside parentheses: all up to the first that ends it.
+#[tactic(auto, using(std::proofs::lemmas::List::Folds::list_all_more))]
 #[inline(always)]
 pub fn in_field(text: &[u8]) -> usize
     ensures within { result ≤ length text.now }
@@ -206,7 +211,7 @@ pub fn next_head(text: &[u8]) -> Option<(&[u8], Head, &[u8])>
 /// may stand before the head. Where it is `None`, `next_head` decides. A domain that is kept is not read again.
 #[inline(always)]
 pub fn next_account<'a>(text: &'a [u8], kept: &KeptDomains) -> Option<(Account, Head, &'a [u8])>
-    ensures { IfSome result (λ r. AccountBefore r.0 r.1 r.2.now text.now) }
+    ensures { IfSome result (λ r. SidBefore (account_sid r.0) r.1 r.2.now text.now) }
 {
     let (account, _, behind) = kept.front_account(text)?;
     let (_, head, rest) = front_head(behind_blanks(behind))?;
@@ -217,7 +222,7 @@ pub fn next_account<'a>(text: &'a [u8], kept: &KeptDomains) -> Option<(Account, 
 /// Blanks may stand before the head. Where it is `None`, `next_head` decides.
 #[inline(always)]
 pub fn next_named(text: &[u8]) -> Option<(&'static WellKnown, Head, &[u8])>
-    ensures found { IfSome result (λ r. NamedBefore r.0.now r.1 r.2.now text.now) }
+    ensures found { IfSome result (λ r. SidBefore (known_sid r.0.now) r.1 r.2.now text.now) }
     ensures count { IfSome result (λ r. r.0.now.count ≤ 6) }
 {
     let (name, end) = front_name(text)?;

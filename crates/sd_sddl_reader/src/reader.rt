@@ -1,7 +1,7 @@
 //! A line, read as it comes: byte by byte, or at once what is whole in a piece.
 
 ghost use Rattle.std.specs.Prelude.{◌≡◌, ◌≤◌, ◌-◌, ℕ, List, [], ◌∷◌, ◌++◌, codes, length, take, ◌||◌, if◌then◌else◌};
-ghost use Rattle.std.specs.Prelude.{true, false, Option, Some, None, Ok, Err, IfOk, IfSome, OnErr, OnOk, MatchOption};
+ghost use Rattle.std.specs.Prelude.{true, false, Option, Some, None, Ok, Err, IfOk, IfSome, OnErr, OnOk};
 ghost use Rattle.std.specs.Prelude.{MatchResult};
 ghost use Rattle.std.specs.Option.{is_some, option_copied};
 ghost use Rattle.sd_sid.specs.Sid.{IsSid, SecurityId};
@@ -13,8 +13,7 @@ ghost use Rattle.sd_sddl_builder.specs.FoldedReading.{FieldsRead, finished, take
 ghost use Rattle.sd_text.specs.Chains.{and_then, unless};
 ghost use Rattle.sd_sddl_builder.specs.Meaning.{means};
 ghost use Rattle.sd_sddl_builder.specs.FieldReading.{CanTake, HasReadFields};
-ghost use Rattle.sd_sddl_reader.specs.Inner.WholePart.{IsPlainText};
-ghost use Rattle.sd_sddl_reader.specs.Inner.Progress.{ended_with, is_inside, is_seen, state_of, with_head};
+ghost use Rattle.sd_sddl_reader.specs.Inner.Progress.{is_inside, state_of};
 
 use crate::line::{State, blanks, head_of, in_field, plain_outside, state_of};
 use sd_buffer::SdBuf;
@@ -52,8 +51,9 @@ pub struct SddlReader {
 impl SddlReader {
     ghost use Rattle.sd_sddl_reader.specs.SddlReading.{IsReading, ReadsSddl};
     ghost use Rattle.sd_sddl_builder.specs.FieldReading.{Ends, HasReadFields};
-    ghost use Rattle.sd_sddl_reader.specs.Inner.Reads.{CanStep, Feeds, LineHasRead, IsCalm, IsFresh, IsReader, IsText};
-    ghost use Rattle.sd_sddl_reader.specs.Inner.Reads.{Reads, StepsOn, StepsOver, StepsText, answer_at};
+    ghost use Rattle.sd_sddl_reader.specs.Inner.Reads.{CanStep, Feeds, LineHasRead, IsCalm, IsReader, IsText};
+    ghost use Rattle.sd_sddl_reader.specs.Inner.Reads.{EndsPart, NotesHead, Reads, StepsOn, StepsOver, StepsText};
+    ghost use Rattle.sd_sddl_reader.specs.Inner.Reads.{answer_at};
 
     /// A reader that was fed nothing.
     pub fn new(domain: Option<Sid>, buf: &mut SdBuf) -> Self
@@ -197,18 +197,7 @@ impl SddlReader {
     /// Notes a head. After a second head with the same letter, the reader only checks the shape and builds nothing
     /// more.
     pub(crate) fn note_head(&mut self, head: Head)
-        ensures state { self.new.state ≡ state_of head }
-        ensures twice { self.new.twice ≡ (self.old.twice || is_seen self.old.seen head) }
-        ensures seen { self.new.seen ≡ with_head self.old.seen head }
-        ensures fault { self.new.fault
-            ≡ (if is_seen self.old.seen head then Some SddlFault.PartTwice else self.old.fault) }
-        ensures same { self.new
-            ≡ record self.old {
-              state = self.new.state;
-              twice = self.new.twice;
-              seen = self.new.seen;
-              fault = self.new.fault;
-            } }
+        ensures { NotesHead self.old head self.new }
     {
         let part = head.into();
         if self.seen.get(part) {
@@ -261,14 +250,7 @@ impl SddlReader {
     fn end_part(&mut self, buf: &mut SdBuf)
         requires here { is_inside self.old.state ≡ false }
         requires ready { CanStep self.old buf.old }
-        ensures read { (t : FieldsRead) → LineHasRead self.old buf.old t → (u : FieldsRead)
-            × (self.new.fault ≡ None → HasReadFields self.new.fields buf.new u)
-            × (unless self.new.fault u
-            ≡ ended_with self.old.fields.domain self.old.state self.old.field (unless self.old.fault t)) }
-        ensures cleared { self.new.field ≡ no_text }
-        ensures domain { self.new.fields.domain ≡ self.old.fields.domain }
-        ensures same { self.new
-            ≡ record self.old { field = self.new.field; fault = self.new.fault; fields = self.new.fields } }
+        ensures { EndsPart self.old buf.old self.new buf.new }
     {
         match self.state {
             State::Sid(part) => self.end_field(buf, Slot::Sid(part)),

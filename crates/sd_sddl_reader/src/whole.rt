@@ -1,13 +1,11 @@
 //! What is whole in a piece of a line, taken at once.
 
-ghost use Rattle.std.specs.Prelude.{◌≡◌, ◌≤◌, true, false, Option, Some, None, MatchOption};
-ghost use Rattle.sd_sddl_fields.specs.Held.{no_text};
-ghost use Rattle.sd_sddl_builder.specs.FoldedReading.{FieldsRead, take_field};
+ghost use Rattle.std.specs.Prelude.{◌≡◌, true, false, Option, Some, None, MatchOption};
+ghost use Rattle.sd_sddl_builder.specs.FoldedReading.{FieldsRead};
 ghost use Rattle.sd_sddl_builder.specs.FieldReading.{CanTake, HasReadFields};
-ghost use Rattle.sd_text.specs.Chains.{unless};
 ghost use Rattle.sd_sddl_reader.specs.Inner.WholePart.{IsPlainText};
 ghost use Rattle.sd_sddl_reader.specs.Inner.Progress.{is_inside};
-ghost use Rattle.sd_sddl_reader.specs.Inner.Reads.{Feeds, IsFresh, IsReader};
+ghost use Rattle.sd_sddl_reader.specs.Inner.Reads.{Feeds, IsFresh, IsReader, TakesWhole};
 
 use crate::line::{
     State, behind_blanks, first_parenthesis, front_head, next_account, next_head, next_named,
@@ -255,11 +253,7 @@ impl SddlReader {
         requires whole { IsPlainText text.now }
         requires held { (t : FieldsRead) × HasReadFields self.old.fields buf.old t × CanTake slot t }
         requires clear { self.old.fault ≡ None }
-        ensures read { (t : FieldsRead) → HasReadFields self.old.fields buf.old t → (u : FieldsRead)
-            × (self.new.fault ≡ None → HasReadFields self.new.fields buf.new u)
-            × (unless self.new.fault u ≡ take_field self.old.fields.domain t slot text.now) }
-        ensures domain { self.new.fields.domain ≡ self.old.fields.domain }
-        ensures same { self.new ≡ record self.old { fault = self.new.fault; fields = self.new.fields } }
+        ensures { TakesWhole self.old buf.old slot text.now self.new buf.new }
     {
         if let Err(found) = self.fields.take_readable(buf, slot, text) {
             self.fault = Some(found);

@@ -197,6 +197,7 @@ impl<M: Memory> Entries<M> {
 // The first block from a place on that has this key, or the last, and which of its keys are this one. That it compares
 // each block once, and none behind the one that it gives, is for the reader to see: `blocks_meet` counts up to that
 // one.
+#[tactic(auto, using(crate::proofs::BlockLemmas::lacks_more, crate::proofs::BlockLemmas::lacks_none))]
 #[inline(always)]
 fn next_block(keys: &[u32], from: usize, key: u32) -> (usize, u64)
     requires within { from + 16 ≤ length keys.now }

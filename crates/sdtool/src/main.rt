@@ -4,10 +4,9 @@
 
 ghost use Rattle.std.specs.Prelude.{◌≡◌, ◌⊎◌, ◌==◌, codes, if◌then◌else◌, MatchResult};
 ghost use Rattle.std.specs.Process.{exit_status};
-ghost use Rattle.sd_command_line.specs.FaultLines.{fault_line};
+ghost use Rattle.sd_command.specs.FaultLines.{fault_line};
 
-use sd_command::command;
-use sd_command_line::{NO_MEMORY_LINE, NO_MEMORY_STATUS, USAGE_LINE, USAGE_STATUS};
+use sd_command::{NO_MEMORY_LINE, NO_MEMORY_STATUS, USAGE_LINE, USAGE_STATUS, command};
 use sd_run::{FromRead, HeldAnswers, InputAhead, ToWrite};
 use std::cell::Cell;
 use std::env::{self, Env};

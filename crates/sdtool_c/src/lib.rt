@@ -3,6 +3,7 @@
 
 mod build;
 mod checks;
+mod columns;
 mod conversions;
 mod derivations;
 mod edits;

@@ -4,6 +4,7 @@ package main
 
 import (
 	"bufio"
+	"encoding/binary"
 	"encoding/hex"
 	"errors"
 	"fmt"
@@ -280,6 +281,10 @@ func ofOrigins(origins []sdtool.Origin) string {
 	return "[" + strings.Join(all, ";") + "]"
 }
 
+var conversions = map[string]sdtool.Conversion{
+	"to-sddl": sdtool.ToSDDL, "from-sddl": sdtool.FromSDDL, "normalize": sdtool.Normalize,
+}
+
 // answered is the answer to a job. A fault of its words comes first.
 func answered(job string, r *reader) (string, error) {
 	switch job {
@@ -379,6 +384,28 @@ func answered(job string, r *reader) (string, error) {
 			} else {
 				said = append(said, ofVerdict(answer.Verdict))
 			}
+		}
+		return strings.Join(said, " | "), err
+	case "convert-many":
+		kind, numeric := conversions[r.word()], false
+		if kind == sdtool.ToSDDL {
+			numeric = r.flag()
+		}
+		domain, column := r.sidOrNone(), sdtool.Column{Data: r.bytes()}
+		for ends := r.bytes(); len(ends) > 0; ends = ends[8:] {
+			column.Offsets = append(column.Offsets, int64(binary.LittleEndian.Uint64(ends)))
+		}
+		if r.fault != nil {
+			return "", nil
+		}
+		made, faults, err := column.Convert(kind, domain, numeric)
+		var said []string
+		for row := 0; row+1 < len(made.Offsets); row++ {
+			answer := ofBytes(made.Data[made.Offsets[row]:made.Offsets[row+1]])
+			if faults[row] != nil {
+				answer = ofFault(faults[row]) + strings.TrimPrefix(answer, "-")
+			}
+			said = append(said, answer)
 		}
 		return strings.Join(said, " | "), err
 	case "reasons":

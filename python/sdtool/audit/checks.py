@@ -7,6 +7,7 @@ from sdtool.audit.findings import NO_MARK, Answer, Because, Mark, answer_of, unk
 from sdtool.audit.library import (ALLOWS, DENIES, INHERITED, MOST_SIDS, OTHERS, Ace, AnswersFault, Decided, Descriptor,
                                   Got, Reasons, Refusal, Token, granted, granted_by_each, layouts, mapped, text_of)
 from sdtool.audit.masks import MAPPINGS
+from sdtool.audit.shares import Limit
 from sdtool.audit.sources.items import BY_PATH, UNTOLD, WITHOUT_OWNER
 from sdtool.audit.windows import names as sids
 from sdtool.audit.windows import rights
@@ -70,8 +71,10 @@ class Checks:
     """Checks of many descriptors, asked together: a token that many need in one run, and the other tokens one by
     one."""
 
-    def __init__(self, form: str, texts: Sequence[str], kind: str, mask: int, domain: str) -> None:
+    def __init__(self, form: str, texts: Sequence[str], kind: str, mask: int, domain: str,
+                 limit: Optional[Limit] = None) -> None:
         self._form, self._texts, self._kind, self._mask, self._domain = form, texts, kind, mask, domain
+        self._limit = limit
         self._asked: Dict[Tuple[Token, str], Dict[int, Optional[int]]] = {}
         self._reasons = Reasons(form, texts, kind, domain)
         self._types: Dict[int, ObjectTypes] = {}
@@ -134,7 +137,11 @@ class Checks:
     def mask(self, at: int, token: Token, object_type: str = "") -> int:
         found = self._asked[token, object_type][at]
         assert found is not None
-        return found
+        return found & self._limit.mask(token) if self._limit else found
+
+    def taken(self, at: int, token: Token, mask: int) -> int:
+        """The rights of a mask that the object gives, and the share takes away by which it is reached."""
+        return (self._asked[token, ""][at] or 0) & mask & ~self._limit.mask(token) if self._limit else 0
 
     def got(self, at: int, token: Token, mask: int) -> Got:
         """What a token gets of some rights."""
@@ -209,14 +216,14 @@ class Share(NamedTuple):
     object_type: str
 
 
-def shares_of(got: Got, kind: str, text: str, had: int = 0, asked: int = 0) -> List[Share]:
+def shares_of(got: Got, kind: str, text: str, names: sids.Names, had: int = 0, asked: int = 0) -> List[Share]:
     """What somebody gets of the rights that were asked about, who had some more: those by object type say so."""
     found = []
     if got.mask:
         claimed, words = rights.level_of(got.mask, had or got.mask, asked or got.mask, kind)
         found.append(Share(words, claimed, text, got.mask, ""))
     for object_type, mask in got.by_type:
-        bound = f"only for object type {sids.object_type(object_type)}"
+        bound = f"only for object type {names.object_type(object_type)}"
         text_of_type = f"{bound}; {text}" if text else bound
         found.append(Share(rights.short_text(mask, kind), mask, text_of_type, mask, object_type))
     return found

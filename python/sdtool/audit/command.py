@@ -2,13 +2,14 @@
 import functools
 import gc
 import os
+import sys
 from typing import Any, List, Optional, Sequence, Tuple
 
 import click
 
 import sdtool
 from sdtool.audit import files, inquiry, library, stopping
-from sdtool.audit.directory import forest
+from sdtool.audit.directory import asking, forest
 from sdtool.audit.directory.folders import Folders
 from sdtool.audit.directory.groups import read_groups
 from sdtool.audit.directory.machines import Machines
@@ -17,7 +18,8 @@ from sdtool.audit.engine import engine_of
 from sdtool.audit.findings import SEVERITIES
 from sdtool.audit.inquiry import Inquiry
 from sdtool.audit.library import WordsFault
-from sdtool.audit.pool import processors
+from sdtool.audit.live.address import address_of, is_address, refuse_secret
+from sdtool.audit.live.talking import known
 from sdtool.audit.progress import Bar
 from sdtool.audit.questions import risks
 from sdtool.audit.questions.can import Can
@@ -31,6 +33,7 @@ from sdtool.audit.reports.baseline import Baseline, read_report
 from sdtool.audit.reports.shown import say
 from sdtool.audit.sources.items import WITHOUT_OWNER
 from sdtool.audit.sources.opening import STANDARD_INPUT, OpeningFault
+from sdtool.audit.sources.places import through_of
 from sdtool.audit.store import cache
 from sdtool.audit.windows import names, rights
 from sdtool.audit.windows.names import Names
@@ -66,7 +69,8 @@ def cli() -> None:
     RIGHT is change, write, delete, permissions, owner, read, another word of 'sdtool-audit rights', a name of SDDL or a
     mask. SOURCE is a file, a folder, a file that --into made, or '-': CSV, JSON, XML, YAML, what Get-Acl, icacls,
     secedit, reg, sc, wevtutil, ldapsearch, smbcacls, samba-tool or getfattr wrote, or lines of SDDL, hex or base64, in
-    any encoding, compressed or not.
+    any encoding, compressed or not; or the address of a server: smb://SERVER/SHARE, ldap://SERVER, reg://SERVER/HKLM,
+    svc://SERVER.
 
     An object that can't be read is in every report as unknown, with the reason.
 
@@ -106,7 +110,8 @@ def _abilities_first(given: Sequence[str], common: Common) -> Tuple[Tuple[str, .
 @cli.command(short_help="Who gets any of the rights: RIGHT.. SOURCE..")
 @click.argument("words", nargs=-1, metavar="RIGHT.. SOURCE..")
 @click.option("--groups", metavar="FILE",
-              help="Who is in which group: an LDIF, or lines of GROUP,MEMBER,..; groups are then expanded.")
+              help="Who is in which group: an LDIF, lines of GROUP,MEMBER,.., a directory that is a source too, or a "
+              "database with one; groups are then expanded.")
 @click.option("--most-members", default=1000, type=click.IntRange(0), show_default=True, metavar="N",
               help="A group with more "
               "members isn't expanded.")
@@ -125,14 +130,19 @@ def who(common: Common, words: Sequence[str], groups: Optional[str], most_member
     """
     abilities, paths = _abilities_first(words, common)
     wanted, paths = (None, paths) if abilities else _rights_first(words, common)
-    check_files(common, paths, files.named("--groups", groups))
-    common = inquiry.informed(common, paths)
+    asks_groups = groups is not None and is_address(groups)
+    if asks_groups and groups not in paths:
+        raise OpeningFault(f"--groups {groups}: name the directory as a source too")
+    check_files(common, paths, () if asks_groups else files.named("--groups", groups))
+    common, paths = inquiry.informed(common, paths)
+    groups = paths[0] if asks_groups else groups
     trust = names.Trust(_sids(trusted, common.context.domain), common.domains)
     known = read_groups(groups, common.context.domain) if groups else None
     common = common.saying(*(f"--groups: {group} is not whole: the file has a range of its members"
                              for group in (known.cut if known else ())))
     if known:
-        named = Names(common.context.names.given, {**common.context.names.of_sources, **known.names})
+        named = Names(common.context.names.given, {**common.context.names.of_sources, **known.names},
+                      common.context.names.types)
         common = common._replace(context=common.context._replace(names=named))
     listed = Listing(known, most_members, trust, all_trustees)
     if wanted is None:
@@ -156,12 +166,20 @@ def can(common: Common, token: str, words: Sequence[str], level: Optional[int], 
 
     TOKEN is a file that 'whoami /all', 'id' or a directory's tokenGroups made, a file with a SID in each line, or SIDs
     with commas between them; '!' before one makes it deny-only. A user's SID brings Everyone and Authenticated Users.
+    Where a source is the address of a server, TOKEN can be an account: NAME@DOMAIN or DOMAIN\\NAME.
     'delete' asks the folder of a file too, whose right to delete what is in it is enough.
     """
     wanted, paths = _rights_first(words, common)
     check_files(common, paths, [files.Named("the token", token)])
-    common = inquiry.informed(common, paths)
-    holder = read_token(token, common.context.domain, exact)
+    account = None
+    if asking.is_account(token) and not os.path.isfile(token):
+        common, account = _account_of(common, token, paths)
+    is_asked = any(map(is_address, paths))
+    common, paths = inquiry.informed(common, paths, account.sids if account else ())
+    holder = account or read_token(token, common.context.domain, exact)
+    if account:
+        asking.keep(paths if is_asked else (), token, account)
+        holder = account._replace(missing="") if exact else account
     if level is not None:
         holder = holder._replace(level=level)
     if principal_self:
@@ -170,10 +188,27 @@ def can(common: Common, token: str, words: Sequence[str], level: Optional[int], 
     in_full = in_words(holder, common.context.names)
     say(f"the token: {in_full}")
     common = common.saying(*holder.notes)
-    named = token if is_spelled(token, holder, common.context.domain) else f"{token} ({in_full})"
+    named = token if not account and is_spelled(token, holder, common.context.domain) else f"{token} ({in_full})"
     title = f"What {named} gets of: {wanted.words}"
     found = _folders(common, paths) if wanted.deletes else None
     return inquiry.ask(common, Inquiry(Can(common.context, holder, wanted), title, paths, places=found))
+
+
+def _account_of(common: Common, name: str, paths: Sequence[str]) -> Tuple[Common, library.Token]:
+    """The token of an account: of the server that the sources are of, or as a database keeps it."""
+    asked = list(filter(is_address, paths))
+    known_of = [source for path in filter(is_database, paths) for source in cache.sources_of(path)]
+    addresses = list(map(address_of, (*asked, *filter(is_address, known_of))))
+    if len({address.server.casefold() for address in addresses}) > 1:
+        raise OpeningFault(f"{name} may have other groups on each server: name sources of one server")
+    for address in addresses[:1] if asked else ():
+        common = common._replace(access=known(common.access, address.text))
+        return common, asking.token_of(name, address, common.access)
+    kept = asking.kept(paths, name)
+    if kept is None:
+        raise OpeningFault(f"{name} is an account, whose server has to be asked: name a source such as ldap://SERVER, "
+                           "or the SIDs of its token")
+    return common, kept
 
 
 def _folders(common: Common, paths: Sequence[str]) -> Optional[Folders]:
@@ -211,7 +246,8 @@ def _rule_names(given: str) -> Tuple[str, ...]:
               help="The domain of the forest's own groups, such as Enterprise Admins, if it isn't "
               "one of --domain.")
 @click.option("--schema", metavar="FILE",
-              help="An LDIF of the directory's schema: its classes then say which ACEs are Windows' own.")
+              help="An LDIF of the directory's schema: its classes then say which ACEs are Windows' own. A directory "
+              "that is asked itself tells its schema.")
 @click.option("--rules", metavar="NAME,..",
               help="The rules to use, with commas; with '-' before the first, all but these.")
 @click.option("--accept", metavar="FILE", help="A TOML file with findings that are accepted.")
@@ -240,12 +276,13 @@ def ask_risks(common: Common, given: Sequence[str], trusted: Sequence[str], owne
     check_files(common, paths, read)
     for one in read:
         files.require(one)
-    common = inquiry.informed(common, paths)
+    common, paths = inquiry.informed(common, paths)
     domain = common.context.domain
     trust = names.Trust(_sids(trusted, domain), common.domains, root)
     options = risks.RiskOptions(trust, _sids(owners, domain), named, severity=min_severity)
     accepted = read_accepted(accept, risks.RULE_NAMES) if accept else None
-    known = forest.Schema(schema, domain) if schema else None
+    known = forest.read_schema(schema, domain) if schema else forest.told_schema(paths, domain)
+    common = common.saying(*(known.faults if known else ()))
     if not common.domains:
         say("the administrators of every domain are trusted: --domain SID trusts those of one domain alone")
     before = _baseline(common, baseline, options, known) if baseline else None
@@ -274,7 +311,7 @@ def _baseline(common: Common, path: str, options: risks.RiskOptions, schema: Opt
     cache.require_whole(path)
     question, found = _risks(common, [path], options, schema)
     items = cache.items(path)
-    with engine_of(question, common.jobs or processors()) as engine:
+    with engine_of(question, common.jobs, common.scheduler) as engine:
         baseline.fill(engine.answer(found.placed(items) if found else items))
     return baseline
 
@@ -288,7 +325,7 @@ def _forest(common: Common, paths: Sequence[str], trust: names.Trust) -> Optiona
             continue
         items = inquiry.items_of(common, [path], Bar([path], False), True)
         first = next((item for item in items if item.form and item.kind not in rights.RULE_OF), None)
-        if first is not None and first.place not in ("", WITHOUT_OWNER):
+        if first is not None and through_of(first.place)[0] not in ("", WITHOUT_OWNER):
             found = found or forest.Forest(common.context.domain, trust, common.machines or Machines())
             found.read(inquiry.items_of(common, [path], Bar([path], False), True))
     return found
@@ -306,13 +343,13 @@ def diff(common: Common, old: str, new: str, old_root: Optional[str], new_root: 
     """What changed between two lists of the same objects: OLD NEW."""
     paths = paths_of([old, new], common)
     check_files(common, paths)
-    common = inquiry.informed(common, paths)
+    common, paths = inquiry.informed_each(common, paths)
     question = Differences(common.context)
     inquiry.begin_all(common, paths)
     bar = Bar(paths, common.bar)
-    with engine_of(question, common.jobs or processors()) as engine:
-        for table, path, root in (("old", old, old_root), ("new", new, new_root)):
-            question.read(table, inquiry.items_of(common, [path], bar), files.root_of(path) if root is None else root)
+    with engine_of(question, common.jobs, common.scheduler) as engine:
+        for table, path, word, root in zip(("old", "new"), paths, (old, new), (old_root, new_root)):
+            question.read(table, inquiry.items_of(common, [path], bar), files.root_of(word) if root is None else root)
         try:
             return inquiry.report_of(common, Inquiry(question, f"Changes from {old} to {new}", paths), question, bar,
                                      functools.partial(question.answered, engine))
@@ -329,12 +366,12 @@ def inherit(common: Common, given: Sequence[str], fix: Optional[str]) -> int:
     """Objects whose inherited ACEs are not those that their folder hands on."""
     paths = paths_of(given, common)
     check_files(common, paths, (), files.named("--fix", fix))
-    common = inquiry.informed(common, paths)
+    common, paths = inquiry.informed(common, paths)
     question = Inheritance(common.context)
     inquiry.begin_all(common, paths)
     bar = Bar(paths, common.bar)
-    with cache.kept(common.into) as keep, question.fixing(fix), engine_of(question,
-                                                                          common.jobs or processors()) as engine:
+    with cache.kept(common.into) as keep, question.fixing(fix), engine_of(
+            question, common.jobs, common.scheduler) as engine:
         items = keep(bar.count(inquiry.items_of(common, paths, bar)))
         try:
             return inquiry.report_of(common, Inquiry(question, "Inheritance", paths), question, bar,
@@ -351,7 +388,7 @@ def show(common: Common, given: Sequence[str], name: Optional[str]) -> int:
     """Objects in words."""
     paths = paths_of(given, common)
     check_files(common, paths)
-    common = inquiry.informed(common, paths)
+    common, paths = inquiry.informed(common, paths)
     inquiry.begin_all(common, paths)
     with inquiry.opened(common.out) as file:
         return describing.show(inquiry.items_of(common, paths, Bar(paths, False)), name, common.context, file)
@@ -380,6 +417,8 @@ def status() -> int:
     # Objects and answers have no cycles, and looking for some takes a fifth of the time.
     gc.set_threshold(200_000)
     try:
+        for word in sys.argv[1:]:
+            refuse_secret(word)  # wherever it stands, before anything repeats it
         # Windows would take the names of other files for those with [1] or %X%. Without a status of its own a command
         # has shown help or a version.
         return cli.main(prog_name="sdtool-audit", standalone_mode=False, windows_expand_args=False) or FOUND_NOTHING

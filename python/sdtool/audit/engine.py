@@ -6,10 +6,12 @@ import itertools
 from typing import Any, Deque, Dict, Iterable, Iterator, List, NamedTuple, Optional, Set, Tuple
 
 from sdtool.audit import pool
-from sdtool.audit.findings import Answer, unknown
+from sdtool.audit.findings import Answer, unread
 from sdtool.audit.library import AnswersFault
 from sdtool.audit.protocols import Question
 from sdtool.audit.sources.items import UNREADABLE, WITHOUT_OWNER, Item
+from sdtool.audit.sources.opening import OpeningFault
+from sdtool.audit.sources.places import SHARE
 
 CHUNK = 4_000          # objects that are answered together
 _AHEAD = 3             # chunks under way for each worker
@@ -46,7 +48,8 @@ def answer_groups(question: Question, groups: Dict[Tuple[str, str], List[str]]) 
     return found
 
 
-# What a question asks of the places of objects: nothing, whether their sources have owners, or all.
+# What a question asks of the places of objects: nothing, whether their sources have owners and of which share they are,
+# or all.
 NO_PLACES, OWNERS, ALL_PLACES = "", "owners", "all"
 
 
@@ -55,7 +58,7 @@ def _keys(items: List[Item], asks: str) -> List[Key]:
     if not asks or not any(item.place for item in items):
         return [(item[3], item[5], item[4]) for item in items]
     return [(item[3], item[5] + _PLACE + item.place if item.place
-             and (asks == ALL_PLACES or item.place == WITHOUT_OWNER)
+             and (asks == ALL_PLACES or item.place == WITHOUT_OWNER or item.place.startswith(SHARE))
              else item[5], item[4]) for item in items]
 
 
@@ -150,15 +153,26 @@ class Engine:
     def _other(self, item: Item, key: Key) -> Answer:
         """The answer for an object that can't be read, or whose answer isn't among the newest."""
         if item.form == UNREADABLE:
-            return unknown(item.text, item.help)
+            return unread(item.text, item.help)
         # It may have been forgotten in the meantime.
         return self._memory.get(key) or answer_groups(self._question, {key[:2]: [key[2]]})[0][1]
 
 
+def workers_of(jobs: Optional[int], scheduler: Optional[str], held: Held) -> pool.Pool:
+    """So many processes, one for each processor, or the workers of a Dask scheduler."""
+    if scheduler is None:
+        return pool.Pool(jobs or pool.processors(), held)
+    try:
+        from sdtool.audit.cluster import Cluster
+    except ImportError as error:
+        raise OpeningFault(f"--scheduler: {error}; pip install 'sdtool[distributed]' has what it needs") from error
+    return Cluster(scheduler, held)
+
+
 @contextlib.contextmanager
-def engine_of(question: Question, jobs: int) -> Iterator[Engine]:
+def engine_of(question: Question, jobs: Optional[int], scheduler: Optional[str]) -> Iterator[Engine]:
     """An engine with a pool of its own."""
-    workers = pool.Pool(jobs, Held(question))
+    workers = workers_of(jobs, scheduler, Held(question))
     try:
         yield Engine(question, workers)
     finally:

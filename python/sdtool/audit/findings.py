@@ -3,6 +3,7 @@ from typing import Iterable, List, NamedTuple, Optional, Sequence, Tuple
 
 from sdtool import _windows
 from sdtool.audit.library import AnswersFault, Refusal, reason_of
+from sdtool.audit.sources import items
 
 FOUND, ACCEPTED, NOTHING, UNKNOWN = "found", "accepted", "nothing", "unknown"
 # Only lesser findings than --min-severity asks for; and nothing to compare an object with.
@@ -93,6 +94,11 @@ class Rule(NamedTuple):
 
 def unknown(reason: str, advice: str) -> Answer:
     return Answer(UNKNOWN, (), reason, advice)
+
+
+def unread(reason: str, advice: str) -> Answer:
+    """The answer for an object that has no descriptor."""
+    return Answer(GONE, (), reason) if reason == items.GONE else unknown(reason, advice)
 
 
 def unknown_of(refusal: Refusal) -> Answer:

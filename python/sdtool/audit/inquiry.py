@@ -4,15 +4,21 @@ import functools
 import io
 import os
 import sys
-from typing import Any, Callable, Iterable, Iterator, List, NamedTuple, Optional, Sequence, TextIO, Union
+import tempfile
+import time
+from typing import Any, Callable, Dict, Iterable, Iterator, List, NamedTuple, Optional, Sequence, TextIO, Tuple, Union
 
-from sdtool.audit import files, pool
+from sdtool.audit import files, pool, stopping
+from sdtool.audit.directory import asking
 from sdtool.audit.directory.folders import Folders
 from sdtool.audit.directory.forest import Forest, Told
-from sdtool.audit.engine import Answered, Engine, Held
+from sdtool.audit.engine import Answered, Engine, Held, workers_of
 from sdtool.audit.findings import Rule
+from sdtool.audit.live.address import address_of, is_address
+from sdtool.audit.live.reading import Reading, Rest, reading_of
+from sdtool.audit.live.talking import SAID, Fact, known
 from sdtool.audit.progress import Bar
-from sdtool.audit.protocols import ListQuestion, Question
+from sdtool.audit.protocols import Context, ListQuestion, Question
 from sdtool.audit.reports import outputs
 from sdtool.audit.reports.accepting import Accepted
 from sdtool.audit.reports.baseline import Baseline
@@ -54,16 +60,104 @@ def opened(out: Optional[str]) -> Iterator[TextIO]:
     sys.stdout.flush()
 
 
-def informed(common: Common, paths: Sequence[str]) -> Common:
-    """What the words say, with what LDIF sources say themselves: the domain and names of SIDs. Words win over sources,
-    and two domains leave none. Standard input and pipes can be read only once."""
+def informed(common: Common, paths: Sequence[str], sids: Sequence[str] = ()) -> Tuple[Common, List[str]]:
+    """What the words say, with what sources say themselves, and the sources. Addresses are read now: where there is
+    one, a database with the objects of all sources stands for these. Servers name these SIDs too."""
+    if not any(map(is_address, paths)):
+        return _informed(common, paths), list(paths)
+    common, path = _gathered(common, paths)
+    told = [path, *(one for one in paths if not is_address(one))]
+    common = _informed(common, told, {path: ", ".join(filter(is_address, paths))})
+    return _named(common, path, paths, sids), [path]
+
+
+def _named(common: Common, path: str, paths: Sequence[str], sids: Sequence[str] = ()) -> Common:
+    """Asks servers for the names of SIDs that nothing else names."""
+    before = common.context.names
+    found, said = asking.names_of(path, before, common.context.domain, list(map(address_of, filter(is_address, paths))),
+                                  common.access, sids)
+    names = Names(before.given, {**before.of_sources, **found}, before.types)
+    return common.saying(*said)._replace(context=common.context._replace(names=names))
+
+
+def informed_each(common: Common, paths: Sequence[str]) -> Tuple[Common, List[str]]:
+    """The same, with a database for each address."""
+    if any(map(is_address, paths)):
+        common = common._replace(access=known(common.access, next(filter(is_address, paths))))
+    found = [_gathered(common, [path])[1] if is_address(path) else path for path in paths]
+    common = _informed(common, found, dict(zip(found, paths)))
+    for database, path in zip(found, paths):
+        common = _named(common, database, [path]) if is_address(path) else common
+    return common, found
+
+
+def _gathered(common: Common, paths: Sequence[str]) -> Tuple[Common, str]:
+    """Reads all sources into the database that --into names, or into one for this run. Nothing is read before each
+    server has answered."""
+    access = known(common.access, next(filter(is_address, paths)))
+    target = common.into or files.part_of(os.path.join(tempfile.gettempdir(), "sdtool"))
+    is_new = not os.path.exists(target)
+    if not common.into:
+        os.close(os.open(target, os.O_WRONLY | os.O_CREAT | os.O_EXCL, 0o600))
+    if is_new:
+        stopping.unfinished.add(target)
+    asking = cache.Asking(target, paths, access.asked)
+    stopping.close_early(asking.close)
+    bar = Bar(paths, common.bar)
+    try:
+        waiting = asking.waiting()
+        readings = {path: reading_of(path, access, functools.partial(asking.has, path))
+                    for path in waiting if is_address(path)}
+        if common.into:
+            stopping.unfinished.discard(target)
+        for path in waiting:
+            _gather(common, path, readings.get(path), asking, bar)
+        asking.end_all()
+    finally:
+        bar.stop()
+        asking.close()
+    return common._replace(into=None, access=access), target
+
+
+_KEPT_AFTER = 2.0  # seconds
+
+
+def _gather(common: Common, path: str, reading: Optional[Reading], asking: cache.Asking, bar: Bar) -> None:
+    """Keeps the objects of a source: those of a server as they come, and those of a file together."""
+    if reading is None:
+        for item in bar.count(items_of(common, [path], bar)):
+            asking.add(item)
+        asking.end_source(path)
+        return
+    reason, kept = None, time.monotonic()
+    for found in reading.items():
+        if isinstance(found, Rest):
+            reason = found.item.text
+        elif isinstance(found, Fact):
+            asking.add_fact(path, found.kind, found.key, found.value)
+        else:
+            asking.add(found)
+            bar.advance(1)
+        if time.monotonic() > kept + _KEPT_AFTER:
+            asking.keep()
+            kept = time.monotonic()
+    asking.end_source(path, reason)
+
+
+def _informed(common: Common, paths: Sequence[str], shown: Optional[Dict[str, str]] = None) -> Common:
+    """What the words say, with what LDIF and directories say themselves: the domain and names of SIDs. Words win over
+    sources, and two domains leave none. Standard input and pipes can be read only once. shown has what stands in words
+    for a database."""
     if common.options.format not in (None, "ldif"):
         return common
-    told = Told(path for path in paths
-                if path != STANDARD_INPUT and files.can_be_read_again(path) and not is_database(path))
+    paths = [path for path in paths if path != STANDARD_INPUT and files.can_be_read_again(path)]
+    told = Told(paths)
+    common = common.saying(*dict.fromkeys(line for path in paths if is_database(path)
+                                          for line, _ in cache.facts(path, SAID)))
     if not told.paths:
         return common
-    context, domains, source = common.context, common.domains, ", ".join(told.paths)
+    context, domains = common.context, common.domains
+    source = ", ".join((shown or {}).get(path, path) for path in told.paths)
     if not domains and len(told.heads) == 1:
         domains = tuple(told.heads)
         common = common.saying(f"the domain is {domains[0]}, as {source} says: --domain names another one, and "
@@ -71,7 +165,7 @@ def informed(common: Common, paths: Sequence[str]) -> Common:
     elif not domains and told.heads:
         common = common.saying(f"{source}: the heads of {len(told.heads):,} domains, {', '.join(sorted(told.heads))}: "
                                "name the one of aliases with --domain")
-    names = Names(context.names.given, told.names)
+    names = Names(context.names.given, told.names, told.types)
     common = common.saying(f"the names of {len(names.of_sources):,} SIDs are those of {source}: those of --sid-names "
                            "and of Windows win")
     context = context._replace(domain=domains[0] if domains else "", names=names)
@@ -117,21 +211,23 @@ def items_of(common: Common, paths: Sequence[str], bar: Bar, is_first: bool = Fa
         yield from _units(common, path, bar, False, is_first)
 
 
-def _make_output(common: Common, rules: Sequence[Rule], title: str, file: TextIO) -> outputs.Output:
+def _make_output(context: Context, form: outputs.Form, rules: Sequence[Rule], title: str,
+                 file: TextIO) -> outputs.Output:
     # What the page needs to show a descriptor as the answers do.
-    about = {"domain": common.context.domain, "names": list(common.context.names.all.items())}
-    return outputs.output_of(common.report, file, rules, title, about)
+    about = {"domain": context.domain, "names": list(context.names.all.items())}
+    return outputs.output_of(form, file, rules, title, about)
 
 
-def _report_of_block(common: Common, rules: Sequence[Rule], title: str, accepted: Optional[Accepted]) -> Report:
-    return Report(_make_output(common, rules, title, io.StringIO()), accepted, common.report.is_each)
+def _report_of_block(context: Context, form: outputs.Form, rules: Sequence[Rule], title: str,
+                     accepted: Optional[Accepted]) -> Report:
+    return Report(_make_output(context, form, rules, title, io.StringIO()), accepted, form.is_each)
 
 
 @contextlib.contextmanager
 def _reported(common: Common, inquiry: Inquiry) -> Iterator[Report]:
     """A report that is written and ended."""
     with opened(common.out) as file:
-        output = _make_output(common, inquiry.question.rules, inquiry.title, file)
+        output = _make_output(common.context, common.report, inquiry.question.rules, inquiry.title, file)
         output.begin()
         report = Report(output, inquiry.accepted, common.report.is_each, common.said)
         yield report
@@ -169,9 +265,10 @@ def ask(common: Common, inquiry: Inquiry) -> int:
     """Asks a question of every object of the sources, and gives the exit status."""
     begin_all(common, inquiry.paths)
     bar = Bar(inquiry.paths, common.bar)
-    rules = inquiry.question.rules
-    held = Held(inquiry.question, functools.partial(_report_of_block, common, rules, inquiry.title, inquiry.accepted))
-    workers = pool.Pool(common.jobs or pool.processors(), held)
+    # Processes get no more of the words: these have databases and passwords, which stay here.
+    report_of_block = functools.partial(_report_of_block, common.context, common.report, inquiry.question.rules,
+                                        inquiry.title, inquiry.accepted)
+    workers = workers_of(common.jobs, common.scheduler, Held(inquiry.question, report_of_block))
     try:
         with _reported(common, inquiry) as report:
             _fill(common, inquiry, report, Engine(inquiry.question, workers), workers, bar)

@@ -4,7 +4,7 @@ import multiprocessing
 import os
 import sys
 import threading
-from typing import Any, Callable, Optional, Set
+from typing import Any, Callable, Set
 
 from sdtool.audit import stopping
 
@@ -25,11 +25,15 @@ def held() -> Any:
     return _held
 
 
-def _start(given: Any) -> None:
+def hold(given: Any) -> None:
     global _held
+    _held = given
+
+
+def _start(given: Any) -> None:
     stopping.in_worker()
     threading.Thread(target=_end_with_parent, daemon=True).start()
-    _held = given
+    hold(given)
 
 
 def _end_with_parent() -> None:
@@ -55,7 +59,7 @@ class Pool:
     def __init__(self, jobs: int, given: Any) -> None:
         self.jobs = min(jobs, _MOST_ON_WINDOWS) if sys.platform == "win32" else jobs
         self._given = given
-        self._executor: Optional[concurrent.futures.ProcessPoolExecutor] = None
+        self._executor: Any = None
         self._processes: Set[multiprocessing.process.BaseProcess] = set()
 
     @property
@@ -67,7 +71,7 @@ class Pool:
             self._executor = concurrent.futures.ProcessPoolExecutor(self.jobs, _context(), _start, (self._given,))
             stopping.before_end.append(self._kill)
         with stopping.held_back():  # work may start processes
-            future = self._executor.submit(work, *arguments)
+            future: "concurrent.futures.Future[Any]" = self._executor.submit(work, *arguments)
         if len(self._processes) < self.jobs:
             self._processes.update(multiprocessing.active_children())
         return future

@@ -10,16 +10,20 @@ import click
 from sdtool.audit import files, library, stopping
 from sdtool.audit.directory.groups import read_names
 from sdtool.audit.directory.machines import Machines
+from sdtool.audit.live.access import Access
+from sdtool.audit.live.address import address_of, is_address
 from sdtool.audit.protocols import Context
 from sdtool.audit.reports import outputs
 from sdtool.audit.reports.shown import say
 from sdtool.audit.sources import reading
 from sdtool.audit.sources.opening import STANDARD_INPUT, OpeningFault
 from sdtool.audit.sources.options import DEFAULT_ATTRIBUTES, SourceOptions
+from sdtool.audit.store import cache
 from sdtool.audit.windows import rights
 from sdtool.audit.windows.names import Names
 
 A_SOURCE = "a source"
+_SCHEDULER = "DASK_SCHEDULER_ADDRESS"
 
 
 class Common(NamedTuple):
@@ -29,6 +33,7 @@ class Common(NamedTuple):
     of_sources: Tuple[str, ...]  # the options about sources that were given
     context: Context
     jobs: Optional[int]
+    scheduler: Optional[str]
     report: outputs.Form
     out: Optional[str]
     into: Optional[str]
@@ -37,6 +42,7 @@ class Common(NamedTuple):
     reads: Tuple[files.Named, ...]
     accounts: Dict[str, str] = {}  # SIDs of accounts without a fixed number that sources name
     machines: Optional[Machines] = None  # those that sources name
+    access: Access = Access()  # who asks servers, and how
     said: Tuple[str, ...] = ()  # what decides about all answers beside the words, which each report says too
 
     def saying(self, *lines: str) -> "Common":
@@ -83,6 +89,17 @@ _SOURCE_OPTIONS = (
     click.option("--sid-names", metavar="FILE",
                  help="A file with the names of SIDs: CSV, lines of SID and name, or LDIF."),
 )
+_SERVER_OPTIONS = (
+    click.option("--credentials", metavar="FILE",
+                 help="Who asks a server: a file of mode 0600 as smbclient -A has it. Default: Kerberos' ticket."),
+    click.option("--user", metavar="NAME", help="The same by a name, also DOMAIN\\NAME. The password is asked for."),
+    click.option("--timeout", type=click.FloatRange(1, 86_400), default=60, show_default=True, metavar="SECONDS",
+                 help="How long a server may be silent. It is then asked again, twice."),
+    click.option("--requests", type=click.FloatRange(0.01), metavar="N", help="At most so many requests a second."),
+    click.option("--sacl", is_flag=True, help="Reads SACLs too, for which the server asks for a privilege."),
+    click.option("--backup", is_flag=True, help="Opens files as a backup does, which the server logs as such."),
+    click.option("--ca", metavar="FILE", help="The authorities of an ldaps server's certificate."),
+)
 # What a database has kept, so that these options come too late for it.
 _LOST_ON_DATABASES = {"source_format": "--format", "encoding": "--encoding", "delimiter": "--delimiter",
                       "no_quotes": "--no-quotes",
@@ -109,12 +126,15 @@ _REPORT_OPTIONS = {
     "jobs": click.option("--jobs", type=click.IntRange(1, 512), metavar="N",
                          help="Processes that answer. Default: one for each "
                          "processor."),
+    "scheduler": click.option("--scheduler", metavar="ADDRESS",
+                              help="A Dask scheduler whose workers answer in place of processes, such as "
+                              f"tcp://host:8786. Default without --jobs: {_SCHEDULER}."),
     "no_bar": click.option("--no-bar", is_flag=True, help="No progress bar."),
 }
 # What an option says that a command doesn't have.
 _UNSAID: Dict[str, Any] = {
     "to": "table", "out": None, "lists": None, "most": None, "each": False, "spreadsheet": False, "into": None,
-    "jobs": None,
+    "jobs": None, "scheduler": None,
     "no_bar": True}
 OF_REPORTS = tuple(_UNSAID)
 
@@ -127,7 +147,7 @@ def with_common(*without: str) -> Callable[[Callable[..., int]], Callable[..., i
             words = {**_UNSAID, **words}
             return command(_common(words), **words)
 
-        for option in reversed([*_SOURCE_OPTIONS,
+        for option in reversed([*_SOURCE_OPTIONS, *_SERVER_OPTIONS,
                                 *(one for name, one in _REPORT_OPTIONS.items() if name not in without)]):
             run = option(run)
         return run
@@ -174,10 +194,17 @@ def _common(given: Dict[str, Any]) -> Common:
     # Rows that come on a terminal leave no place for a bar.
     bar = not given.pop("no_bar") and (to == "table" or out is not None or not sys.stdout.isatty())
     reads = (*files.named("--sid-names", sid_names), *files.named("--object-names", object_names))
-    into = given.pop("into")
+    into, jobs, scheduler = given.pop("into"), given.pop("jobs"), given.pop("scheduler")
+    if jobs and scheduler:
+        raise OpeningFault("--jobs is about processes of this machine, and --scheduler about a cluster: give one")
+    if not jobs:
+        scheduler = scheduler or os.environ.get(_SCHEDULER) or None
     files.refuse(reads, [*files.named("--out", out), *files.named("--into", into)])
     names = Names(read_names(sid_names, domain) if sid_names else None)
-    return Common(options, of_sources, Context(domain, names), given.pop("jobs"), form, out, into, bar, domains, reads)
+    access = Access(*(given.pop(name)
+                    for name in ("credentials", "user", "timeout", "requests", "sacl", "backup", "ca")))
+    return Common(options, of_sources, Context(domain, names), jobs, scheduler, form, out, into, bar, domains, reads,
+                  access=access)
 
 
 def paths_of(given: Sequence[str], common: Common) -> List[str]:
@@ -192,6 +219,11 @@ def paths_of(given: Sequence[str], common: Common) -> List[str]:
     if STANDARD_INPUT in given and sys.stdin is None:
         raise OpeningFault("standard input is closed")
     for path in given:
+        if is_address(path):
+            address_of(path)
+            if common.of_sources:
+                raise OpeningFault(f"{path}: a server isn't read by {', '.join(common.of_sources)}")
+            continue
         if path != STANDARD_INPUT and not os.path.exists(path):
             raise OpeningFault(f"{path}: no such file or folder")
         if common.of_sources and is_database(path):
@@ -208,9 +240,12 @@ def is_database(path: str) -> bool:
 def check_files(common: Common, paths: Sequence[str], read: Sequence[files.Named] = (),
                 written: Sequence[files.Named] = ()) -> None:
     """Refuses words that name a file twice, if that would write over it, and a database that is there."""
+    is_asking = any(map(is_address, paths))
     outputs_ = [*files.named("--out", common.out), *files.named("--into", common.into), *written]
     reads = [*(files.Named(A_SOURCE, path) for path in paths), *common.reads, *read]
     files.refuse(reads, outputs_)
     files.refuse_standard_output(reads)
     if common.into is not None and os.path.lexists(common.into):
-        raise OpeningFault(f"--into {common.into}: the file exists; name a new one")
+        if not is_asking or cache.sources_asked(common.into) != list(paths):
+            raise OpeningFault(f"--into {common.into}: the file exists; name a new one" +
+                               ", or the sources of the run that has begun it" * is_asking)

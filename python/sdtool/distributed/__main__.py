@@ -24,7 +24,6 @@ from .work import MODULES, RUN, UNFINISHED, Place, Work, entries, files_of, prin
 
 CLOSE_SECONDS = 5
 LEAST_THREADS = 4  # without a cluster: a task that hangs keeps its thread, and others go on
-CLAIMS = 20  # how often a run tries to own an output while others begin there
 
 
 def put(text: str, stream: Optional[TextIO]) -> None:
@@ -44,56 +43,53 @@ def say(what: object) -> None:
 def take_over(work: Work) -> None:
     """Makes this run the owner of the output, and removes what earlier ones have not finished.
 
-    A run claims the output before it looks for others, and owns it when its claim gets the name of the record. So of
-    two with other words, the later one to look finds the other's claim or record. A run has its folder only when it has
-    owned the output. So the folders that are there while this one owns it are its own and those of earlier runs, also
-    where several begin at once. Another one may remove what this one has written, until that has its name."""
-    place, fs = work.place, work.place.fs
-    record = json.dumps({"run": work.run, "words": work.words}).encode()
+    Of runs with other words that begin at once, one owns the output at most: a hard link gives the name of the record
+    to one claim alone. Where there are no such links, or the record is torn, each looks for the claims of others. A run
+    has its folder only when it has owned the output. So the folders that are there while this one owns it are its own
+    and those of earlier runs, also where several begin at once."""
+    place, fs, record = work.place, work.place.fs, f"{work.place.ours}/run.json"
+    claim, told = f"{place.ours}/{uuid.uuid4().hex}", json.dumps({"run": work.run, "words": work.words}).encode()
     if place.renames:
         fs.makedirs(place.ours, exist_ok=True)
-    for left in reversed(range(CLAIMS)):
-        claim = f"{place.ours}/{uuid.uuid4().hex}"
-        try:
-            fs.pipe_file(claim, record)
-            remove_claims(place, work.words)
-            require_words(place, work.words)
-            if place.renames:
-                place.move(claim, f"{place.ours}/run.json")
-                fs.makedirs(work.mine, exist_ok=True)
-            else:
-                fs.pipe_file(f"{place.ours}/run.json", record)
-            break
-        except FileNotFoundError:
-            if not left:
-                raise
-        finally:
-            with contextlib.suppress(FileNotFoundError):
-                fs.rm_file(claim)
-    folders = [told["name"].rstrip("/") for told in entries(fs, place.ours) if told["type"] == "directory"]
+    try:
+        fs.pipe_file(claim, told)
+        if not (place.is_local and is_linked(claim, record) and place.owner()):
+            for path, _ in files_of(fs, place.ours, UNFINISHED):
+                if place.owner(path).get("words", work.words) != work.words:
+                    raise ValueError(f"--out: a run with other words begins there: {shown_url(fs, path)}")
+        require_words(place, work.words)
+        if place.renames:
+            place.move(claim, record)
+            fs.makedirs(work.mine, exist_ok=True)
+        else:
+            fs.pipe_file(record, told)
+    finally:
+        with contextlib.suppress(FileNotFoundError):
+            fs.rm_file(claim)
+    folders = [each["name"].rstrip("/") for each in entries(fs, place.ours) if each["type"] == "directory"]
     work.require_ownership()
     for folder in [place.ours, *folders]:
         if folder == place.ours or RUN.fullmatch(os.path.basename(folder)) and folder != work.mine:
             remove_run(place, folder)
 
 
-def remove_claims(place: Place, words: List[str]) -> None:
-    """Removes the claims of runs with other words, which then begin again and find this one. Where nothing is renamed,
-    that stops no run, so this one is refused."""
-    for path, _ in files_of(place.fs, place.ours, UNFINISHED):
-        if place.words_of_run(path) not in (None, words):
-            if not place.renames:
-                raise ValueError(f"--out: a run with other words begins there: {shown_url(place.fs, path)}")
-            with contextlib.suppress(FileNotFoundError):
-                place.fs.rm_file(path)
+def is_linked(claim: str, record: str) -> bool:
+    """Gives a claim the name of the record, unless another one has it. Gives whether the file system has links."""
+    try:
+        os.link(claim, record)
+    except (FileExistsError, FileNotFoundError):  # which another run has removed, that owns the output
+        pass
+    except OSError:
+        return False
+    return True
 
 
 def require_words(place: Place, words: List[str]) -> None:
     """Refuses an output that has answers to other words."""
-    there = place.words_of_run()
-    if there not in (None, words):
-        raise ValueError(f"--out: {shown_url(place.fs, place.root)} has answers of 'sdtool {' '.join(there or ())}'; "
-                         "give another folder")
+    there = place.owner().get("words", words)
+    if there != words:
+        raise ValueError(f"--out: {shown_url(place.fs, place.root)} has answers of 'sdtool "
+                         f"{' '.join(map(str, there))}'; give another folder")
 
 
 def remove_run(place: Place, folder: str) -> None:
@@ -127,7 +123,7 @@ def drive(wanted: argparse.Namespace, work: Work, taking: Taking) -> List[Job]:
     where = wanted.scheduler or "the one in this process"
     waiting = threading.Timer(PATIENT_SECONDS, say, [f"the scheduler does not answer: {where}"])
     try:
-        taking.bounded(f"--out: {wanted.out}", take_over, work)
+        within(wanted.wait, f"--out: {wanted.out}", take_over, work)
         waiting.start()
         client = client_of(wanted)
         waiting.cancel()
@@ -196,15 +192,13 @@ def wanted_of(words: List[str]) -> argparse.Namespace:
 
 def answered(wanted: argparse.Namespace) -> Tuple[List[Job], List[Tuple[str, str]]]:
     """Finds the inputs and answers them. Wrong words are a ValueError."""
-    bounded = Bounded(wanted.wait)
-
     def in_output(call: Callable[..., Any], *arguments: Any) -> Any:
-        return bounded(f"--out: {wanted.out}", call, *arguments)
+        return within(wanted.wait, f"--out: {wanted.out}", call, *arguments)
 
     place = Place(*in_output(opened, wanted.out))
     in_output(require_words, place, wanted.words)
     in_output(place.list_all)
-    taking = Taking(place, wanted.parts, bounded)
+    taking = Taking(place, wanted.parts, Bounded(wanted.wait))
     taking.take_all(wanted.urls)
     if not taking.inputs:
         return [], taking.refused
@@ -245,6 +239,9 @@ def shown(jobs: List[Job], refused: List[Tuple[str, str]]) -> int:
 
 def main(words: List[str]) -> int:
     wanted = wanted_of(words)
+    if not hasattr(os, "O_PATH"):  # nor /proc, by which a worker tells its library
+        say("runs on many machines need Linux")
+        return 2
     status, output, message = sdtool.run(wanted.words, b"")
     if status or output:  # wrong words, or help
         put(output.decode() or message, sys.stderr if status else sys.stdout)

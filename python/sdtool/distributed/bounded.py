@@ -61,7 +61,7 @@ class Bounded:
         self.seconds, self.left = seconds, MOST_HUNG
 
     def __call__(self, what: str, call: Callable[..., Any], *arguments: Any) -> Any:
-        if not self.left:
+        if self.left <= 0:  # threads may have had several at once
             raise Overdue(f"{what} was not tried, since {MOST_HUNG} such calls have hung")
         try:
             return within(self.seconds, what, call, *arguments)

@@ -4,7 +4,7 @@ Dask's scheduler has a window of tasks that are bound to no worker. So it choose
 retired and dead ones, and an adaptive cluster sees what waits. Here is what Dask lacks:
 
 - Who failed: each outcome has the worker's address. A task that failed is sent to the others, and a worker whose task
-  another one does is left out for a while.
+  another one does is left out for a moment.
 - A limit of time: the worker gives up a task that hangs. Every few seconds it tells of one that goes on.
 - A worker of whose tasks nothing comes, since it is stopped or paused: others get them too, and the first outcome
   counts.
@@ -13,25 +13,28 @@ retired and dead ones, and an adaptive cluster sees what waits. Here is what Das
 import collections
 import contextlib
 import dataclasses
+import heapq
 import itertools
 import pickle
 import queue
 import time
 from typing import Any, Callable, Deque, Dict, List, Set, Tuple
 
+import dask.config
 from distributed import Client, Future, KilledWorker, as_completed
 
 from .bounded import Bounded, Overdue, within
-from .work import MANIFEST, Anew, Given, Unfit, Work, look
+from .work import Anew, Given, Work, look
 
 LEAST_WINDOW = 100  # tasks, besides two for each thread of the cluster
 STUCK_SECONDS = 30  # of a worker that has tasks, until others get them
 PATIENT_SECONDS = 10  # without progress, a line says what is waited for
 LOOK_SECONDS, REPORT_SECONDS, REST_SECONDS = 1, 10, 0.05
-LOST_SECONDS = 30  # for the outcome of a task that Dask says is done: a worker that is stopped may have it
 FIRST_SECONDS = 30  # each task has these, besides those for its bytes
 LONG_SECONDS = 45  # of a task that takes so long a line tells, though it may have more
-MOST_LEFT_OUT = 30  # seconds until a worker that was left out is looked at again
+# An unfit worker gets nothing for so long, each time twice as long. Dask prefers who is idle, so a fit one would get
+# nothing if unfit ones came back sooner than they say what they are.
+LEFT_OUT_SECONDS, MOST_LEFT_OUT = 2, 60
 MOST_TURNS = 10  # how often an input is begun anew
 BATCH, BATCH_BYTES = 50, 4 << 20  # small inputs in one task
 UNPACKED = 20  # how often as long as its file a compressed input may be, for the time that its task has
@@ -41,32 +44,6 @@ SILENT_SCHEDULER = "the scheduler does not answer"
 
 class Lost(OSError):
     """The run cannot go on."""
-
-
-@dataclasses.dataclass(eq=False)
-class Task:
-    job: "Job"
-    method: str  # of Work
-    arguments: Tuple[Any, ...]
-    bytes: int
-    index: int = 0
-    turn: int = 0  # of the job
-    failed: Dict[str, str] = dataclasses.field(default_factory=dict)  # the last failure of each worker
-    failures: int = 0
-    failed_at: float = 0  # for the first time
-    hangs: int = 0
-    is_suspect: bool = False  # it may have killed workers
-    is_done: bool = False
-    not_before: float = 0
-
-    @property
-    def is_stale(self) -> bool:
-        """Nothing that comes of it counts: it is done, or its input has ended or was begun anew."""
-        return self.is_done or self.job.came is not None or self.turn != self.job.turn
-
-    @property
-    def words(self) -> str:
-        return f"{f'block {self.index}' if self.method in ('answer', 'compare') else 'all'} of {self.job.given.url}"
 
 
 @dataclasses.dataclass(eq=False)
@@ -82,79 +59,94 @@ class Job:
 
 
 @dataclasses.dataclass(eq=False)
+class Task:
+    job: Job
+    method: str  # of Work
+    arguments: Tuple[Any, ...]
+    bytes: int
+    turn: int = 0  # of the job
+    failed: Dict[str, str] = dataclasses.field(default_factory=dict)  # the last failure of each worker
+    failures: float = 0
+    failed_at: float = 0  # for the first time
+    is_suspect: bool = False  # it may have killed workers
+    is_done: bool = False
+
+    @property
+    def is_stale(self) -> bool:
+        """Nothing that comes of it counts: it is done, or its input has ended or was begun anew."""
+        return self.is_done or self.job.came is not None or self.turn != self.job.turn
+
+    @property
+    def words(self) -> str:
+        what = f"block {self.arguments[0]}" if self.method in ("answer", "compare") else "all"
+        return f"{what} of {self.job.given.url}"
+
+
+@dataclasses.dataclass(eq=False)
 class Sent:
     """What is one task for Dask: a task, or some small ones."""
     future: Future
     tasks: List[Task]
+    heard_at: float = 0  # when something came of the worker that has it, or none had it
     is_twin: bool = False  # its tasks were sent once more
-    done_at: float = 0  # when Dask first said so
 
     @property
     def open(self) -> List[Task]:
         return [task for task in self.tasks if not task.is_stale]
 
 
-@dataclasses.dataclass(eq=False)
-class Worker:
-    address: str
-    threads: int = 1
-    status: str = "running"
-    heard_at: float = 0  # when something came of its tasks, or it had none
-    is_stuck: bool = False
-    unfit_at: float = 0  # when it was last found not to be fit
-    delay: float = 0  # for which it then gets nothing
-
-    @property
-    def is_fit(self) -> bool:
-        return not self.is_stuck and time.monotonic() >= self.unfit_at + self.delay
-
-    def is_hopeful(self, since: float) -> bool:
-        """It works, or nothing says since then that it does not."""
-        return self.status == "running" and not self.is_stuck and (self.is_fit or self.unfit_at < since)
-
-
 def task_of_dask() -> Callable[..., Any]:
     """What Dask calls. It goes to the workers as code, since it is made in a function: so a worker that has no such
     package, or a broken one, can say which it is."""
-    def do(*arguments: Any) -> Tuple[str, str, Any]:
+    def do(count: int, *arguments: Any) -> Tuple[str, List[Tuple[str, Any]]]:
         import time
 
         from distributed import get_worker
         try:
             from sdtool.distributed import work
-            return work.done(get_worker(), *arguments)
+            outcomes = work.done(get_worker(), *arguments)
         except Exception as error:
-            time.sleep(0.2)  # so that it does not take all tasks before it is left out
-            return get_worker().address, "unfit", f"{type(error).__name__}: {error}"
+            time.sleep(1)  # so that it does not take all tasks before it is left out
+            outcomes = [("unfit", f"{type(error).__name__}: {error}")] * count
+        return get_worker().address, outcomes
     return do
 
 
 class Engine:
-    """The jobs of a run, and the workers of its cluster."""
+    """The jobs of a run."""
 
     client: Client
     done: as_completed
-    fresh: Deque[Task]
 
     def __init__(self, work: Work, inputs: List[Given], wanted: Any, say: Callable[[str], None]) -> None:
         self.work, self.wanted, self.say = work, wanted, say
         self.jobs = [Job(given, max(1, -(-(given.size or 0) // wanted.block))) for given in inputs]
-        self.workers: Dict[str, Worker] = {}
-        self.keys_of: Dict[str, List[str]] = {}  # what each worker has, also of others
-        self.unbegun, self.fresh = iter(self.jobs), collections.deque()  # tasks are made when there is room for them
-        self.later: List[Task] = []
+        self.unbegun, self.left = iter(self.jobs), len(self.jobs)
+        self.waiting: Deque[Task] = collections.deque()  # tasks are made when there is room for them
+        self.later: List[Tuple[float, int, Task]] = []  # a heap of those that have failed, by when they are sent again
+        self.suspects: Deque[Task] = collections.deque()
         self.sent: Dict[str, Sent] = {}
         self.numbers = itertools.count()
         self.heard: "queue.SimpleQueue[Tuple[Any, Dict[str, Any]]]" = queue.SimpleQueue()
+        # By the addresses of workers: what the scheduler tells of each, the keys that it has, also of others, when
+        # something came of its tasks, when it was found to be unfit, and how long it then gets nothing.
+        self.workers: Dict[str, Dict[str, Any]] = {}
+        self.keys_of: Dict[str, List[str]] = {}
+        self.heard_at: Dict[str, float] = {}
+        self.unfit_at: Dict[str, float] = {}
+        self.unfit_for: Dict[str, float] = {}
+        self.stuck: Set[str] = set()
         self.do, self.bounded = task_of_dask(), Bounded(wanted.wait)
-        self.began = self.progress = self.seen = time.monotonic()
         self.told: Set[str] = set()
         self.is_patient = False
-        self.left = len(self.jobs)
         self.blocks_done = self.bytes_done = 0
 
     def run(self, client: Client) -> None:
-        """Does all jobs. Each has then what came of it."""
+        """Does all jobs. Each has then what came of it. For each task, Dask would read the source of what sends it."""
+        with dask.config.set({"distributed.diagnostics.computations.ignore-modules": [".*"]}):
+            self.do_all(client)
+
+    def do_all(self, client: Client) -> None:
         self.client = client
         self.done = as_completed([], loop=client.loop, with_results=True, raise_errors=False)
         client.subscribe_topic(TOPIC, self.heard.put)
@@ -177,10 +169,10 @@ class Engine:
     def report(self) -> None:
         blocks, failed = sum(job.count for job in self.jobs), sum(isinstance(job.came, str) for job in self.jobs)
         rate = self.bytes_done / 1e6 / (time.monotonic() - self.began)
-        out = sum(not worker.is_fit for worker in self.workers.values())
+        out = len(self.left_out & self.workers.keys())
         self.say(f"[{'#' * (20 * self.blocks_done // blocks):20}] {len(self.jobs) - self.left:,} of {len(self.jobs):,} "
                  f"inputs, {self.blocks_done:,} of {blocks:,} blocks, {rate:.1f} MB/s, workers: {len(self.workers):,}"
-                 + f", not fit: {out:,}" * bool(out) + f", inputs that failed: {failed:,}" * bool(failed))
+                 + f", left out: {out:,}" * bool(out) + f", inputs that failed: {failed:,}" * bool(failed))
 
     # Jobs.
 
@@ -189,14 +181,6 @@ class Engine:
         job.blocks.clear()
         job.compared = 0
         given, size = job.given, job.given.told["size"] or 0
-        if self.work.is_parts:
-            try:  # this says that a run writes the parts
-                self.bounded(f"the folder of {given.answers}", self.work.write_record, f"{given.folder}/{MANIFEST}",
-                             {"lines": None, "url": given.url})
-            except Unfit:
-                raise
-            except Exception as error:  # file systems have many
-                self.close(job, f"{type(error).__name__}: {error}")
         if job.count == 1:
             self.add(job, "answer_whole", (given.size,), size * UNPACKED if given.compression else size)
         elif not given.is_new and not job.turn and not self.work.is_parts:
@@ -208,24 +192,24 @@ class Engine:
         block, size = self.wanted.block, job.given.told["size"]
         for index in range(job.count):
             start, end = index * block, min((index + 1) * block, size)
-            self.add(job, "answer", (index, start, end), end - start, index)
+            self.add(job, "answer", (index, start, end), end - start)
 
-    def add(self, job: Job, method: str, arguments: Tuple[Any, ...], size: int, index: int = 0) -> None:
-        self.fresh.append(Task(job, method, arguments, size, index, job.turn))
+    def add(self, job: Job, method: str, arguments: Tuple[Any, ...], size: int) -> None:
+        self.waiting.append(Task(job, method, arguments, size, job.turn))
 
     def finished(self, task: Task, value: Any) -> None:
         """Goes on with a job behind a task that is done. Before the parts are put together, many workers compare those
         that stay, and inputs that have no version."""
         job = task.job
         if task.method == "answer":
-            job.blocks[task.index] = value
+            job.blocks[task.arguments[0]] = value
             self.blocks_done += 1
             self.bytes_done += task.bytes
             if len(job.blocks) < job.count:
                 return
             if self.work.is_parts or not job.given.is_versioned:
                 for index, block in sorted(job.blocks.items()):
-                    self.add(job, "compare", (index, block), block["bytes"] + block["end"] - block["start"], index)
+                    self.add(job, "compare", (index, block), block["bytes"] + block["end"] - block["start"])
                 return
         elif task.method == "compare":
             job.compared += 1
@@ -247,16 +231,12 @@ class Engine:
         """Begins an input anew, of which a part is not what its worker wrote, or the attributes have changed: so all
         answers are to one state of the file. Parts that are whole are kept."""
         job, given = task.job, task.job.given
-
-        def told_again() -> Dict[str, Any]:
-            try:
-                given.require_same()
-            except Anew:
-                return look(given.fs, given.path)
-            return given.told
-
+        told = given.told
         try:
-            told = self.bounded(f"a look at {given.url}", told_again)
+            there = self.bounded(f"a look at {given.url}", look, given.fs, given.path)
+            given.require(there)
+        except Anew:
+            told = there
         except Exception as error:  # file systems have many
             self.close(job, f"{type(error).__name__}: {error}")
             return
@@ -265,8 +245,7 @@ class Engine:
             return
         job.turn += 1
         if job.turn > MOST_TURNS:
-            self.close(job, f"RuntimeError: {damaged} is never what its worker wrote" if damaged else
-                       "OSError: its attributes change again and again")
+            self.close(job, f"RuntimeError: {damaged or 'the input'} changes again and again")
             return
         given.told, given.is_new = told, False
         self.begin(job)
@@ -279,35 +258,39 @@ class Engine:
 
     # Failures.
 
-    def fail(self, task: Task, address: str, reason: str, is_enough: bool = False) -> None:
+    def fail(self, task: Task, address: str, reason: str, weight: float = 1) -> None:
         """A task is tried again after a failure, or that was enough."""
         task.failed[address] = reason
         task.failed_at = task.failed_at or time.monotonic()
-        task.failures += 1
-        if (is_enough or task.failures > self.wanted.retries) and not self.has_hope(task):
+        task.failures += weight
+        if task.failures > self.wanted.retries and not self.has_hope(task):
             self.close(task.job, reason)
-            return
-        task.not_before = time.monotonic() + min(5.0, 0.2 * 2 ** min(task.failures, 5))
-        self.later.append(task)
+        else:
+            again = time.monotonic() + min(5.0, 0.2 * 2 ** min(task.failures, 5))
+            heapq.heappush(self.later, (again, next(self.numbers), task))
 
     def has_hope(self, task: Task) -> bool:
-        """Whether one worker alone has failed, and another one may do the task. A run waits for that, but not for
-        longer than for any progress."""
+        """Whether one worker alone has failed, and another one may do the task: it works, or nothing says since then
+        that it does not. A run waits for that, but not for longer than for any progress."""
         is_late = time.monotonic() - task.failed_at > self.wanted.wait
         return not is_late and len(task.failed) < 2 and any(
-            each.address not in task.failed and each.is_hopeful(task.failed_at) for each in self.workers.values())
+            told["status"] == "running" and address not in task.failed.keys() | self.stuck
+            and self.unfit_at.get(address, 0) < task.failed_at for address, told in self.workers.items())
+
+    @property
+    def left_out(self) -> Set[str]:
+        """The workers that get nothing at the moment."""
+        now = time.monotonic()
+        return self.stuck | {address for address, unfit_at in self.unfit_at.items()
+                             if unfit_at + self.unfit_for[address] > now}
 
     def leave_out(self, address: str, reason: str) -> None:
-        worker = self.workers.get(address)
-        if worker is None:
-            return
-        self.tell(f"worker {address} is left out: {reason}")
-        if worker.is_fit:
-            worker.unfit_at, worker.delay = time.monotonic(), min(MOST_LEFT_OUT, 2 * worker.delay or 1)
-
-    def unfit(self, address: str, reason: str) -> None:
-        self.require_ownership()
-        self.leave_out(address, reason)
+        if address in self.workers:
+            self.tell(f"worker {address} is left out: {reason}")
+            now, seconds = time.monotonic(), self.unfit_for.get(address, LEFT_OUT_SECONDS / 2)
+            if self.unfit_at.get(address, -seconds) + seconds <= now:
+                self.unfit_for[address] = min(2 * seconds, MOST_LEFT_OUT)
+            self.unfit_at[address] = now
 
     def suspect(self, sent: Sent) -> None:
         """Dask has given up a task, since worker after worker died of it, or beside it."""
@@ -316,7 +299,7 @@ class Engine:
                 self.close(task.job, f"KilledWorker: worker after worker died that had {task.words}")
             else:
                 task.is_suspect = True
-                self.later.append(task)
+                self.again(task)
 
     def tell(self, line: str) -> None:
         """Says a thing once."""
@@ -326,10 +309,10 @@ class Engine:
 
     def require_ownership(self) -> None:
         """Ends this run if another one has taken its output over."""
-        place, record = self.work.place, None
+        record: Dict[str, Any] = {}
         with contextlib.suppress(Exception):  # file systems have many
-            record = self.bounded(f"a look at {place.ours}", place.content, f"{place.ours}/run.json")
-        if isinstance(record, dict) and record.get("run") != self.work.run:
+            record = self.bounded(f"a look at {self.work.out}", self.work.place.owner)
+        if record and record["run"] != self.work.run:
             raise Lost(f"{self.work.out} is another output here, or another run has taken it over")
 
     # The cluster.
@@ -358,31 +341,26 @@ class Engine:
         now = self.seen = time.monotonic()
         self.told.discard(SILENT_SCHEDULER)
         self.take()  # what has come meanwhile is not late, however long this driver was kept from looking
-        self.keys_of = {address: [str(key) for key in keys] for address, keys in had.items()}
-        self.workers = {address: self.workers.get(address) or Worker(address, heard_at=now)
-                        for address in info["workers"]}
-        for address, worker in self.workers.items():
-            worker.threads, worker.status = (info["workers"][address][key] for key in ("nthreads", "status"))
-            has = [self.sent[key] for key in self.keys_of.get(address, ()) if key in self.sent]
-            worker.heard_at = worker.heard_at if has else now
-            worker.is_stuck = now - worker.heard_at > STUCK_SECONDS
-            for sent in has if worker.is_stuck else ():
-                if not sent.is_twin:
-                    sent.is_twin = True
-                    self.later += sent.open
-                    self.tell(f"nothing comes of the tasks of worker {address}, which is {worker.status}; others get "
-                              "them")
-        self.drop(now)
-
-    def drop(self, now: float) -> None:
-        """Takes back what nobody waits for, and sends again what Dask says is done though nothing came of it."""
+        self.workers, self.keys_of = info["workers"], {address: list(map(str, keys)) for address, keys in had.items()}
+        worker_of = {key: address for address, keys in self.keys_of.items() for key in keys}
+        self.stuck.clear()
         for key, sent in list(self.sent.items()):
-            sent.done_at = (sent.done_at or now) if sent.future.status != "pending" else 0
-            # A twin stays where it is: a stuck worker that seems to be idle would get more.
-            if sent.done_at and now - sent.done_at > LOST_SECONDS or not sent.is_twin and not sent.open:
+            address = worker_of.get(key, "")  # a stopped one may have an outcome, and Dask says that it is done
+            is_queued = not address and sent.future.status == "pending"
+            sent.heard_at = now if is_queued else max(sent.heard_at, self.heard_at.get(address, 0))
+            if now - sent.heard_at > STUCK_SECONDS:
+                self.stuck.add(address)
+                self.send_twin(sent, address)
+            elif not sent.open and not sent.is_twin:  # which stays: a stuck worker that seems to be idle would get more
                 del self.sent[key]
                 sent.future.release()
-                self.again(sent)
+
+    def send_twin(self, sent: Sent, address: str) -> None:
+        if not sent.is_twin:
+            sent.is_twin = True
+            self.again(*sent.open)
+            status = self.workers.get(address, {}).get("status", "gone")
+            self.tell(f"nothing comes of the tasks of worker {address}, which is {status}; others get them")
 
     def be_patient(self) -> None:
         """Says what is waited for, and ends a run that waits for too long."""
@@ -391,90 +369,83 @@ class Engine:
         if not is_late and (self.is_patient or waited <= min(PATIENT_SECONDS, self.wanted.wait / 2)):
             return
         self.is_patient = True
-        is_fit = any(worker.is_fit and worker.status == "running" for worker in self.workers.values())
-        waits = [f"worker {each.address} is {each.status}" for each in self.workers.values()
-                 if each.status != "running"]
+        status_of = {address: told["status"] for address, told in self.workers.items()}
+        waits = [f"worker {address} is {status}" for address, status in status_of.items() if status != "running"]
         others = {address: sum(key not in self.sent for key in keys) for address, keys in sorted(self.keys_of.items())}
         waits += [f"worker {address} has {count} tasks of others" for address, count in others.items() if count]
+        is_fit = "running" in (status for address, status in status_of.items() if address not in self.left_out)
         what = "".join(f"; {each}" for each in waits[:5])
         if is_late:
             reason = "nothing has gone on" if is_fit else "no worker has been fit"
             raise Lost(f"{reason} for {self.wanted.wait:g} seconds{what}")
-        reason = "nothing goes on" if is_fit else f"no worker is fit of {len(self.workers)}"
-        self.say(f"{reason}, and the run waits{what}")
+        self.say(f"{'nothing goes on' if is_fit else f'no worker is fit of {len(status_of)}'}, and the run waits{what}")
 
-    def go_on(self, address: str) -> None:
-        """Something came of a worker's tasks."""
+    def go_on(self) -> None:
         self.progress, self.is_patient = time.monotonic(), False
-        if address in self.workers:
-            self.workers[address].heard_at = self.progress
 
     # Tasks.
 
     def fill(self) -> None:
-        """Keeps the window full. Where no known worker is fit, it waits for one."""
-        if self.workers and not any(worker.is_fit for worker in self.workers.values()):
-            return
-        window = LEAST_WINDOW + 2 * sum(worker.threads for worker in self.workers.values())
+        """Keeps the window full."""
+        window = LEAST_WINDOW + 2 * self.threads
         for _ in range(window - sum(not sent.is_twin for sent in self.sent.values())):
             tasks = self.next_tasks()
             if not tasks:
                 break
             self.submit(tasks)
 
-    def next_tasks(self) -> List[Task]:
-        """What is sent next: a task that comes again, or a new one, or small inputs together. At last, one by one,
-        those that may have killed workers."""
-        now = time.monotonic()
-        self.later = [task for task in self.later if not task.is_stale]
-        ready = [task for task in self.later if now >= task.not_before and not task.is_suspect]
-        if not ready:
-            tasks = self.next_fresh()
-            if tasks or any(task.is_suspect for sent in self.sent.values() for task in sent.open):
-                return tasks
-            ready = [task for task in self.later if task.is_suspect]
-        for task in ready[:1]:
-            self.later.remove(task)
-        return ready[:1]
+    @property
+    def threads(self) -> int:
+        return sum(told["nthreads"] for told in self.workers.values())
 
-    def next_fresh(self) -> List[Task]:
+    def next_tasks(self) -> List[Task]:
+        """What is sent next: a task, or small inputs together. At last, one by one, those that may have killed
+        workers."""
         batch: List[Task] = []
-        threads = sum(worker.threads for worker in self.workers.values())
-        most, size = min(BATCH, 1 + self.left // (4 * threads or 1)), 0
-        while len(self.fresh) < BATCH and (job := next(self.unbegun, None)):
+        most, size = min(BATCH, 1 + self.left // (4 * self.threads or 1)), 0
+        while self.later and self.later[0][0] <= time.monotonic():
+            self.again(heapq.heappop(self.later)[2])
+        while len(self.waiting) < BATCH and (job := next(self.unbegun, None)):
             self.begin(job)
-        while self.fresh and len(batch) < most:
-            task = self.fresh[0]
-            is_small = task.method == "answer_whole" and task.bytes <= BATCH_BYTES
+        while self.waiting and len(batch) < most:
+            task = self.waiting[0]
+            is_small = task.method == "answer_whole" and task.bytes <= BATCH_BYTES and not task.failed
             if batch and not (is_small and size + task.bytes <= BATCH_BYTES):
                 break
-            self.fresh.popleft()
+            self.waiting.popleft()
             if not task.is_stale:
                 batch.append(task)
                 size += task.bytes
                 if not is_small:
                     break
-        return batch
+        sent = (sent for sent in self.sent.values() if not sent.is_twin)
+        if batch or any(task.is_suspect for each in sent for task in each.open):
+            return batch
+        return [self.suspects.popleft()] if self.suspects else []
+
+    def again(self, *tasks: Task) -> None:
+        for task in tasks:
+            if task.is_suspect:
+                self.suspects.append(task)
+            else:
+                self.waiting.appendleft(task)
 
     def submit(self, tasks: List[Task]) -> None:
-        """Sends tasks to Dask. Where some workers are not fit, or have failed, it names the others."""
-        failed = {address for task in tasks for address in task.failed}
-        fit = [address for address, worker in self.workers.items() if worker.is_fit]
-        better = [address for address in fit if address not in failed]
-        workers = (better or fit) if len(better) < len(self.workers) else []
+        """Sends tasks to Dask. Where some workers are left out, or have failed, it names the others."""
+        failed, out = {address for task in tasks for address in task.failed}, self.left_out
+        fit = [address for address in self.workers if address not in out]
+        workers = [address for address in fit if address not in failed] or fit
+        is_bound = 0 < len(workers) < len(self.workers)
         name = tasks[0].words if len(tasks) == 1 else f"{len(tasks)} inputs"
         name = name.encode(errors="backslashreplace").decode()  # names of files need not be UTF-8, and Dask's are
         key = f"{self.work.words[0]}-{self.work.run}-{next(self.numbers)} {name}"
         calls = [(task.method, task.job.given, task.arguments, FIRST_SECONDS + task.bytes / self.wanted.slowest)
                  for task in tasks]
         each = min(PATIENT_SECONDS, self.wanted.wait / 3)
-        future = self.client.submit(self.do, self.work.fields, pickle.dumps(calls), key, each, key=key, pure=False,
-                                    workers=workers or None, allow_other_workers=bool(workers))
-        self.sent[key] = Sent(future, tasks)
+        future = self.client.submit(self.do, len(tasks), self.work.fields, pickle.dumps(calls), key, each, key=key,
+                                    pure=False, workers=workers if is_bound else None, allow_other_workers=is_bound)
+        self.sent[key] = Sent(future, tasks, time.monotonic())
         self.done.add(future)
-
-    def again(self, sent: Sent) -> None:
-        self.later += [task for task in sent.open if task not in self.later]
 
     def take(self) -> bool:
         """Takes what has come. Gives whether something did."""
@@ -486,9 +457,9 @@ class Engine:
             if sent is None:
                 continue
             if future.status == "finished" and isinstance(result, tuple):
-                self.take_result(sent, *result)
+                self.take_outcomes(sent, *result)
             elif future.status != "error":  # another client's restart takes all that a worker has
-                self.again(sent)
+                self.again(*sent.open)
             elif isinstance(error := future.exception(timeout=PATIENT_SECONDS), KilledWorker):
                 self.suspect(sent)
             else:
@@ -501,29 +472,31 @@ class Engine:
         sent = self.sent.get(told["key"])
         if sent is None:
             return
-        self.go_on(told["worker"])
+        self.heard_at[told["worker"]] = time.monotonic()
+        self.go_on()
         task = sent.tasks[told["number"]]
         if told["taken"] > LONG_SECONDS and not task.job.is_long:
             task.job.is_long = True
             self.say(f"worker {told['worker']} has had {task.words} for {told['taken']:.0f} seconds, of "
                      f"{told['limit']:.0f} that it has")
 
-    def take_result(self, sent: Sent, address: str, what: str, value: Any) -> None:
-        if what == "unfit":
-            self.unfit(address, value)
-            self.again(sent)
-            return
-        self.go_on(address)
-        for task, (what, outcome) in zip(sent.tasks, value):
-            self.take_outcome(task, address, what, outcome)
+    def take_outcomes(self, sent: Sent, address: str, outcomes: List[Tuple[str, Any]]) -> None:
+        unfit = {value for what, value in outcomes if what == "unfit"}
+        self.heard_at[address] = time.monotonic()
+        if unfit:
+            self.require_ownership()
+        else:
+            self.go_on()
+            self.unfit_for[address] = LEFT_OUT_SECONDS
+        for reason in unfit:
+            self.leave_out(address, reason)
+        for task, (what, value) in zip(sent.tasks, outcomes):
+            if not task.is_stale:
+                self.take_outcome(task, address, what, value)
 
     def take_outcome(self, task: Task, address: str, what: str, value: Any) -> None:
         if what == "unfit":
-            self.unfit(address, value)
-        if task.is_stale:
-            return
-        if what == "unfit":
-            self.later.append(task)
+            self.again(task)
         elif what == "done":
             task.is_done = True
             for failed, reason in task.failed.items():
@@ -532,9 +505,9 @@ class Engine:
             self.finished(task, value)
         elif what == "anew":
             self.begin_again(task, address, value)
-        elif what == "hung":
+        elif what == "hung":  # twice is enough
             self.say(f"worker {address} has had {task.words} for {value:.0f} seconds; another one gets it")
-            task.hangs += 1
-            self.fail(task, address, f"TimeoutError: it took more than {value:.0f} seconds", task.hangs > 1)
+            reason = f"TimeoutError: it took more than {value:.0f} seconds"
+            self.fail(task, address, reason, (self.wanted.retries + 1) / 2)
         else:
             self.fail(task, address, value)

@@ -54,7 +54,7 @@ class Finder:
         paths, is_output = [each["name"].rstrip("/") for each in listed], False
         try:
             if f"{folder.rstrip('/')}/{OURS}" in paths:
-                is_output = self.bounded(f"a look at {folder}", has_run, self.fs, folder)
+                is_output = bool(self.bounded(f"a look at {folder}", Place(self.fs, folder).owner))
         except Exception as error:
             if folder != self.above:
                 yield self.found(folder, f"cannot be looked at: {reason_of(error)}")
@@ -80,14 +80,6 @@ class Finder:
 def is_of_store(fs: Any, told: Dict[str, Any]) -> bool:
     """Whether a listing tells as much of a file as a look at it."""
     return not renames(fs) and bool(STORE_KEYS & told.keys())
-
-
-def has_run(fs: Any, folder: str) -> bool:
-    return Place(fs, folder).words_of_run() is not None
-
-
-def has_record(fs: Any, path: str) -> bool:
-    return bool(Place(fs, "").read_record(path))
 
 
 def found(fs: Any, path: str, kind: str, bounded: Bounded) -> Iterator[Found]:
@@ -169,9 +161,9 @@ class Taking:
         if one.problem or not OF_RUNS.fullmatch(one.name):
             return False
         try:
-            is_below = one.name.startswith(f"{OURS}/")
-            wrote, path = (has_run, folder) if is_below else (has_record, one.path)
-            return bool(self.bounded(f"a look at {one.path}", wrote, fs, path))
+            place, is_below = Place(fs, folder), one.name.startswith(f"{OURS}/")
+            wrote: Any = place.owner if is_below else functools.partial(place.read_record, one.path)
+            return bool(self.bounded(f"a look at {one.path}", wrote))
         except Exception:  # file systems have many
             return False
 
@@ -185,19 +177,25 @@ class Taking:
                 yield from zip(some, threads.map(functools.partial(self.see, fs), some))
 
     def see(self, fs: Any, one: Found) -> Union[str, Given]:
-        """The input that a file is, or why it cannot be one."""
+        """The input that a file is, or why it cannot be one. One bounded call makes all looks, since it costs as much
+        as they do."""
         if one.problem:
             return one.problem
         try:
-            told = one.told or self.bounded(f"a look at {one.path}", look, fs, one.path)
-            if told["type"] != "file":
-                return "is a folder, or a link to one" if told["type"] == "directory" else "is not a regular file"
-            beginning = self.bounded(f"the beginning of {one.path}", beginning_of, fs, one.path, told["size"])
-            kind = packed.kind_of(one.path, beginning)
+            seen: Union[str, Given] = self.bounded(f"a look at {one.path} or the place of its answers", self.input_of,
+                                                   fs, one)
+            return seen
         except FileNotFoundError:
             return "is a link that leads nowhere, or is gone"
         except Exception as error:  # file systems have many
             return str(error) if type(error) is ValueError else f"cannot be read: {reason_of(error)}"
+
+    def input_of(self, fs: Any, one: Found) -> Union[str, Given]:
+        told = one.told or look(fs, one.path)
+        if told["type"] != "file":
+            return "is a folder, or a link to one" if told["type"] == "directory" else "is not a regular file"
+        beginning = beginning_of(fs, one.path, told["size"])
+        kind = packed.kind_of(one.path, beginning)
         if told["size"] == 0 and beginning:
             return "does not tell its size"
         name = packed.name_without_suffix(one.name, kind)
@@ -207,11 +205,10 @@ class Taking:
         folder = answers if self.is_parts else f"{self.place.ours}/inputs/{name}"
         given = Given(fs, one.path, kind, answers, folder, told)
         try:
-            given.is_new = not self.bounded(f"a look at {folder}", self.place.is_there, folder)
-            problem = self.bounded(f"a look at {answers}", self.place.problem_of, given, self.is_parts)
+            given.is_new = not self.place.is_there(folder)
+            return self.place.problem_of(given, self.is_parts) or given
         except Exception as error:
-            problem = f"cannot have its answers at {answers}: {reason_of(error)}"
-        return problem or given
+            return f"cannot have its answers at {answers}: {reason_of(error)}"
 
     def take(self, given: Given, number: int) -> str:
         """Takes an input. Gives the reason if another one has its place."""

@@ -59,10 +59,10 @@ def name_without_suffix(name: str, kind: Optional[str]) -> str:
     return name[:-len(suffix)] if suffix and name.lower().endswith(suffix) and len(name) > len(suffix) else name
 
 
-def unpacked(raw: IO[bytes], name: str) -> Iterator[bytes]:
-    """The bytes of all streams of a file. It is an error if the file is empty, ends within a stream, or has anything
-    but streams and their padding."""
-    kind, data = KINDS[name], raw.read(PIECE)
+def unpacked(raw: IO[bytes], name: str, size: int) -> Iterator[bytes]:
+    """The bytes of all streams of a file, in pieces of at least so many but for the last. It is an error if the file is
+    empty, ends within a stream, or has anything but streams and their padding."""
+    kind, data, held = KINDS[name], raw.read(PIECE), bytearray()
     if not data:
         raise EOFError(f"the file is empty, and so is no {name}")
     while data:
@@ -70,21 +70,14 @@ def unpacked(raw: IO[bytes], name: str) -> Iterator[bytes]:
         while not stream.eof:
             if not data:
                 raise EOFError(f"the file ends within a stream of {name}")
-            yield stream.decompress(data)
+            held += stream.decompress(data)
+            if len(held) >= size:
+                yield bytes(held)
+                held.clear()
             data = stream.unused_data if stream.eof else raw.read(PIECE)
         data = data or raw.read(PIECE)
         while kind.is_padded and data and not data.strip(b"\0"):
             data = raw.read(PIECE)
         data = data.lstrip(b"\0") if kind.is_padded else data
-
-
-def grouped(pieces: Iterator[bytes], size: int) -> Iterator[bytes]:
-    """The same bytes in pieces of at least so many, but for the last."""
-    held = bytearray()
-    for piece in pieces:
-        held += piece
-        if len(held) >= size:
-            yield bytes(held)
-            held.clear()
     if held:
         yield bytes(held)

@@ -5,6 +5,7 @@ import dataclasses
 import functools
 import hashlib
 import io
+import itertools
 import json
 import os
 import pickle
@@ -21,7 +22,7 @@ from fsspec.spec import AbstractFileSystem
 from sdtool import _library, _runs
 
 from .bounded import Overdue, within
-from .packed import grouped, unpacked
+from .packed import unpacked
 
 AT_ONCE = 16  # small inputs
 READ, SEEK = 4 << 20, 1 << 16  # bytes of a request, and of one behind a block, where its last line ends
@@ -73,14 +74,6 @@ def has_one_connection(fs: Any) -> bool:
     return renames(fs) and not isinstance(fs, LocalFileSystem)
 
 
-def at_once(call: Callable[[Any], Any], items: Sequence[Any], used: List[Any]) -> List[Any]:
-    """What a call gives for each item, side by side where the file systems can do that."""
-    if len(items) < 2 or any(map(has_one_connection, used)):
-        return [call(item) for item in items]
-    with concurrent.futures.ThreadPoolExecutor(AT_ONCE) as threads:
-        return list(threads.map(call, items))
-
-
 def chunks_of(fs: Any, path: str, start: int, end: int, size: int = 0) -> Iterator[bytes]:
     """Bytes of a file, each by a request of its own: threads that open a file of memory:// share its position."""
     size = size or (READ if renames(fs) else OF_STORE)
@@ -129,9 +122,9 @@ def entries(fs: Any, folder: str) -> List[Record]:
 
 
 def files_of(fs: Any, folder: str, *names: "re.Pattern[str]") -> Iterator[Tuple[str, "re.Match[str]"]]:
-    """The files in a folder that have such a name as a whole."""
+    """The files in a folder, if it is one, that have such a name as a whole."""
     there: List[Record] = []
-    with contextlib.suppress(FileNotFoundError):  # another run may remove it
+    with contextlib.suppress(FileNotFoundError, NotADirectoryError):  # another run may remove it
         there = entries(fs, folder)
     for told in there:
         match = next(filter(None, (name.fullmatch(os.path.basename(told["name"])) for name in names)), None)
@@ -185,11 +178,10 @@ def total_of(blocks: List[Record]) -> Dict[str, int]:
     return {key: sum(block[key] for block in blocks) for key in ("lines", "errors", "bytes")}
 
 
-def _modules_digest() -> str:
-    """The digest of the files of the module and of this package, since they count the answers and compare them with the
-    lines."""
+def modules_digest(*folders: str) -> str:
+    """The digest of the files of the module, and of folders in it."""
     top, digest = os.path.dirname(os.path.abspath(_library.__file__)), new_digest()
-    names = [os.path.join(folder, name) for folder in ("", "distributed")
+    names = [os.path.join(folder, name) for folder in ("", *folders)
              for name in os.listdir(os.path.join(top, folder))]
     for name in sorted(names):
         if name.endswith((".py", ".so")):
@@ -198,7 +190,9 @@ def _modules_digest() -> str:
     return digest.hexdigest()
 
 
-MODULES = _modules_digest()  # of what this process has imported, whatever becomes of the files
+# Of what this process has imported, whatever becomes of the files: it counts the answers, and compares them with the
+# lines.
+MODULES = modules_digest("distributed")
 
 
 @dataclasses.dataclass
@@ -227,7 +221,9 @@ class Given:
         return bool((VERSION_KEYS | TIME_KEYS) & self.told.keys())
 
     def require_same(self) -> None:
-        told = look(self.fs, self.path)
+        self.require(look(self.fs, self.path))
+
+    def require(self, told: Record) -> None:
         both = STORE_KEYS & told.keys() & self.told.keys()  # listings of stores tell less than a look at one file
         keys = {"size", *both} if both else {*told, *self.told}
         changed = {key for key in keys if told.get(key) != self.told.get(key)}
@@ -244,7 +240,7 @@ class Given:
         all of a compressed file."""
         if end is None or self.size is None:
             with self.fs.open(self.path, "rb") as raw:
-                yield from grouped(unpacked(raw, str(self.compression)), READ)
+                yield from unpacked(raw, str(self.compression), READ)
             return
         at, has_begun, behind = max(0, start - 1), start == 0, min(end + SEEK, self.size)
         for first, last, size in (at, behind, 0), (behind, self.size, READ):
@@ -261,12 +257,13 @@ class Given:
                     return
                 at += len(chunk)
 
-    def digest(self, start: int, end: Optional[int]) -> str:
-        """The digest of the lines that begin in a block."""
+    def require_content(self, block: Record) -> None:
+        """Reads a block of an input that has no version again."""
         digest = new_digest()
-        for piece in self.pieces(start, end):
+        for piece in () if self.is_versioned else self.pieces(block["start"], block["end"]):
             digest.update(piece)
-        return digest.hexdigest()
+        if not self.is_versioned and digest.hexdigest() != block["read"]:
+            raise self.changed()
 
 
 class Place:
@@ -311,13 +308,9 @@ class Place:
             with self.folder_of(old) as above, self.folder_of(new, is_made) as to:
                 os.replace(os.path.basename(old), os.path.basename(new), src_dir_fd=above, dst_dir_fd=to)
             return
-        try:
-            self.fs.mv(old, new)
-        except FileNotFoundError:
-            if not is_made:
-                raise
+        if is_made:
             self.fs.makedirs(os.path.dirname(new), exist_ok=True)
-            self.fs.mv(old, new)
+        self.fs.mv(old, new)
 
     def is_there(self, path: str) -> bool:
         """Whether anything has this name, a link that leads nowhere too."""
@@ -325,27 +318,27 @@ class Place:
             return path in self.known
         return os.path.lexists(path) if self.is_local else bool(self.fs.exists(path))
 
-    def content(self, path: str) -> Any:
-        """What a file of JSON says; None where there is no such regular file, or a torn one."""
+    def content(self, path: str) -> Record:
+        """What a file of JSON says; nothing where there is no such regular file, or a torn one."""
         try:
             told = self.fs.info(path) if self.renames else {"type": "file"}
             if told["type"] != "file" or told.get("islink") or (told.get("size") or 0) > LONGEST_RECORD:
-                return None
-            return json.loads(self.fs.cat_file(path))
+                return {}
+            content = json.loads(self.fs.cat_file(path))
         except (FileNotFoundError, NotADirectoryError, ValueError, RecursionError):
-            return None
+            return {}
+        return content if isinstance(content, dict) else {}
 
     def read_record(self, path: str) -> Record:
         """A record that a run wrote, by its seal; an empty one where there is none."""
         content = self.content(path)
-        seal = content.pop("seal", None) if isinstance(content, dict) else None
-        return dict(content) if seal and seal == seal_of(content) else {}
+        seal = content.pop("seal", None)
+        return content if seal and seal == seal_of(content) else {}
 
-    def words_of_run(self, path: str = "") -> Optional[List[str]]:
-        """The words of the run that owns the output, or of the one that wrote this file; None where none did."""
+    def owner(self, path: str = "") -> Record:
+        """The run that owns the output, or that wrote this file, and its words; nothing where there is none."""
         record = self.content(path or f"{self.ours}/run.json")
-        words = record.get("words") if isinstance(record, dict) and isinstance(record.get("run"), str) else None
-        return words if isinstance(words, list) and all(isinstance(word, str) for word in words) else None
+        return record if isinstance(record.get("run"), str) and isinstance(record.get("words"), list) else {}
 
     def problem_of(self, given: Given, is_parts: bool) -> str:
         """Why the answers to an input cannot have their place, if so."""
@@ -354,30 +347,34 @@ class Place:
                 pass
         if not self.is_there(given.answers):
             return ""
-        there, manifest = f"has answers at {given.answers}, which", self.manifest_of(given.folder)
+        there, manifest = f"has answers at {given.answers}, which", self.manifest_of(given.folder, is_parts)
         other = f"{self.ours}/inputs/{given.answers[len(self.root) + 1:]}" if is_parts else given.answers
-        if is_same(given.fs, self.fs) and given.path == given.answers or manifest is None and not self.manifest_of(
-                other):
+        is_other = not manifest and bool(self.manifest_of(other, not is_parts))
+        if is_same(given.fs, self.fs) and given.path == given.answers or not manifest and not is_other:
             return f"{there} no run wrote"
-        if manifest is None:
+        if is_other:
             return f"{there} a run wrote {'without' if is_parts else 'with'} --parts"
         if manifest.get("url", given.url) != given.url:
             return f"{there} are those of {manifest['url']}"
         is_folder = self.fs.info(given.answers)["type"] == "directory"
         return "" if is_folder == is_parts else f"{there} is no {('file', 'folder')[is_parts]}"
 
-    def manifest_of(self, folder: str) -> Optional[Record]:
-        """What a run wrote of an input's answers, whole or not."""
-        content = self.content(f"{folder}/{MANIFEST}")
-        return content if isinstance(content, dict) and {"lines", "blocks"} & content.keys() else None
+    def manifest_of(self, folder: str, is_parts: bool) -> Record:
+        """What a run wrote of the answers to an input; of parts that stay, whole or not."""
+        evidence = files_of(self.fs, folder, EVIDENCE) if is_parts else ()
+        for path, _ in itertools.chain([(f"{folder}/{MANIFEST}", None)], evidence):
+            if "blocks" in (content := self.content(path)):
+                return content
+        return {}
 
 
 class Work:
     """A run, as each of its workers knows it."""
 
-    def __init__(self, *fields: Any) -> None:
-        self.fields = fields
-        self.run, self.words, self.library, self.modules, self.out, self.is_parts = fields
+    def __init__(self, run: str, words: Sequence[str], library: str, modules: str, out: str, is_parts: bool) -> None:
+        self.fields = run, tuple(words), library, modules, out, is_parts
+        self.run, self.words, self.library, self.modules, self.out = run, list(words), library, modules, out
+        self.is_parts = is_parts
         self.place = Place(*url_to_fs(self.out))
         self.mine = f"{self.place.ours}/{self.run}"
         self.is_fit = False
@@ -402,11 +399,8 @@ class Work:
 
     def require_ownership(self) -> None:
         """Raises Unfit if another run has taken the output over."""
-        record = self.place.content(f"{self.place.ours}/run.json")
-        if record is None:
-            raise Unfit(f"{self.out} is gone, or is another output here")
-        if not isinstance(record, dict) or record.get("run") != self.run:
-            raise Unfit(f"{self.out} is another output here, or another run has taken it over")
+        if self.place.owner().get("run") != self.run:
+            raise Unfit(f"{self.out} is gone, is another output here, or another run has taken it over")
 
     def require_ownership_of(self, path: str) -> None:
         """The same for one file. What is among the files of runs counts only with a digest, so that a run which has
@@ -480,18 +474,40 @@ class Work:
             return self.copy(path, block, at)
         return False
 
-    def answer(self, given: Given, index: int, start: int, end: Optional[int]) -> Record:
-        """Answers a block in a part, unless a run did so and nothing has changed."""
-        path, evidence = paths_of(given, index)
-        basis = self.basis(given)
-        if not given.is_new:
-            there = self.place.read_record(evidence)
-            if {**there, **basis, "start": start, "end": end} == there and self.is_whole(path, there):
-                return {key: value for key, value in there.items() if key not in basis}
+    def kept(self, given: Given, path: str, record: str) -> List[Record]:
+        """The blocks whose answers a file has from an earlier task or run, if nothing has changed since; else none."""
+        there = {} if given.is_new else self.place.read_record(record)
+        if {**there, **self.basis(given)} != there:
+            return []
+        blocks: List[Record] = there["blocks"]
+        starts = itertools.accumulate((block["bytes"] for block in blocks), initial=0)
+        with contextlib.suppress(OSError):
+            is_as_long = look(self.place.fs, path)["size"] == there["bytes"]
+            if is_as_long and all(self.copy(path, block, at) for block, at in zip(blocks, starts)):
+                return blocks
+        return []
+
+    def made(self, given: Given, path: str, record: str, write: Callable[[Any], List[Record]]) -> List[Record]:
+        """Writes answers to blocks, and what they are in a record, which is there before them."""
         with self.written(path) as file:
-            block = self.answer_to(given, start, end, file)
-        self.write_record(evidence, {**basis, **block})
-        return block
+            blocks = write(file)
+            if path == given.answers:
+                problem = self.place.problem_of(given, False)  # which may have come since the run began
+                if problem:
+                    raise OSError(f"it {problem}")
+                if self.place.is_local:
+                    file.flush()
+                    os.fsync(file.fileno())
+            self.write_record(record, {**self.basis(given), **total_of(blocks), "blocks": blocks})
+        return blocks
+
+    def answer(self, given: Given, index: int, start: int, end: Optional[int]) -> Record:
+        """Answers a block in a part, unless one has its answers."""
+        paths = paths_of(given, index)
+        blocks = self.kept(given, *paths)
+        if [(block["start"], block["end"]) for block in blocks] != [(start, end)]:
+            blocks = self.made(given, *paths, lambda file: [self.answer_to(given, start, end, file)])
+        return blocks[0]
 
     def answer_to(self, given: Given, start: int, end: Optional[int], file: Any) -> Record:
         """Writes the answers to a block. Gives their counts and digests."""
@@ -512,21 +528,15 @@ class Work:
         is done when all blocks were read, so that all answers are to one state of the file."""
         if not self.is_whole(paths_of(given, index)[0], block):
             raise Anew(f"part {index}")
-        if not given.is_versioned and given.digest(block["start"], block["end"]) != block["read"]:
-            raise given.changed()
+        given.require_content(block)
 
     def keep(self, given: Given) -> Optional[Record]:
         """The counts of answers that a run has put together, if nothing has changed since; else None."""
-        manifest, at = self.place.read_record(f"{given.folder}/{MANIFEST}"), 0
-        if ({**manifest, **self.basis(given)} != manifest or not self.place.is_there(given.answers)
-                or look(self.place.fs, given.answers)["size"] != manifest["bytes"]):
+        blocks = self.kept(given, given.answers, f"{given.folder}/{MANIFEST}")
+        if not blocks:
             return None
-        for block in manifest["blocks"]:
-            if not self.is_whole(given.answers, block, at):
-                return None
-            at += block["bytes"]
-        self.tidy(given, len(manifest["blocks"]))
-        return total_of(manifest["blocks"])
+        self.tidy(given, len(blocks))
+        return total_of(blocks)
 
     def answer_whole(self, given: Given, end: Optional[int]) -> Record:
         """Answers an input of one block, which needs no part."""
@@ -534,26 +544,27 @@ class Work:
             block = self.answer(given, 0, 0, end)
             self.compare(given, 0, block)
             return self.finish(given, [block])
-        kept = None if given.is_new else self.keep(given)
-        if kept is not None:
-            return kept
-        with self.written(given.answers) as file:
+
+        def write(file: Any) -> List[Record]:
             block = self.answer_to(given, 0, end, file)
-            if not given.is_versioned and given.digest(0, end) != block["read"]:
-                raise given.changed()
-            self.place_answers(given, [block], file)
+            given.require_content(block)
+            return [block]
+        manifest = f"{given.folder}/{MANIFEST}"
+        blocks = self.kept(given, given.answers, manifest) or self.made(given, given.answers, manifest, write)
         self.tidy(given, 0)
-        return total_of([block])
+        return total_of(blocks)
 
     def finish(self, given: Given, blocks: List[Record]) -> Record:
         """Puts the answers to an input together, or says that all parts are there."""
+        def write(file: Any) -> List[Record]:
+            for index, block in enumerate(blocks):
+                self.join(paths_of(given, index)[0], block, index, file)
+            return blocks
+        manifest = f"{given.folder}/{MANIFEST}"
         if self.is_parts:
-            self.write_manifest(given, blocks)
+            self.write_record(manifest, {**self.basis(given), **total_of(blocks), "blocks": blocks})
         else:
-            with self.written(given.answers) as file:
-                for index, block in enumerate(blocks):
-                    self.join(paths_of(given, index)[0], block, index, file)
-                self.place_answers(given, blocks, file)
+            self.made(given, given.answers, manifest, write)
         self.tidy(given, len(blocks))
         return total_of(blocks)
 
@@ -565,19 +576,6 @@ class Work:
             if self.is_whole(path, block):  # so the other file could not be written
                 raise
         raise Anew(f"part {index}")
-
-    def place_answers(self, given: Given, blocks: List[Record], file: Any) -> None:
-        """Makes answers ready to appear. The manifest is there before."""
-        problem = self.place.problem_of(given, self.is_parts)  # which may have come since the run began
-        if problem:
-            raise OSError(f"it {problem}")
-        if self.place.is_local:
-            file.flush()
-            os.fsync(file.fileno())
-        self.write_manifest(given, blocks)
-
-    def write_manifest(self, given: Given, blocks: List[Record]) -> None:
-        self.write_record(f"{given.folder}/{MANIFEST}", {**self.basis(given), **total_of(blocks), "blocks": blocks})
 
     def tidy(self, given: Given, count: int) -> None:
         """Removes parts and evidence that the answers do not need: with --parts those of other blocks, else all."""
@@ -592,7 +590,8 @@ class Work:
                 self.require_ownership_of(given.folder)
                 fs.rm(unneeded)  # object stores remove many by one request
                 return
-        at_once(self.remove, unneeded, [fs])
+        for path in unneeded:
+            self.remove(path)
 
     def remove(self, path: str) -> None:
         """Removes a file. A worker that is stopped here may go on when a later run has a file of this name. So it gets
@@ -614,22 +613,22 @@ def paths_of(given: Given, index: int) -> Tuple[str, str]:
     return f"{given.folder}/part-{index:06}", f"{given.folder}/{OURS}-part-{index:06}.json"
 
 
-WORKS: Dict[Tuple[str, int], Work] = {}  # by their runs, and by threads that share no connection
+@functools.lru_cache(maxsize=None)
+def work_of(thread: int, *fields: Any) -> Work:
+    return Work(*fields)
 
 
 def prepared(fields: Tuple[Any, ...], pickled: bytes) -> Tuple[Work, List[Any]]:
-    run, thread = fields[0], threading.get_ident()
-    work = WORKS.get((run, 0)) or WORKS.get((run, thread))
-    if work is None:
-        work = Work(*fields)
-        WORKS[run, thread if has_one_connection(work.place.fs) else 0] = work
+    work = work_of(0, *fields)
+    if has_one_connection(work.place.fs):  # which threads do not share
+        work = work_of(threading.get_ident(), *fields)
     work.require_fit()
     return work, pickle.loads(pickled)
 
 
-def done(worker: Any, fields: Tuple[Any, ...], pickled: bytes, key: str, each: float) -> Tuple[str, str, Any]:
-    """What a worker does for one task of Dask: it answers small inputs side by side, as each waits for a disk or a
-    server. Gives its address and the outcomes."""
+def done(worker: Any, fields: Tuple[Any, ...], pickled: bytes, key: str, each: float) -> List[Tuple[str, Any]]:
+    """What a worker does for one task of Dask, and what came of it: it answers small inputs side by side, as each waits
+    for a disk or a server."""
     work, calls = within(SHORT_SECONDS, f"a look at {fields[4]} and the inputs", prepared, fields, pickled)
 
     def outcome(number: int) -> Tuple[str, Any]:
@@ -639,8 +638,10 @@ def done(worker: Any, fields: Tuple[Any, ...], pickled: bytes, key: str, each: f
         what, value = work.outcome(tell, each, *calls[number])
         return what, value
 
-    used = [work.place.fs, *(given.fs for _, given, _, _ in calls)]
-    return worker.address, "outcomes", at_once(outcome, range(len(calls)), used)
+    if len(calls) < 2 or any(map(has_one_connection, (work.place.fs, *(given.fs for _, given, _, _ in calls)))):
+        return [outcome(number) for number in range(len(calls))]
+    with concurrent.futures.ThreadPoolExecutor(AT_ONCE) as threads:
+        return list(threads.map(outcome, range(len(calls))))
 
 
 def seen(pieces: Iterator[bytes], see: Callable[[bytes], Any]) -> Iterator[bytes]:

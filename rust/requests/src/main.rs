@@ -336,6 +336,23 @@ fn answered(job: &str, words: &mut Words) -> Answer {
             let one = |answer: &Result<Verdict, Fault>| answer.as_ref().map_or_else(of_fault, |it| of_verdict(*it));
             answers.iter().map(one).collect::<Vec<_>>().join(" | ")
         }
+        "convert-many" => {
+            let conversion = match words.word() {
+                "to-sddl" => Conversion::ToSddl { numeric: words.flag() },
+                "from-sddl" => Conversion::FromSddl,
+                _ => Conversion::Normalize,
+            };
+            let (domain, data, offsets) = (words.sid_or_none()?, words.bytes(), words.bytes());
+            let offsets: Vec<_> =
+                offsets.chunks_exact(8).map(|offset| u64::from_le_bytes(offset.try_into().unwrap())).collect();
+            let found = convert_column(conversion, domain.as_ref(), &data, &offsets)?;
+            let ends = found.offsets.windows(2).map(|ends| hex(&found.data[ends[0] as usize..ends[1] as usize]));
+            let mut said: Vec<_> = ends.collect();
+            for (row, fault) in &found.faults {
+                said[*row] = format!("{}{}", of_fault(fault), said[*row].trim_start_matches('-'));
+            }
+            said.join(" | ")
+        }
         "reasons" => {
             let checker = Checker::new(&words.token()?, &words.request()?);
             let reasons = checker.reasons(&words.descriptor()?)?;

@@ -61,6 +61,8 @@ pub const SDTOOL_ARGUMENT_OPTIONS: u32 = 17;
 pub const SDTOOL_ARGUMENT_ACE: u32 = 18;
 pub const SDTOOL_ARGUMENT_FLAGS: u32 = 19;
 pub const SDTOOL_ARGUMENT_GUID: u32 = 20;
+pub const SDTOOL_ARGUMENT_OFFSETS: u32 = 21;
+pub const SDTOOL_ARGUMENT_CONVERSION: u32 = 22;
 pub const SDTOOL_NO_PART: u32 = 0;
 pub const SDTOOL_OWNER: u32 = 1;
 pub const SDTOOL_GROUP: u32 = 2;
@@ -99,6 +101,10 @@ pub const SDTOOL_FIELD_OBJECT_TYPE: u32 = 4;
 pub const SDTOOL_FIELD_INHERITED_OBJECT_TYPE: u32 = 5;
 pub const SDTOOL_FIELD_SID: u32 = 6;
 pub const SDTOOL_FIELD_SIZE: u32 = 7;
+pub const SDTOOL_CONVERT_TO_SDDL: u32 = 0;
+pub const SDTOOL_CONVERT_FROM_SDDL: u32 = 1;
+pub const SDTOOL_CONVERT_NORMALIZE: u32 = 2;
+pub const SDTOOL_NUMERIC: u32 = 1;
 pub const SDTOOL_REASON_NOTHING: u32 = 0;
 pub const SDTOOL_REASON_LABEL: u32 = 1;
 pub const SDTOOL_REASON_NO_DACL: u32 = 2;
@@ -133,6 +139,10 @@ pub const SDTOOL_AT_END: u32 = 4294967295;
 pub const SDTOOL_BY_ORDER: u32 = 4294967294;
 pub const SDTOOL_NO_ACE: u32 = 4294967295;
 pub const SDTOOL_VERSION: u32 = 100;
+pub const SDTOOL_TEXT_SIZE_FIRST: u32 = 64;
+pub const SDTOOL_TEXT_SIZE_EACH: u32 = 8;
+pub const SDTOOL_TOKEN_WORDS_FIRST: u32 = 2;
+pub const SDTOOL_TOKEN_WORDS_EACH: u32 = 20;
 
 #[repr(C)]
 #[derive(Clone, Copy, Debug)]
@@ -248,6 +258,30 @@ pub struct sdtool_number {
 pub struct sdtool_bytes {
     pub bytes: *const u8,
     pub size: usize,
+}
+
+#[repr(C)]
+#[derive(Clone, Copy, Debug)]
+pub struct sdtool_conversion {
+    pub data: sdtool_bytes,
+    pub offsets: *const u32,
+    pub offset_count: usize,
+    pub domain: sdtool_bytes,
+    pub begin: usize,
+    pub kind: u32,
+    pub options: u32,
+}
+
+#[repr(C)]
+#[derive(Clone, Copy, Debug)]
+pub struct sdtool_large_conversion {
+    pub data: sdtool_bytes,
+    pub offsets: *const u64,
+    pub offset_count: usize,
+    pub domain: sdtool_bytes,
+    pub begin: usize,
+    pub kind: u32,
+    pub options: u32,
 }
 
 #[repr(C)]
@@ -478,6 +512,24 @@ extern "C" {
         request: *const sdtool_request,
         verdicts: *mut sdtool_verdict,
         verdict_count: usize,
+    ) -> sdtool_outcome;
+    pub fn sdtool_convert_many(
+        conversion: *const sdtool_conversion,
+        out: *mut u8,
+        out_size: usize,
+        out_offsets: *mut u32,
+        out_offset_count: usize,
+        outcomes: *mut sdtool_outcome,
+        outcome_count: usize,
+    ) -> sdtool_outcome;
+    pub fn sdtool_convert_many_large(
+        conversion: *const sdtool_large_conversion,
+        out: *mut u8,
+        out_size: usize,
+        out_offsets: *mut u64,
+        out_offset_count: usize,
+        outcomes: *mut sdtool_outcome,
+        outcome_count: usize,
     ) -> sdtool_outcome;
     pub fn sdtool_token_read(
         sids: *const u8,

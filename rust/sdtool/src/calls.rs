@@ -142,7 +142,9 @@ pub(crate) fn from_sddl(sddl: &[u8], domain: &[u8]) -> Result<Vec<u8>, Outcome> 
 
 /// The size that suffices for the text of a descriptor.
 fn text_size(descriptor: &[u8]) -> usize {
-    (8 * descriptor.len().min(sys::SDTOOL_MOST_BYTES as usize) + 64).min(sys::SDTOOL_MOST_TEXT as usize)
+    let bytes = descriptor.len().min(sys::SDTOOL_MOST_BYTES as usize);
+    let size = sys::SDTOOL_TEXT_SIZE_EACH as usize * bytes + sys::SDTOOL_TEXT_SIZE_FIRST as usize;
+    size.min(sys::SDTOOL_MOST_TEXT as usize)
 }
 
 pub(crate) fn to_sddl(descriptor: &[u8], domain: &[u8], numeric: bool) -> Result<String, Outcome> {
@@ -273,7 +275,8 @@ pub(crate) fn edit(descriptor: &[u8], changes: &[RawChange]) -> Result<(Vec<u8>,
 
 /// The numbers that the library has read a token into.
 pub(crate) fn token_read(sids: &[u8], entries: &[u8]) -> Result<Vec<u32>, Outcome> {
-    let mut token = vec![0_u32; 2 + 20 * entries.len().min(sys::SDTOOL_MOST_SIDS as usize)];
+    let words = sys::SDTOOL_TOKEN_WORDS_EACH as usize * entries.len().min(sys::SDTOOL_MOST_SIDS as usize);
+    let mut token = vec![0_u32; sys::SDTOOL_TOKEN_WORDS_FIRST as usize + words];
     let (room, words) = (token.as_mut_ptr(), token.len());
     let outcome = inputs!(sdtool_token_read(sids; entries.as_ptr(), entries.len(), room, words));
     match outcome.fault {
@@ -315,6 +318,58 @@ pub(crate) fn check_many(
     match outcome.fault {
         sys::SDTOOL_OK => Ok(verdicts),
         _ => Err(outcome),
+    }
+}
+
+/// The answers to the rows of a column, their offsets, and what the library says of each row.
+pub(crate) type Answers = (Vec<u8>, Vec<u64>, Vec<Outcome>);
+
+pub(crate) fn convert_many(
+    (kind, options): (u32, u32),
+    domain: &[u8],
+    data: &[u8],
+    offsets: &[u64],
+) -> Result<Answers, Outcome> {
+    let mut answers = vec![0; data.len() + 1024];
+    let mut ends = vec![0_u64; offsets.len()];
+    let mut outcomes = vec![Outcome::zeros(); offsets.len().saturating_sub(1)];
+    let (mut row, mut begin) = (0, 0);
+    loop {
+        let rest = &offsets[row..];
+        let asked = sys::sdtool_large_conversion {
+            data: bytes_of(data),
+            offsets: rest.as_ptr(),
+            offset_count: rest.len(),
+            domain: bytes_of(domain),
+            begin,
+            kind,
+            options,
+        };
+        let (room, told) = (&mut ends[row..], &mut outcomes[row..]);
+        // SAFETY: each pointer is that of a slice that lives until the call has returned, and beside it is its length.
+        let outcome = unsafe {
+            sys::sdtool_convert_many_large(
+                &asked,
+                answers.as_mut_ptr(),
+                answers.len(),
+                room.as_mut_ptr(),
+                room.len(),
+                told.as_mut_ptr(),
+                told.len(),
+            )
+        };
+        match outcome.fault {
+            sys::SDTOOL_OK => {
+                answers.truncate(outcome.length);
+                return Ok((answers, ends, outcomes));
+            }
+            sys::SDTOOL_TOO_SMALL => {
+                row += outcome.entry;
+                begin = ends[row] as usize;
+                answers.resize((begin + outcome.length).max(2 * answers.len()), 0);
+            }
+            _ => return Err(outcome),
+        }
     }
 }
 

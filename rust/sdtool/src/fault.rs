@@ -101,7 +101,8 @@ impl Fault {
         const HEAD: &[u8] = b"D:";
         let mut found = calls::sddl_place(&[HEAD, text].concat(), domain);
         found.place.offset = found.place.offset.saturating_sub(HEAD.len());
-        if found.part == sys::SDTOOL_DACL {
+        // A second head is in the text itself.
+        if found.part == sys::SDTOOL_DACL && found.fault != sys::SDTOOL_FAULT_PART_TWICE {
             (found.part, found.ace) = (sys::SDTOOL_NO_PART, sys::SDTOOL_NO_ACE);
         }
         Fault::at(outcome, found)

@@ -51,6 +51,13 @@ fn a_place_at_the_end_of_numbers_is_no_word() {
 }
 
 #[test]
+fn a_column_without_offsets_is_refused() {
+    let fault = convert_column(Conversion::Normalize, None, b"", &[]).unwrap_err();
+    assert_eq!(fault.argument(), Some(sys::SDTOOL_ARGUMENT_OFFSETS));
+    assert_eq!(convert_column(Conversion::Normalize, None, b"", &[0]).unwrap().offsets, [0]);
+}
+
+#[test]
 fn equal_content_is_equal() {
     let one: SecurityDescriptor = "O:BAD:(A;;FR;;;BU)".parse().unwrap();
     let parts = Parts { owner: one.owner(), dacl: one.dacl(), ..Parts::default() };

@@ -17,6 +17,7 @@ internal static class Objects
         AreFixed();
         TryAcls();
         TryVerdicts();
+        TryColumns();
         TryArguments();
         TryTexts();
         Console.WriteLine(passed + " passed, " + failed + " failed");
@@ -118,6 +119,23 @@ internal static class Objects
         Add(two.DiscretionaryAcl.Count == 2 && two.DiscretionaryAcl[1].SecurityIdentifier.Alias == "WD", "two ACEs");
         Add(two.SystemAcl.IsAbsent && new SecurityDescriptor("D:NO_ACCESS_CONTROL").DiscretionaryAcl.IsNull, "states");
         Refuses<IndexOutOfRangeException>("an ACE too many", () => two.DiscretionaryAcl[2].ToString());
+    }
+
+    private static void TryColumns()
+    {
+        byte[] data = { (byte)'D', (byte)':', (byte)'D' };
+        int[] offsets = { 0, 2, 3, -1 };
+        var column = new Column(data, offsets);
+        data[0] = 0;
+        offsets[1] = 0;
+        Column made = column.Convert(Conversion.FromSddl);
+        Add(made.Count == 3 && made.GetRow(0).SequenceEqual(new SecurityDescriptor("D:").GetBinaryForm()), "a row");
+        Add(made.GetRow(1).Length == 0 && ((FaultException)made.Faults[1]).Number == 20, "a row without an answer");
+        Add(((ArgumentException)made.Faults[2]).ParamName == "offsets" && made.Faults.Count == 2, "offsets that lie");
+        Refuses<ArgumentNullException>("no bytes", () => new Column(null, offsets));
+        Refuses<ArgumentNullException>("no list of offsets", () => new Column(data, null));
+        Refuses<ArgumentFaultException>("no offset", () => new Column(data, new int[0]).Convert(Conversion.Normalize));
+        Refuses<ArgumentFaultException>("a conversion", () => column.Convert((Conversion)3));
     }
 
     private static void TryVerdicts()

@@ -96,11 +96,31 @@ namespace Sdtool
             }
             catch (FaultException fault)
             {
-                return Told(fault.Outcome, fault.Given);
+                return Told(fault);
             }
             catch (ArgumentFaultException fault)
             {
+                Require(fault.Index == (int)fault.Outcome.entry, fault.Message);
                 return Told(fault.Outcome, Given.Nothing);
+            }
+        }
+
+        /// <summary>What a fault says of itself has to be what the library says.</summary>
+        private static string Told(FaultException fault)
+        {
+            Native.Outcome told = fault.Outcome;
+            Require(fault.Number == (int)told.fault && fault.Name == Library.FaultName(fault.Number), "Number, Name");
+            Require((uint)fault.Part == told.part && (uint)fault.OtherPart == told.otherPart, "Part, OtherPart");
+            Require(fault.Index == (told.argument == 0 ? (int?)null : (int)told.entry), "Index");
+            Require(fault.Message == fault.Given.Describe(told), "Message");
+            return Told(told, fault.Given);
+        }
+
+        private static void Require(bool isRight, string what)
+        {
+            if (!isRight)
+            {
+                throw new InvalidOperationException(what);
             }
         }
 
@@ -183,15 +203,45 @@ namespace Sdtool
                     return Hex(w.Parts().GetBinaryForm());
                 case "edit":
                     return EditOf(w);
+                case "convert-many":
+                    return ConvertedOf(w);
                 case "derive":
                     return w.Derivation((parent, owner, group, kind, creator, mapping) =>
                         Hex(parent.Derive(owner, group, kind, creator, mapping).GetBinaryForm()));
                 case "origins":
                     return w.Derivation((parent, owner, group, kind, creator, mapping) =>
-                        OriginsOf(parent.GetOrigins(owner, group, kind, creator, mapping)));
+                    {
+                        Origins origins = parent.GetOrigins(owner, group, kind, creator, mapping);
+                        return OriginsOf(origins.SystemAcl, parent.SystemAcl, creator?.SystemAcl) + " " +
+                               OriginsOf(origins.DiscretionaryAcl, parent.DiscretionaryAcl, creator?.DiscretionaryAcl);
+                    });
                 default:
                     return OfChecks(job, w);
             }
+        }
+
+        private static string ConvertedOf(Words w)
+        {
+            string job = w.Next();
+            bool isNumeric = job == "to-sddl" && w.Flag();
+            Conversion conversion = job == "to-sddl" ? Conversion.ToSddl
+                                  : job == "from-sddl" ? Conversion.FromSddl : Conversion.Normalize;
+            Sid domain = w.SidOrNone();
+            byte[] data = w.Bytes(), ends = w.Bytes();
+            int[] offsets = Enumerable.Range(0, ends.Length / 8).Select(at => BitConverter.ToInt32(ends, 8 * at))
+                                      .ToArray();
+            Column made = new Column(data, offsets).Convert(conversion, domain, isNumeric);
+            return string.Join(" | ", Enumerable.Range(0, made.Count).Select(row =>
+            {
+                Exception fault;
+                if (!made.Faults.TryGetValue(row, out fault))
+                {
+                    return Hex(made.GetRow(row));
+                }
+                Require(made.GetRow(row).Length == 0, "a row with a fault");
+                var refused = fault as ArgumentFaultException;
+                return refused == null ? Told((FaultException)fault) : Told(refused.Outcome, Given.Nothing);
+            }));
         }
 
         private static string OfChecks(string job, Words w)
@@ -204,9 +254,16 @@ namespace Sdtool
                 case "check-many":
                     return string.Join(" | ", checker.CheckMany(w.Many(w.Bytes).ToArray()).Select(VerdictOf));
                 default:
-                    return string.Join(" ", checker.GetReasons(w.Descriptor()).Select(one =>
-                        (int)one.Kind + "," + NumberOf(one.Place) + "," + (one.IsGranted ? 1 : 0)));
+                    SecurityDescriptor descriptor = w.Descriptor();
+                    return string.Join(" ", checker.GetReasons(descriptor).Select(one => ReasonOf(one, descriptor)));
             }
+        }
+
+        private static string ReasonOf(Reason reason, SecurityDescriptor descriptor)
+        {
+            Acl acl = reason.Kind == ReasonKind.Label ? descriptor.SystemAcl : descriptor.DiscretionaryAcl;
+            Require(reason.Ace == (reason.Place.HasValue ? acl[reason.Place.Value] : null), "Ace");
+            return (int)reason.Kind + "," + NumberOf(reason.Place) + "," + (reason.IsGranted ? 1 : 0);
         }
 
         private static string Printed(Words w, Func<SecurityDescriptor, Sid, bool, string> print)
@@ -219,7 +276,7 @@ namespace Sdtool
         private static string VerdictOf(Verdict verdict)
         {
             return verdict.Fault == null ? (verdict.IsGranted ? 1 : 0) + " " + verdict.Mask
-                                         : Told(verdict.Fault.Outcome, verdict.Fault.Given);
+                                         : Told(verdict.Fault);
         }
 
         private static string PartsOf(SecurityDescriptor descriptor)
@@ -250,13 +307,9 @@ namespace Sdtool
             return guid.HasValue ? Hex(guid.Value.ToByteArray()) : "-";
         }
 
-        private static string OriginsOf(Origins origins)
+        private static string OriginsOf(IReadOnlyList<Origin> origins, Acl parents, Acl creators)
         {
-            return OriginsOf(origins.SystemAcl) + " " + OriginsOf(origins.DiscretionaryAcl);
-        }
-
-        private static string OriginsOf(IEnumerable<Origin> origins)
-        {
+            Require(origins.All(one => one.Ace == (one.IsFromCreator ? creators : parents)[one.Place]), "Ace");
             return "[" + string.Join(";", origins.Select(one => one.Place + "," + (one.IsFromCreator ? 1 : 0) + "," +
                                                                 (one.IsInheritOnly ? 1 : 0))) + "]";
         }

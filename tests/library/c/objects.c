@@ -27,7 +27,7 @@
 #include <string.h>
 #include <time.h>
 
-#include "memory.h"
+#include "refusals.h"
 #include "sdtool.h"
 
 enum {
@@ -45,30 +45,6 @@ struct bytes {
 
 static const char *job;
 static int wrong;
-static long allocations, allocations_left = -1;
-/* The bytes that were asked for. */
-static size_t allocated;
-
-/* The linker puts these in the place of malloc and realloc of the library: see tests/library/c_library.py. */
-void *__wrap_malloc(size_t size);
-void *__wrap_realloc(void *block, size_t size);
-
-static bool refused(size_t size)
-{
-    allocations++;
-    allocated += size;
-    return allocations_left >= 0 && allocations_left-- == 0;
-}
-
-void *__wrap_malloc(size_t size)
-{
-    return refused(size) ? NULL : __real_malloc(size);
-}
-
-void *__wrap_realloc(void *block, size_t size)
-{
-    return refused(size) ? NULL : __real_realloc(block, size);
-}
 
 static void complain(const char *what)
 {

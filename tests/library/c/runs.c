@@ -18,7 +18,7 @@
 #include <stdlib.h>
 #include <string.h>
 
-#include "memory.h"
+#include "refusals.h"
 #include "sdtool.h"
 
 enum {
@@ -39,32 +39,6 @@ static struct bytes words, input, answers;
 static uint8_t message[SDTOOL_MOST_MESSAGE];
 static struct sdtool_ending whole;
 static int wrong;
-
-/* The linker puts these in the place of malloc and realloc of the library: see tests/library/c_library.py. */
-void *__wrap_malloc(size_t size);
-void *__wrap_realloc(void *block, size_t size);
-
-static _Thread_local long allocations_left = -1;
-static _Thread_local long allocations;
-/* The bytes that were asked for. */
-static _Thread_local size_t allocated;
-
-static bool refused(size_t size)
-{
-    allocations++;
-    allocated += size;
-    return allocations_left >= 0 && allocations_left-- == 0;
-}
-
-void *__wrap_malloc(size_t size)
-{
-    return refused(size) ? NULL : __real_malloc(size);
-}
-
-void *__wrap_realloc(void *block, size_t size)
-{
-    return refused(size) ? NULL : __real_realloc(block, size);
-}
 
 static void complain(const char *what, size_t at)
 {

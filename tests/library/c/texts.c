@@ -12,7 +12,7 @@
 
 #include "sdtool.h"
 
-#include "memory.h"
+#include "refusals.h"
 
 enum {
     FILLED = 0xaa,
@@ -27,28 +27,6 @@ struct input {
 static struct input first, second;
 static int wrong;
 static uint32_t meant; /* by a text that is a number */
-static long allocations, allocations_left = -1;
-static size_t allocated;
-
-void *__wrap_malloc(size_t size);
-void *__wrap_realloc(void *block, size_t size);
-
-static bool refused(size_t size)
-{
-    allocations++;
-    allocated += size;
-    return allocations_left >= 0 && allocations_left-- == 0;
-}
-
-void *__wrap_malloc(size_t size)
-{
-    return refused(size) ? NULL : __real_malloc(size);
-}
-
-void *__wrap_realloc(void *block, size_t size)
-{
-    return refused(size) ? NULL : __real_realloc(block, size);
-}
 
 static struct input read_hex(const char *text)
 {

@@ -2,8 +2,8 @@
 name.
 
 It has what sdtool.distributed calls, with as many requests as s3fs: ranges, listings, uploads in parts that are
-committed, removals of many, and the ETag of each object. The variable S3_ENDPOINT names the server. Each request takes
-S3_SECONDS more, and is a line of the file S3_LOG.
+committed, removals of many, and the ETag of each object. The option endpoint_url names the server, as with s3fs. Each
+request takes S3_SECONDS more, and is a line of the file S3_LOG.
 """
 import os
 import time
@@ -16,9 +16,9 @@ from fsspec.spec import AbstractBufferedFile, AbstractFileSystem
 class S3FileSystem(AbstractFileSystem):
     protocol = "s3"
 
-    def __init__(self, **options):
-        super().__init__(**options)
-        self.client = boto3.client("s3", endpoint_url=os.environ["S3_ENDPOINT"], region_name="us-east-1",
+    def __init__(self, endpoint_url, **options):
+        super().__init__(endpoint_url=endpoint_url, **options)
+        self.client = boto3.client("s3", endpoint_url=endpoint_url, region_name="us-east-1",
                                    aws_access_key_id="test", aws_secret_access_key="test")
         self.client.meta.events.register("before-send.s3", self.count)
 

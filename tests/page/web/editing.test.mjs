@@ -11,7 +11,7 @@ const edited = (...steps) => {
     editing.begin(["D:", "auto", 0, ""]);
     steps.forEach((step, at) => {
         editing.add(step);
-        editing.take({made: [bytes(at)]});
+        editing.take({made: [{descriptor: bytes(at)}]});
     });
     return editing;
 };
@@ -27,7 +27,7 @@ test("undo and redo give the same bytes, and a new step forgets what was undone"
     assert.deepEqual([editing.now, editing.last], [null, null]);
     assert.equal(editing.undone.length, 2);
     editing.add("three");
-    editing.take({made: [bytes(3)]});
+    editing.take({made: [{descriptor: bytes(3)}]});
     assert.deepEqual([editing.now, editing.undone, editing.redo()], [bytes(3), [], false]);
 });
 
@@ -36,11 +36,22 @@ test("steps wait for one answer, which may refuse the last of them", () => {
     ["two", "three", "four"].forEach((step) => editing.add(step));
     assert.equal(editing.undo(), true);
     assert.deepEqual([editing.waiting, editing.undone], [["two", "three"], []]);
-    editing.take({made: [bytes(2)], refused: {}});
+    editing.take({made: [{descriptor: bytes(2)}], refused: {}});
     assert.deepEqual([editing.now, editing.last, editing.waiting], [bytes(2), "two", []]);
     editing.add("five");
     editing.take({error: new Error("too slow")});
     assert.deepEqual([editing.now, editing.waiting], [bytes(2), []]);
+});
+
+test("what gives ACEs other numbers is known while it waits", () => {
+    const all = ["take", "put", "move", "sort", "stop", "replace", "owner", "group", "inherit", "list"];
+    const isRenumbering = all.filter((does) => {
+        const editing = edited("one");
+        editing.add({does});
+        return editing.isRenumbering;
+    });
+    assert.deepEqual(isRenumbering, ["take", "put", "move", "sort", "stop"]);
+    assert.equal(edited({does: "take"}).isRenumbering, false);
 });
 
 test("another text, form, number or domain begins anew, and the same ones go on", () => {
@@ -52,7 +63,7 @@ test("another text, form, number or domain begins anew, and the same ones go on"
         editing.begin(about);
         assert.equal(editing.done.length, 0);
         editing.add("step");
-        editing.take({made: [bytes(0)]});
+        editing.take({made: [{descriptor: bytes(0)}]});
     }
 });
 

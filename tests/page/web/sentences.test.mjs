@@ -72,6 +72,23 @@ test("kinds that agree have a verdict, and others say whom it depends on", () =>
         [differ.verdict, said(differ)], ["unknown", "Depends on what this is: Account 1105 may be able to change it"]);
 });
 
+test("what is said below the sentence of an open kind holds for each kind that fits", () => {
+    const model = {dacl: {aces: [{sid: EVERYONE, kind: "A", mask: FULL, flags: []}]}};
+    const denied = (number) => ({who: "S-1-5-32-545", mask: 1, number});
+    const told = {
+        folder: finding(EVERYONE, {denied: [denied(1), denied(2)], excused: ["S-1-5-4", ANN], reader: ANN, more: 2}),
+        key: finding(EVERYONE, {denied: [denied(2)], excused: ["S-1-5-4"], reader: null, numbers: [3]})
+    };
+    const words = (kinds) =>
+        reasonsOf(verdictOfKinds(model, kinds, (kind) => ({...told[kind], kind})), new Map(), {}).join(" ");
+    const group = "That is everybody, also without logging on.";
+    assert.equal(words(["folder", "key"]),
+        `${group} Except that ACE 2 denies Users some of it. Interactive has what Windows itself gives.`);
+    assert.equal(words(["folder"]),
+        `${group} By ACE 1. Except that ACE 1 denies Users some of it. Except that ACE 2 denies Users some of it. ` +
+            "Account 1105 can read it. Interactive and Account 1105 have what Windows itself gives.");
+});
+
 test("a condition counts where the verdict hangs on it", () => {
     const ace = {kind: "A", sid: EVERYONE, meaning: 0x1200a9};
     const [run, none] = [finding(EVERYONE), {verdict: "fine", key: "changers", kind: "folder", who: [], trusted: []}];

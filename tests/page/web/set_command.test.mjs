@@ -235,6 +235,15 @@ test("SDDL, sections and names of each kind's commands", () => {
         const row = rowOf(tool, kind, name);
         assert.ok(row.text.includes(text), `${tool} ${kind}: ${row.text} ${row.why}, not ${text}`);
     }
+    // Samba takes numbers alone, and what is behind an empty list for its flags.
+    const audit = "AU;SA;0x1f01ff;;;S-1-1-0";
+    const named = {...descriptorOf({dacl: [FULL], sacl: [audit]}), owner: "O:SY", dacl: "D:(A;;FA;;;BA)"};
+    const emptied = descriptorOf({dacl: [], sacl: [audit]});
+    for (const [tool, after, pattern] of [
+             ["samba-tool", named, /'O:S-1-5-18G:S-1-5-18D:\(A;;0x1f01ff;;;S-1-5-32-544\)S:\(AU[^']*'/],
+             ["samba-tool", emptied, /'[^']*S:\(AU[^']*D:'/], ["Set-Acl", named, /'O:SYD:\(A;;FA;;;BA\)S:/]]) {
+        assert.match(rowOf(tool, "file", "", BEFORE, after).text, pattern);
+    }
     const without = Object.keys(KINDS).filter((kind) => !COMMANDS.some(({kinds}) => kinds.includes(kind)));
     assert.deepEqual(
         without, ["print-server", "task", "pipe", "wmi", "process", "authority", "delegation", "managed-password"]);
@@ -313,7 +322,8 @@ test("what a command can't set is said beside it", () => {
 test("dsacls adds one grant, and nothing else", () => {
     const user = "bf967aba-0de6-11d0-a285-00aa003049e2";
     const member = "bf9679c0-0de6-11d0-a285-00aa003049e2";
-    const reset = "00299570-246d-11d0-a768-00aa006e0529";
+    const [reset, logon] = ["00299570-246d-11d0-a768-00aa006e0529", "5f202010-79a5-11d0-9020-00c04fc2d4cf"];
+    const unknown = "91d67418-0135-4acc-8d79-c08e857cfbec"; // a right that nothing here tells the shown name of
     const step = (...aces) =>
         rowOf("dsacls", "ds", "CN=x", BEFORE, descriptorOf({dacl: [FULL, ...aces]}))?.text ?? null;
     for (const [ace, expected] of [["A;CI;0x10000000;;;S-1-1-0", "dsacls 'CN=x' /I:T /G 'S-1-1-0:GA'"],
@@ -321,13 +331,19 @@ test("dsacls adds one grant, and nothing else", () => {
              [`OA;CIIO;0x30;${member};${user};S-1-1-0`, "dsacls 'CN=x' /I:S /G 'S-1-1-0:RPWP;member;user'"],
              [`OA;CIIO;0x30;;${user};S-1-1-0`, "dsacls 'CN=x' /I:S /G 'S-1-1-0:RPWP;;user'"],
              [`OA;CI;0x1;${user};;S-1-1-0`, "dsacls 'CN=x' /I:T /G 'S-1-1-0:CC;user'"],
-             // A right by a name that it is not shown by, other flags, a denial, bits without letters.
-             [`OA;;0x100;${reset};;S-1-1-0`, null], ["A;CINP;0x1;;;S-1-1-0", null], ["D;;0x1;;;S-1-1-0", null],
+             [`OA;CIIO;0x100;${reset};${user};S-1-1-0`, "dsacls 'CN=x' /I:S /G 'S-1-1-0:CA;Reset Password;user'"],
+             [`OA;;0x30;${logon};;S-1-1-0`, "dsacls 'CN=x' /G 'S-1-1-0:RPWP;Logon Information'"],
+             [`OA;;0x8;${member};;S-1-1-0`, "dsacls 'CN=x' /G 'S-1-1-0:WS;Add/Remove self as member'"],
+             // A name that isn't known, other flags, a denial, bits without letters.
+             [`OA;;0x100;${unknown};;S-1-1-0`, null], ["A;CINP;0x1;;;S-1-1-0", null], ["D;;0x1;;;S-1-1-0", null],
              ["A;;0x200;;;S-1-1-0", null]]) {
         assert.equal(step(ace), expected, ace);
     }
     assert.equal(step("A;;0x1;;;S-1-1-0", "A;;0x2;;;S-1-1-0"), null);
     assert.equal(rowOf("dsacls", "ds", "CN=x", AFTER, BEFORE), undefined);
+    // It can't stop an object from inheriting.
+    const stopped = descriptorOf({flags: "P", dacl: [FULL, "A;;0x1;;;S-1-1-0"]});
+    assert.equal(rowOf("dsacls", "ds", "CN=x", BEFORE, stopped), undefined);
 });
 
 // icacls by Windows' documentation: what an operation makes of a list. Letters and masks are those of its help and of

@@ -98,4 +98,13 @@ test("there is no command for what the page doesn't know", () => {
     assert.equal(whyNoCommand("ask", false, {}), WORDS.kindAsked.rights);
     assert.equal(whyNoCommand("ask", true, {isLevelUnknown: true}), WORDS.ask.levelUnknown);
     assert.equal(whyNoCommand("inherit", true, {hasNoHeirs: true}), WORDS.inherit.noHeirs);
+    // A token of which something was left out is another one.
+    const listing = {why: "noGroups", text: ""};
+    assert.equal(whyNoCommand("ask", true, {entries: [{text: "WD"}], listing}), WORDS.ask.listing.noGroups);
+    const tokenFaults = [{text: "Ann", number: 25, faultName: "sid-form"}];
+    assert.match(whyNoCommand("ask", true, {entries: [{text: "WD"}], tokenFaults}), /Ann \(error 25 sid-form\)/);
+    for (const view of ["ask", "inherit", "compare", "edit"]) {
+        const refused = {descriptorFault: {number: 25, faultName: "sid-form"}, other: "table", line: "00"};
+        assert.match(whyNoCommand(view, false, refused), /\(error 25 sid-form\)$/, view);
+    }
 });

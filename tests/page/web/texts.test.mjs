@@ -170,6 +170,11 @@ test("a command line has no character that does not show, and a shell reads it a
         const script = `sdtool() { cat; }; ${command}`;
         assert.equal(execFileSync("sh", ["-c", script]).toString(), `${line}\n`, command);
     }
+    // Each of two has the form and the domain that it was read in.
+    const compared = commandLine({...freshState(), view: "compare"}, {form: "sddl", line: "D:"},
+        {other: {form: "hex", line: "0100", isStandIn: true}});
+    assert.equal(execFileSync("sh", ["-c", `sdtool() { cat; echo "$@"; }; ${compared}`]).toString(),
+        "D:\nconvert --to hex --from sddl\n0100\nconvert --to hex --domain S-1-5-21-0-0-0\n");
     const state = {...freshState(), view: "ask", domain: "\u001b]0;x\u0007"};
     assert.doesNotMatch(commandLine(state, {form: "sddl", line: "D:"}, null), /\p{Cc}/u);
 });
@@ -243,6 +248,15 @@ const NAME_LISTS = [
 ];
 
 test("names of the user, from lists of people's programs", () => {
+    const column = (text) => text.padEnd(30);
+    NAME_LISTS.push([`dn: CN=x\ncn: Ann\n  Lee\nobjectSid: ${DOMAIN}-1001\n`, {1001: "Ann Lee"}, [0, 0]],
+        [
+            `${column("SID")}Name\n${column("---")}----\n${
+                column(`${DOMAIN}-1001`)}Ann of a department\u2019s long name\n`,
+            {1001: "Ann of a department\u2019s long name"}, [0, 0]
+        ],
+        // An authority that is written in hex.
+        ["dn: CN=x\ncn: x\nobjectSid:: AQEQAAAAAAABAAAA\n", {}, [0, 1]]);
     for (const [text, expected, counts] of NAME_LISTS) {
         const {names, known, unread, left} = namesIn(text);
         const wanted =

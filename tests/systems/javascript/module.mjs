@@ -422,11 +422,14 @@ add(sdtool.sidFromText("BA").length === 16 &&
 
 // Texts of parts, and their faults.
 const aced = sdtool.aceFromText("(OA;CI;CR;00000001-0002-0003-0405-060708090a0b;;DA)", {domain: "S-1-5-21-1-2-3"});
-const read = sdtool.aceRead(Uint8Array.from([...aced, 1, 2]));
-add(read.size === aced.length && read.kind === 5 && read.flags === 2 && read.mask === 0x100 &&
+const {ace: read, size: sizeOfRead} = sdtool.aceRead(Uint8Array.from([...aced, 1, 2]));
+add(sizeOfRead === aced.length && read.kind === 5 && read.flags === 2 && read.mask === 0x100 &&
         sdtool.guidToText(read.objectType) === "00000001-0002-0003-0405-060708090a0b" &&
         read.inheritedObjectType === null && sdtool.sidToText(read.sid) === "S-1-5-21-1-2-3-512",
     `the places of an ACE: ${JSON.stringify(read)}`);
+add(sdtool.toSddl(sdtool.build({dacl: [read]}), {domain: "S-1-5-21-1-2-3"}) ===
+        "D:(OA;CI;CR;00000001-0002-0003-0405-060708090a0b;;DA)",
+    "an ACE that was read is built");
 add(sdtool.aceToText(aced, {domain: "S-1-5-21-1-2-3"}) === "(OA;CI;CR;00000001-0002-0003-0405-060708090a0b;;DA)" &&
         sdtool.aceToText(sdtool.aceFromText("(A;;;;;WD) "), {numeric: true}) === "(A;;0x0;;;S-1-1-0)",
     "the text of an ACE");

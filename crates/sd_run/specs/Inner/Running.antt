@@ -9,9 +9,9 @@ use Rattle.sd_token.specs.Token.{Compares, TokenShown}
 use Rattle.sd_answer.specs.LineInHand.{Holds}
 use Rattle.sd_answer.specs.declared.job.Task.{Task}
 use Rattle.sd_run.specs.Answers.{answers, errors, bounds}
-use Rattle.sd_run.specs.Lines.{AreBytes, cut_at_line_feeds, ended}
+use Rattle.sd_run.specs.Lines.{AreBytes, cut_at_line_feeds, ended, lines}
 use Rattle.sd_run.specs.Outcome.{HandedOn, IsFront, RoseBy}
-use Rattle.sd_run.specs.Told.{RunTold, SourceTold, sink_of}
+use Rattle.sd_run.specs.Told.{DrainTold, RunTold, SourceTold, sink_of}
 use Rattle.sd_run.specs.declared.engine.Report.{Report}
 use Rattle.sd_run.specs.declared.engine.RunFault.{RunFault}
 use Rattle.sd_run.specs.declared.engine.RunFault.TheVariants.{Read}
@@ -30,6 +30,9 @@ pub record Standing : Type 0 where
   pub state : RunState
   pub token : TokenShown
   pub sink : SinkTold
+
+abbrev pub stands : RunState → TokenShown → DrainTold → Standing
+stands state token drain = record { state = state; token = token; sink = sink_of drain }
 
 -- since a token and a sink told this, all of these lines are answered
 pub record Answered (task : Task) (token0 : TokenShown) (sink0 : SinkTold) (all : List (List ℕ)) (now : Standing)
@@ -71,6 +74,14 @@ Feeds task piece old new result =
     (λ _. AfterBytes task token0 sink0 (got ++ piece) new)
     (λ _. Failed task token0 sink0 (ended got) (ended (got ++ piece)) new)
 
+-- the input ended: after whatever bytes came, all lines are answered; or the sink failed
+abbrev pub Closes : Task → Standing → Standing → Result (Unit {0}) SinkFault → Type 0
+Closes task old new result =
+    (token0 : TokenShown) (sink0 : SinkTold) (got : List ℕ) → AfterBytes task token0 sink0 got old
+    → MatchResult result
+    (λ _. Answered task token0 sink0 (lines got) new)
+    (λ _. Failed task token0 sink0 (ended got) (lines got) new)
+
 -- a read gave these bytes
 pub record ReadSome (old new : SourceTold) (bytes : List ℕ) : Type 0 where
   pub read : Consumes old.left new.left bytes
@@ -101,7 +112,7 @@ ReadsPiece old new buf (Err fault) = (fault ≡ Read) × ReadFailed old new
 
 -- where a run stands with a drain for its sink
 abbrev pub standing : RunState → RunTold → Standing
-standing state now = record { state = state; token = now.token; sink = sink_of now.drain }
+standing state now = stands state now.token now.drain
 
 -- a run before its next read
 pub record BeforeRead (task : Task) (turn : ℕ) (old : RunTold) (state : RunState) (now : RunTold) : Type 0 where

@@ -1,6 +1,6 @@
 -- The reader of a line: what it has read, and what its buffer holds.
 use Rattle.std.specs.Prelude.{◌≡◌, ◌≤◌, ℕ, Bool, true, false, ◌||◌, not, ◌==◌, List, ◌∷◌, ◌++◌, Option, Some, None}
-use Rattle.std.specs.Prelude.{length, Result}
+use Rattle.std.specs.Prelude.{if◌then◌else◌, length, Result}
 use Rattle.std.specs.Option.{option_to_list}
 use Rattle.std.specs.Str.{byte as char}
 use Rattle.sd_sid.specs.Sid.{SecurityId}
@@ -8,12 +8,14 @@ use Rattle.sd_builder.specs.Draft.{IsOpen}
 use Rattle.sd_sddl_fields.specs.Held.{IsHeld, no_text}
 use Rattle.sd_sddl_builder.specs.Line.{byte, head_at, pieces_from, same_head}
 use Rattle.sd_sddl_builder.specs.FieldReading.{HasReadFields, Lacks}
-use Rattle.sd_sddl_builder.specs.FoldedReading.{FieldsRead, reads_as}
+use Rattle.sd_sddl_builder.specs.FoldedReading.{FieldsRead, reads_as, take_field}
 use Rattle.sd_text.specs.Chains.{unless}
-use Rattle.sd_sddl_reader.specs.Inner.Progress.{Seen, rest_answer, is_inside, is_seen}
+use Rattle.sd_sddl_reader.specs.Inner.Progress.{Seen, ended_with, is_inside, is_seen, rest_answer, state_of, with_head}
 use Rattle.sd_sddl_builder.specs.declared.fault.SddlFault.{SddlFault}
+use Rattle.sd_sddl_builder.specs.declared.fault.SddlFault.TheVariants as fault
 use Rattle.sd_sddl_builder.specs.declared.slot.Head.{Head}
 use Rattle.sd_sddl_builder.specs.declared.slot.Head.TheVariants as head
+use Rattle.sd_sddl_builder.specs.declared.slot.Slot.{Slot}
 use Rattle.sd_sddl_reader.specs.declared.line.State.{State}
 use Rattle.sd_sddl_reader.specs.declared.line.State.TheVariants as state
 use Rattle.sd_sddl_reader.specs.declared.reader.SddlReader.{SddlReader}
@@ -123,3 +125,29 @@ pub record Feeds (old : SddlReader) (before text : List ℕ) (new : SddlReader) 
   pub reader : IsReader new after
   pub read : (domain : Option SecurityId) (fed : List ℕ) → Reads old before domain fed
       → FedTo new after domain rest (fed ++ text)
+
+-- the part at hand was read, and nothing is held of it
+pub record EndsPart (s : SddlReader) (before : List ℕ) (e : SddlReader) (after : List ℕ) : Type 0 where
+  pub read : (t : FieldsRead) → LineHasRead s before t → (u : FieldsRead)
+      × (e.fault ≡ None → HasReadFields e.fields after u)
+      × (unless e.fault u ≡ ended_with s.fields.domain s.state s.field (unless s.fault t))
+  pub cleared : e.field ≡ no_text
+  pub domain : e.fields.domain ≡ s.fields.domain
+  pub same : e ≡ record s { field = e.field; fault = e.fault; fields = e.fields }
+
+-- a head was noted
+pub record NotesHead (e : SddlReader) (head : Head) (n : SddlReader) : Type 0 where
+  pub state : n.state ≡ state_of head
+  pub twice : n.twice ≡ (e.twice || is_seen e.seen head)
+  pub seen : n.seen ≡ with_head e.seen head
+  pub fault : n.fault ≡ (if is_seen e.seen head then Some fault.PartTwice else e.fault)
+  pub same : n ≡ record e { state = n.state; twice = n.twice; seen = n.seen; fault = n.fault }
+
+-- a field was read
+pub record TakesWhole (s : SddlReader) (before : List ℕ) (sl : Slot) (text : List ℕ) (e : SddlReader) (after : List ℕ)
+    : Type 0 where
+  pub read : (t : FieldsRead) → HasReadFields s.fields before t → (u : FieldsRead)
+      × (e.fault ≡ None → HasReadFields e.fields after u)
+      × (unless e.fault u ≡ take_field s.fields.domain t sl text)
+  pub domain : e.fields.domain ≡ s.fields.domain
+  pub same : e ≡ record s { fault = e.fault; fields = e.fields }

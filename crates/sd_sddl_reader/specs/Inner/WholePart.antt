@@ -2,11 +2,8 @@
 use Rattle.std.specs.Prelude.{◌≡◌, ℕ, ◌≤◌, true, List, ◌∷◌, ◌++◌, length, Option, Some, Ok, false}
 use Rattle.std.specs.List.{list_all}
 use Rattle.std.specs.Str.{byte as char}
-use Rattle.sd_alias.specs.declared.table.WellKnown.{WellKnown}
-use Rattle.sd_sid.specs.Account.{account_sid}
 use Rattle.sd_sid.specs.Sid.{SecurityId}
-use Rattle.sd_sid.specs.SidText.{known_sid, sid_reads}
-use Rattle.sd_sid.specs.declared.account.Account.{Account}
+use Rattle.sd_sid.specs.SidText.{sid_reads}
 use Rattle.sd_text.specs.Limits.{most_field}
 use Rattle.sd_sddl_builder.specs.Line.{head_of}
 use Rattle.sd_sddl_fields.specs.FieldTexts.{front_reads, is_blank}
@@ -42,17 +39,11 @@ pub record HeadBehind (field : List ℕ) (head : Head) (rest text : List ℕ) : 
   pub stands : text ≡ field ++ (blanks ++ letter ∷ char ":" ∷ rest)
   pub names : head_of letter ≡ Some head
 
--- a text that reads as an account's SID, a head behind it, and a rest
-pub record AccountBefore (account : Account) (head : Head) (rest text : List ℕ) : Type 0 where
+-- a text that reads as a SID under any domain, a head behind it, and a rest
+pub record SidBefore (sid : SecurityId) (head : Head) (rest text : List ℕ) : Type 0 where
   pub field : List ℕ
   pub before : HeadBehind field head rest text
-  pub reads : (domain : Option SecurityId) → sid_reads field domain ≡ Ok (account_sid account)
-
--- two letters that name a SID everywhere, a head behind them, and a rest
-pub record NamedBefore (name : WellKnown) (head : Head) (rest text : List ℕ) : Type 0 where
-  pub field : List ℕ
-  pub before : HeadBehind field head rest text
-  pub reads : (domain : Option SecurityId) → sid_reads field domain ≡ Ok (known_sid name)
+  pub reads : (domain : Option SecurityId) → sid_reads field domain ≡ Ok sid
 
 -- a text that reads as the flags of an ACL that is not null, the parenthesis that ends it, and a rest
 pub record FrontBefore (front : AclFront) (rest text : List ℕ) : Type 0 where

@@ -8,7 +8,7 @@ from sdtool.audit.sources.places import Above
 from sdtool.audit.store.scratch import Scratch, restored, stored
 from sdtool.audit.windows.rights import OF_FILES
 
-_ROOT = re.compile(r"[A-Za-z]:[\\/]*|[\\/]+")
+_ROOT = re.compile(r"[A-Za-z]:[\\/]*|[\\/]+|[\\/]{2}[^\\/]+[\\/][^\\/]+[\\/]*")
 
 
 def _key(name: str, kind: str) -> bytes:

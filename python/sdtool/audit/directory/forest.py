@@ -7,15 +7,18 @@ import itertools
 import re
 from typing import Counter, Dict, Iterable, Iterator, List, Optional, Sequence, Set, Tuple
 
-from sdtool.audit.directory.groups import named_sid, text_lines
+from sdtool.audit.directory.groups import entries, named_sid, text_lines
 from sdtool.audit.directory.machines import Machines
 from sdtool.audit.directory.parents import Parents
 from sdtool.audit.library import ALLOWS, INHERITED, Ace, Descriptor, Refusal, explained
+from sdtool.audit.live.directory import ENTRY, NAME
 from sdtool.audit.sources import ldif
 from sdtool.audit.sources.items import UNREADABLE, WITHOUT_OWNER, Item
 from sdtool.audit.sources.opening import OpeningFault
-from sdtool.audit.sources.places import Place, place_of
+from sdtool.audit.sources.places import Place, place_of, through_of
+from sdtool.audit.sources.reading import is_database
 from sdtool.audit.sources.samba import Unknown
+from sdtool.audit.store import cache
 from sdtool.audit.windows import names as sids
 from sdtool.audit.windows import rights
 from sdtool.audit.windows.defaults import ACCOUNTS, Default
@@ -70,7 +73,7 @@ class Forest:
         for batch in _batches(items):
             for item, found in zip(batch, _explained(batch, self._domain)):
                 yield (item._replace(place=self._place(item, found).text())
-                       if item.place not in ("", WITHOUT_OWNER) else item)
+                       if through_of(item.place)[0] not in ("", WITHOUT_OWNER) else item)
 
     def _place(self, item: Item, found: Optional[Descriptor]) -> Place:
         name, place = item.name.casefold(), place_of(item.place)
@@ -100,8 +103,10 @@ def _explained(items: Sequence[Item], domain: str) -> List[Optional[Descriptor]]
     return [of_texts.get((item.form, item.text)) for item in items]
 
 
-def is_ldif(path: str) -> bool:
-    """Whether a file begins as an LDIF of entries."""
+def has_entries(path: str) -> bool:
+    """Whether a file begins as an LDIF of entries, or a directory has filled it."""
+    if is_database(path):
+        return any(next(cache.facts(path, kind), None) for kind in (ENTRY, NAME))
     with contextlib.suppress(OpeningFault):
         first = next((line for line in text_lines(path) if line and not line.startswith("#")), "")
         return first.lower().startswith(("dn:", "version:"))
@@ -115,19 +120,22 @@ class Told:
     def __init__(self, paths: Iterable[str]) -> None:
         self.heads: Set[str] = set()
         self.names: Dict[str, str] = {}
+        self.types: Dict[str, str] = {}  # names of object types
         self.accounts: Dict[str, str] = {}
         self.machines = Machines()
         self.paths: List[str] = []  # of those that say something
-        for path in filter(is_ldif, paths):
+        for path in filter(has_entries, paths):
             before = len(self.names)
+            self.names.update(cache.facts(path, NAME) if is_database(path) else ())
             # The report says what can't be read, of a source or of an entry.
             with contextlib.suppress(OpeningFault):
-                for entry in ldif.entries(text_lines(path)):
+                for entry in entries(path):
                     self._add(entry)
             if len(self.names) > before:
                 self.paths.append(path)
 
     def _add(self, entry: ldif.Entry) -> None:
+        self.types.update((guid, name) for name, guid in _types_of(entry))
         try:
             sid, name = named_sid(entry)
             self.machines.add(entry)
@@ -148,45 +156,68 @@ def accounts_of(names: Dict[str, str]) -> Dict[str, str]:
 
 
 class Schema:
-    """Default descriptors of classes, and object types by name, of an LDIF of a schema."""
+    """Default descriptors of classes, and object types by name, of an LDIF of a schema, or of a database that a
+    directory has filled. faults says which defaults can't be read."""
 
     def __init__(self, path: str, domain: str) -> None:
         self.of_classes: List[Default] = []
         self.named_types: Dict[str, str] = {}
+        self.faults: List[str] = []
         texts: List[Tuple[str, str]] = []
-        for entry in ldif.entries(text_lines(path)):
+        for entry in entries(path):
             names = entry.attributes.get("ldapdisplayname", ())
+            self.named_types.update(_types_of(entry))
             if entry.reason or not names:
                 continue
             name = names[0].decode("utf-8", "replace")
-            guid = entry.attributes.get("schemaidguid", ())
-            if guid:
-                self.named_types[name] = _guid_text(guid[0])
             for given in entry.attributes.get("defaultsecuritydescriptor", ()):
                 try:
                     # Two classes of Windows' schema have a blank behind D:.
                     text = ldif.sddl_of(given).replace(" ", "")
-                    if not text or "\n" in text:
-                        raise OpeningFault(f"{path}: the defaultSecurityDescriptor of {name} is empty or has "
-                                           "a line end")
-                    texts.append((name, text))
+                    if text and "\n" not in text:
+                        texts.append((name, text))
+                    else:
+                        self.faults.append(f"the defaultSecurityDescriptor of {name} is empty or has a line end")
                 except Unknown as error:
-                    raise OpeningFault(f"{path}: the defaultSecurityDescriptor of {name} can't be read: {error}; run "
-                                       "ldbsearch without --show-binary") from error
-        if not texts:
-            raise OpeningFault(f"{path}: no class has a defaultSecurityDescriptor: export the schema with "
-                               "lDAPDisplayName, schemaIDGUID and defaultSecurityDescriptor")
+                    self.faults.append(f"the defaultSecurityDescriptor of {name} can't be read: {error}; run "
+                                       "ldbsearch without --show-binary")
+        self.has_defaults = bool(texts)
         stand_in = domain or "S-1-5-21-0-0-0"
         for (name, _), descriptor in zip(texts, explained("sddl", [text for _, text in texts], stand_in)):
             if isinstance(descriptor, Refusal):
-                raise OpeningFault(f"{path}: the defaultSecurityDescriptor of {name} can't be read: {descriptor.line}")
+                self.faults.append(f"the defaultSecurityDescriptor of {name} can't be read: {descriptor.line}")
+                continue
             self.of_classes += [_default(name, ace) for ace in descriptor.aces if ace.kind in ALLOWS]
+
+
+def read_schema(path: str, domain: str) -> Schema:
+    """The schema of a file that words name, which has to be one."""
+    schema = Schema(path, domain)
+    if schema.faults:
+        raise OpeningFault(f"{path}: {schema.faults[0]}")
+    if not schema.has_defaults:
+        raise OpeningFault(f"{path}: no class has a defaultSecurityDescriptor: export the schema with "
+                           "lDAPDisplayName, schemaIDGUID and defaultSecurityDescriptor")
+    return schema
+
+
+def told_schema(paths: Iterable[str], domain: str) -> Optional[Schema]:
+    """The schema that a directory among the sources tells, if one does."""
+    found = (Schema(path, domain) for path in paths if is_database(path))
+    return next((one for one in found if one.has_defaults), None)
 
 
 def _default(name: str, ace: Ace) -> Default:
     domain, number = sids.domain_of(ace.sid)
     return Default(("ds",), (name,), (), number if domain else ace.sid, ace.mask, ace.object_type, ace.inherited_type,
                    bool(ace.flags & 0x2))
+
+
+def _types_of(entry: ldif.Entry) -> Iterator[Tuple[str, str]]:
+    """The object types of an entry of a schema, or of an extended right: names and GUIDs."""
+    for title, guid in (("ldapdisplayname", "schemaidguid"), ("cn", "rightsguid")):
+        for name, value in zip(entry.attributes.get(title, ()), entry.attributes.get(guid, ())):
+            yield name.decode("utf-8", "replace"), _guid_text(value)
 
 
 def _guid_text(data: bytes) -> str:

@@ -5,8 +5,10 @@ import re
 from typing import Dict, Iterator, List, Mapping, NamedTuple, Sequence, Set, Tuple
 
 from sdtool.audit import library
-from sdtool.audit.sources import ldif
+from sdtool.audit.live.directory import ENTRY
+from sdtool.audit.sources import ldif, reading
 from sdtool.audit.sources.opening import READ_FAULTS, OpeningFault, chunks, encoding_of, lines, streams, without_cr
+from sdtool.audit.store import cache
 
 _SID = re.compile(r"S-1-[0-9]+(?:-[0-9]+)*\Z", re.I)
 _LDIF = re.compile(r"(version: [0-9]+|dn::? .*|#.*)", re.I)
@@ -76,6 +78,13 @@ def text_lines(path: str) -> Iterator[str]:
         raise OpeningFault(f"{path}: {error}") from error
 
 
+def entries(path: str) -> Iterator[ldif.Entry]:
+    """The entries of an LDIF, or those that a directory gave a database."""
+    if reading.is_database(path):
+        return (ldif.entry_of(name, text) for name, text in cache.facts(path, ENTRY))
+    return ldif.entries(text_lines(path))
+
+
 def named_sid(entry: ldif.Entry) -> Tuple[str, str]:
     """The SID of an entry and its name. A foreign security principal is called as its SID is, which is no name."""
     binary = entry.attributes.get("objectsid")
@@ -94,7 +103,7 @@ def _of_ldif(path: str) -> Groups:
     by_name: List[Tuple[str, str]] = []  # of group and member
     primary: List[Tuple[str, str]] = []
     cut: List[str] = []
-    for entry in ldif.entries(text_lines(path)):
+    for entry in entries(path):
         if entry.reason:
             raise OpeningFault(f"{path}: line {entry.line}: {entry.reason}")
         own = entry.name.lower()
@@ -151,6 +160,8 @@ def read_groups(path: str, domain: str) -> Groups:
     """Groups of an LDIF or of a file of groups."""
     if not os.path.isfile(path):
         raise OpeningFault(f"{path}: no such file")
+    if reading.is_database(path):
+        return _of_ldif(path)
     first = next((line for line in text_lines(path) if line.strip()), "")
     return _of_ldif(path) if _LDIF.fullmatch(first) and not _starts_table(path) else _of_table(path, domain)
 

@@ -23,7 +23,7 @@ _TITLED = re.compile(r"[^:\\]+:\s+(.*)\Z", re.S)
 _MOST_SHOWN = 12
 
 
-def _with_everybody(token: Token) -> Token:
+def with_everybody(token: Token) -> Token:
     """A token with what those who have its SIDs have besides, but for what it has for deny only."""
     enabled = [sid for sid in token.sids if sid[:1] != "!"]
     more = [one for sid in enabled for one in meaning_of(sid).also if "!" + one not in token.sids]
@@ -32,7 +32,7 @@ def _with_everybody(token: Token) -> Token:
 
 def _privileges(lines: Sequence[str]) -> Tuple[str, ...]:
     """The privileges that whoami lists. One that is disabled can be enabled by its holder."""
-    return tuple(dict.fromkeys(one[1] for one in map(_PRIVILEGE.match, map(str.strip, lines)) if one))
+    return tuple(one[1] for one in map(_PRIVILEGE.match, map(str.strip, lines)) if one)
 
 
 class _Listed(NamedTuple):
@@ -64,10 +64,15 @@ def _of_whoami(listed: Sequence[_Listed], lines: Sequence[str], path: str) -> To
     privileges = _privileges(lines)
     if len(sids) == users and (level is not None or privileges):
         raise OpeningFault(f"{path}: whoami lists no groups; run whoami /all, and keep all that it prints")
-    known = [(name, *PRIVILEGES[name]) for name in privileges if name in PRIVILEGES]
+    token = Token(tuple(dict.fromkeys(sids)), level, missing="" if users else _LACKS_USER)
+    return with_privileges(token, privileges)
+
+
+def with_privileges(token: Token, names: Sequence[str]) -> Token:
+    """A token with the privileges that count, and what others let its holder do."""
+    known = [(name, *PRIVILEGES[name]) for name in dict.fromkeys(names) if name in PRIVILEGES]
     notes = tuple(f"{name}: may {lets}, whatever its permissions say" for name, _, lets in known if lets)
-    return Token(tuple(dict.fromkeys(sids)), level, privileges=tuple(check for _, check, _ in known if check),
-                 missing="" if users else _LACKS_USER, notes=notes)
+    return token._replace(privileges=tuple(check for _, check, _ in known if check), notes=(*token.notes, *notes))
 
 
 def _marked(listed: _Listed, path: str) -> str:
@@ -190,7 +195,7 @@ def read_token(word: str, domain: str, exact: bool = False) -> Token:
     token = _of_file(word, domain) if os.path.isfile(word) else _of_words(word, domain)
     if not token.sids:
         raise OpeningFault(f"{word}: the file has no SID")
-    token = token._replace(missing="") if exact else _with_everybody(token)
+    token = token._replace(missing="") if exact else with_everybody(token)
     if len(token.sids) > MOST_SIDS:
         raise OpeningFault(f"the token has {len(token.sids):,} SIDs; a token has at most {MOST_SIDS:,}")
     return token

@@ -189,7 +189,7 @@ class Differences:
                 if not one:
                     own[verb] = changed
                 if mask:
-                    bound = f"only for object type {sids.object_type(one)}" if one else ""
+                    bound = f"only for object type {self._context.names.object_type(one)}" if one else ""
                     yield Finding("rights", self._context.names.named(sid), f"{verb} {rights.short_text(mask, kind)}",
                                   bound)
 

@@ -79,7 +79,8 @@ class Having:
             # Whoever has the rights of all types has what was asked for by name.
             if had.rule not in self._wanted and (not had.object_type or is_own(had.object_type, where.own)):
                 continue
-            bound = f", only for object type {sids.object_type(had.object_type)}" if had.object_type else ""
+            of_type = self._context.names.object_type(had.object_type)
+            bound = f", only for object type {of_type}" if had.object_type else ""
             because = self._because(checks, at, token, had, descriptor)
             yield Finding("who", self._context.names.named(sid), had.rule, had.says + bound, sid=sid, mask=had.mask,
                           because=because)

@@ -17,8 +17,8 @@ from sdtool.audit.masks import GENERIC, WITHOUT_MAPPING
 from sdtool.audit.protocols import Context
 from sdtool.audit.questions.differences import surplus as surplus_of
 from sdtool.audit.questions.differences import surplus_places
-from sdtool.audit.sources.items import SDDL, UNREADABLE, WITHOUT_OWNER, Item, unreadable
-from sdtool.audit.sources.places import place_of
+from sdtool.audit.sources.items import SDDL, UNREADABLE, Item, unreadable
+from sdtool.audit.sources.places import classes_of
 from sdtool.audit.store.scratch import COLUMNS, Scratch, item_of, row_of
 from sdtool.audit.windows import names as sids
 from sdtool.audit.windows.aces import ace_in_words
@@ -224,7 +224,9 @@ def _row(item: Item) -> Tuple[Any, ...]:
     folder = folder_of(item.name, item.kind)
     key, folder_key = (name.encode("utf-8", "surrogatepass")
                        for name in (key_of(item.name, item.kind), key_of(folder, item.kind) if folder else ""))
-    classes = place_of(item.place).classes if item.place and item.place != WITHOUT_OWNER else ()
+    if item.kind == "share":
+        key += b"\0"  # it is no folder, though the root of what it shares has its name
+    classes = classes_of(item.place)
     return (*row, key, folder_key, classes[-1] if classes else "")
 
 

@@ -14,6 +14,7 @@ from sdtool.audit.library import (ALLOWS, CONTAINER_INHERIT, DENIES, INHERIT_ONL
                                   mapped_below, spelled)
 from sdtool.audit.masks import WITHOUT_MAPPING
 from sdtool.audit.protocols import Context
+from sdtool.audit.shares import Limit, Limits
 from sdtool.audit.sources.places import Place, known_place
 from sdtool.audit.windows import names as sids
 from sdtool.audit.windows import rights
@@ -112,11 +113,11 @@ def _kept(right: int, types: Sequence[str]) -> bool:
 class _Views:
     """The descriptors of one call: as they are, or changed."""
 
-    def __init__(self, form: str, texts: Sequence[str], kind: str, domain: str) -> None:
+    def __init__(self, form: str, texts: Sequence[str], kind: str, domain: str, limit: Limit) -> None:
         mask = rights.EVERYTHING[kind]
-        self._plain = Checks(form, texts, kind, mask, domain)
+        self._plain = Checks(form, texts, kind, mask, domain, limit)
         self._texts: List[str] = []
-        self._changed = Checks("sddl", self._texts, kind, mask, "")
+        self._changed = Checks("sddl", self._texts, kind, mask, "", limit)
 
     def plain(self, at: int, aces: Sequence[Ace]) -> _View:
         """A descriptor with the ACEs that decide about it."""
@@ -188,12 +189,17 @@ class Risks:
         self._most_slight = ORDER.index(options.severity)
         self._defaults = Defaults(options.trust, options.accounts, options.of_classes)
         self._abilities = Abilities(self._on, options.trust, options.named_types)
+        self._limits = Limits(context.domain, self._is_asked_about)
         self._known: Dict[Tuple[str, str], _Wanted] = {}
+
+    def _is_asked_about(self, sid: str) -> bool:
+        return not self._options.trust.has(sid)
 
     def answer(self, form: str, kind: str, texts: Sequence[str], place: str = "") -> List[Answer]:
         descriptors = explained(form, texts, self._context.domain)
         answers: List[Optional[Answer]] = [None] * len(texts)
-        views = _Views(form, texts, kind, self._context.domain)
+        place, limit = self._limits.of(place)
+        views = _Views(form, texts, kind, self._context.domain, limit)
         where = known_place(place, kind)
         cases: Dict[int, List[_Case]] = {}
         for at, descriptor in enumerate(descriptors):
@@ -212,7 +218,7 @@ class Risks:
             descriptor = descriptors[at]
             assert isinstance(descriptor, Descriptor)
             answers[at] = next(filter(None, map(_too_many, of_object)), None) or \
-                self._answer(self._found(of_object, descriptor, kind), descriptor, kind)
+                self._answer(self._through(limit, self._found(of_object, descriptor, kind), kind), descriptor, kind)
         return complete(answers)
 
     def _places(self, descriptor: Descriptor, kind: str, place: Place) -> Iterable[Tuple[Place, Sequence[Group]]]:
@@ -233,6 +239,19 @@ class Risks:
             return self._findings(cases[0], descriptor, kind, here(cases[0].place))
         return of_any((group, self._findings(case, descriptor, kind, as_one_of(group, case.place)))
                       for case in cases for group in case.groups)
+
+    def _through(self, limit: Limit, findings: Iterable[Finding], kind: str) -> Iterator[Finding]:
+        """Findings with what is said of the share. Without a DACL its own permissions alone say who gets what."""
+        for one in findings:
+            token = trustee_token(one.sid)
+            if one.rule in _WITHOUT_DACL and limit.name:
+                mask = rights.FULL[kind] & limit.mask(token)
+                words = rights.short_text(mask, kind)
+                one = one._replace(rights=words, mask=mask, because=(Because(0, NO_DACL, words),))
+                if not mask:
+                    continue
+            said = limit.said(token, one.mask, self._context.names.named) if one.sid else ""
+            yield one._replace(text=_joined(one.text, said)) if said else one
 
     def _answer(self, findings: Iterable[Finding], descriptor: Descriptor, kind: str) -> Answer:
         """The answer of findings, each with its ACEs. Those that are too slight are left out."""
@@ -372,7 +391,7 @@ class Risks:
         # left.
         if descriptor.dacl != "list":
             everything = rights.short_text(rights.FULL[kind], kind)
-            yield from self._of("no-dacl" if descriptor.dacl == "absent" else "null-dacl", sids.EVERYONE, everything,
+            yield from self._of(_WITHOUT_DACL[descriptor.dacl != "absent"], sids.EVERYONE, everything,
                                 because=(Because(0, NO_DACL, everything),))
         else:
             if not descriptor.aces:
@@ -452,7 +471,8 @@ class Risks:
             return
         all_had = self._abilities.had(sid, got, where, about.gives, about.gives_all, _is_of_everybody(wanted))
         for had in all_had:
-            bound = f", only for object type {sids.object_type(had.object_type)}" if had.object_type else ""
+            of_type = self._context.names.object_type(had.object_type)
+            bound = f", only for object type {of_type}" if had.object_type else ""
             said = _joined(had.says + bound, below, self._heirs(place, sid, had.object_type))
             of_types = about.why if had.types == (had.object_type,) else about.why_all
             because = tuple(dict.fromkeys(found for one in had.types for found in of_types(had.claimed, one)))
@@ -517,7 +537,7 @@ class Risks:
 
     def _of_mask(self, rule: str, sid: str, got: Got, kind: str, text: str, why: _Why, had: int = 0,
                  asked: int = 0, is_adding: bool = False) -> Iterator[Finding]:
-        for share in shares_of(got, kind, text, had, asked) if rule in self._on else ():
+        for share in shares_of(got, kind, text, self._context.names, had, asked) if rule in self._on else ():
             severity = _OF_ADDING[rule] if is_adding else severity_of(rule, kind, sid)
             # A finding that is too slight is left out later.
             because = why(share.claimed, share.object_type) if ORDER.index(severity) <= self._most_slight else ()
@@ -533,6 +553,7 @@ class Risks:
 
 
 _OWNER, _GIVEN = "foreign-owner", "given-by-windows"
+_WITHOUT_DACL = ("no-dacl", "null-dacl")
 
 
 def severity_of(rule: str, kind: str, sid: str) -> str:

@@ -9,6 +9,7 @@ from sdtool.audit.findings import (FOUND, NOTHING, TRUSTED, TRUSTED_RULE, Answer
                                    complete)
 from sdtool.audit.library import ALLOWS, Descriptor, Got, Token, answerable, explained, mapped
 from sdtool.audit.protocols import Context
+from sdtool.audit.shares import Limit, Limits
 from sdtool.audit.windows import names as sids
 from sdtool.audit.windows import rights
 
@@ -56,13 +57,16 @@ class Who:
     def __init__(self, context: Context, wanted: rights.Wanted, listing: Listing = Listing()) -> None:
         self._context, self._wanted, self._listing = context, wanted, listing
         self._membership = Membership(listing.groups) if listing.groups else None
+        self._limits = Limits(context.domain, listing.lists)
 
     def answer(self, form: str, kind: str, texts: Sequence[str], place: str = "") -> List[Answer]:
         mask = self._wanted.all_of(kind)
+        place, limit = self._limits.of(place)
         descriptors = explained(form, texts, self._context.domain)
         answers: List[Optional[Answer]] = [refused(one, kind, mask) for one in descriptors]
-        checks = Checks(*answerable(form, texts, descriptors, kind), kind, asked_of(mask, kind), self._context.domain)
-        asked = {at: _Trustees(descriptor, mask, kind) for at, descriptor in enumerate(descriptors)
+        checks = Checks(*answerable(form, texts, descriptors, kind), kind, asked_of(mask, kind), self._context.domain,
+                        limit)
+        asked = {at: _Trustees(descriptor, mask, kind, limit) for at, descriptor in enumerate(descriptors)
                  if answers[at] is None and isinstance(descriptor, Descriptor)}
         for at, trustees in asked.items():
             checks.know(at, of_allowed_types(trustees.descriptor, mask, kind))
@@ -71,7 +75,9 @@ class Who:
             for sid in named:
                 checks.ask(at, trustee_token(sid))
             for member in dict.fromkeys(itertools.chain(*map(self._members, named))):
-                checks.ask(at, self._member_token(member, trustees), False)
+                token = self._member_token(member, trustees)
+                limit.whole.add(token)
+                checks.ask(at, token, False)
         checks.run()
         for at, trustees in asked.items():
             answers[at] = checks.too_many(at)
@@ -89,7 +95,8 @@ class Who:
     def _member_token(self, member: str, trustees: "_Trustees") -> Token:
         """The SIDs of a member that the descriptor names: no other one changes the answer."""
         assert self._membership is not None
-        groups = [sid for sid in self._membership.groups(member) if sid in trustees.named]
+        named = trustees.named | trustees.limit.named
+        groups = [sid for sid in self._membership.groups(member) if sid in named]
         return Token(tuple([member, *groups, sids.EVERYONE, sids.AUTHENTICATED_USERS]))
 
     def _findings(self, checks: Checks, at: int, trustees: "_Trustees", kind: str,
@@ -132,7 +139,9 @@ class Who:
     def _of(self, sid: str, token: Token, got: Got, checks: Checks, at: int, trustees: "_Trustees",
             kind: str, text: str, is_listed: bool) -> Iterator[Finding]:
         kept, aces = kept_of(got, self._wanted, kind), trustees.descriptor.aces
-        for share in shares_of(kept, kind, text, checks.mask(at, token), self._wanted.all_of(kind)):
+        names, asked = self._context.names, self._wanted.all_of(kind)
+        text = "; ".join(filter(None, (text, trustees.limit.said(token, kept.mask, names.named))))
+        for share in shares_of(kept, kind, text, names, checks.mask(at, token), asked):
             because = checks.because(at, token, share.claimed, aces, share.object_type) if is_listed else ()
             yield Finding("who", self._context.names.named(sid), share.words, share.text, sid=sid, mask=share.mask,
                           mark=mark_of(because, aces, kind, share.mask), because=because)
@@ -141,6 +150,10 @@ class Who:
                  text: str) -> Iterator[Finding]:
         """What is denied to somebody of some rights that are missing."""
         mask, because = trustees.denied_by(checks, at, token, missing)
+        taken = checks.taken(at, token, self._wanted.all_of(kind))
+        if taken:
+            text = f"the share {trustees.limit.name} takes it away"
+            mask, because = mask | taken, because + trustees.limit.because(taken, kind)
         if mask:
             yield Finding("stopped", self._context.names.named(sid), rights.short_text(mask, kind), text, False,
                           sid=sid, mask=mask, mark=mark_of(because, trustees.descriptor.aces, kind), because=because)
@@ -156,8 +169,8 @@ class Who:
 class _Trustees:
     """Whom a descriptor names for some rights."""
 
-    def __init__(self, descriptor: Descriptor, mask: int, kind: str) -> None:
-        self.descriptor = descriptor
+    def __init__(self, descriptor: Descriptor, mask: int, kind: str, limit: Limit) -> None:
+        self.descriptor, self.limit = descriptor, limit
         self.named = {as_owner(ace.sid, descriptor) for ace in descriptor.deciding} | {descriptor.owner}
         self.allowed_masks: Dict[str, int] = {}
         denied: Dict[str, None] = {}

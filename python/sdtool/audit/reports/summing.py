@@ -32,10 +32,12 @@ class Summary:
         self.answers: Counter[str] = collections.Counter()
         self.rules: Counter[str] = collections.Counter()
         self.severities: Counter[str] = collections.Counter()  # of objects with such a finding that counts
+        self.left = 0  # objects that a server listed, and had no more
 
     def add(self, answer: Answer, count: int = 1) -> None:
         """Counts so many objects with an answer."""
         self.answers[answer.status] += count
+        self.left += count if answer.status == GONE and answer.reason else 0
         if not answer.findings:
             return
         for finding in answer.findings:
@@ -67,6 +69,7 @@ class Summary:
         self.answers.update(other.answers)
         self.rules.update(other.rules)
         self.severities.update(other.severities)
+        self.left += other.left
 
     @property
     def total(self) -> int:
@@ -90,4 +93,4 @@ class Summary:
         if fail_on is not None:
             grave = SEVERITIES[:SEVERITIES.index(fail_on) + 1]
             return FOUND_SOME if any(self.severities[severity] for severity in grave) else FOUND_NOTHING
-        return FOUND_SOME if any(answers[status] for status in _FOUND) else FOUND_NOTHING
+        return FOUND_SOME if sum(answers[status] for status in _FOUND) > self.left else FOUND_NOTHING

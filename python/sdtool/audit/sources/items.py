@@ -25,6 +25,9 @@ _PLAIN_ACES = (0, 1, 2, 3, 0x11)
 # Kinds of objects whose source doesn't say what they are, but perhaps by a path of a file system.
 UNTOLD, BY_PATH = "untold", "path"
 
+# The reason of an object that was listed, and was no more when it was asked for.
+GONE = "gone: it was listed, and no longer there when it was asked for"
+
 # The place of an object whose source never has owners.
 WITHOUT_OWNER = "without owner"
 

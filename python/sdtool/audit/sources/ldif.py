@@ -2,8 +2,9 @@
 ldbsearch and AdFind."""
 import base64
 import binascii
+import json
 import re
-from typing import Dict, Iterator, List, NamedTuple, Tuple, Union
+from typing import Dict, Iterator, List, NamedTuple, Optional, Tuple, Union
 
 from sdtool._windows import CONTAINERS, DESCRIPTORS
 from sdtool.audit.sources import binary, ndr
@@ -44,6 +45,18 @@ class Entry(NamedTuple):
     reason: str = ""
     cut: Tuple[str, ...] = ()  # attributes of which the entry has only a range
     titles: Dict[str, str] = {}  # names of attributes as they are spelled
+
+
+def text_of(attributes: Dict[str, List[bytes]]) -> str:
+    """The attributes of an entry as a database keeps them."""
+    return json.dumps({name: [base64.b64encode(value).decode("ascii") for value in values]
+                       for name, values in attributes.items()})
+
+
+def entry_of(name: str, text: str) -> Entry:
+    """An entry that a database keeps."""
+    return Entry(0, name, {one: [base64.b64decode(value) for value in values]
+                           for one, values in json.loads(text).items()})
 
 
 class _Block(NamedTuple):
@@ -329,14 +342,22 @@ def sddl_of(value: bytes) -> str:
     return ndr.sddl_of(value.decode("utf-8", "replace").split("\n")) if is_dump else value.decode("latin-1")
 
 
-def _item(entry: Entry, label: str, shown: str, kind: str) -> Item:
+def items_of(entry: Entry, label: str, kind: str = "ds", shown: Optional[str] = None,
+             advice: str = _NO_DESCRIPTOR) -> Iterator[Item]:
+    """The object of an entry, and one for each other attribute that is a descriptor, unless one is named."""
+    yield _item(entry, label, shown or "nTSecurityDescriptor", kind, advice)
+    if not shown:
+        yield from _attribute_items(entry, label)
+
+
+def _item(entry: Entry, label: str, shown: str, kind: str, advice: str) -> Item:
     if entry.reason:
         return unreadable(entry.name, label, entry.line, entry.reason, _AGAIN, kind)
     values = entry.attributes.get(shown.lower(), [])
     if len(values) != 1 or not values[0]:
         reason = ("the entry has two descriptors" if len(values) > 1 else f"the entry has no {shown}" if not values else
                   f"{shown} is empty")
-        return unreadable(entry.name, label, entry.line, reason, _NO_DESCRIPTOR, kind)
+        return unreadable(entry.name, label, entry.line, reason, advice, kind)
     return _described(entry.name, values[0], shown, entry, label, kind, place_text(entry))
 
 
@@ -382,15 +403,13 @@ def unknown_attribute(name: str, title: str, label: str, line: int) -> Item:
 
 def _read(source: Lines, label: str, options: SourceOptions) -> Iterator[Piece]:
     """The entries as objects."""
-    kind = options.kind or "ds"
-    shown = options.descriptor_column or "nTSecurityDescriptor"
+    kind, shown = options.kind or "ds", options.descriptor_column
     for begin, end, found, is_strange in _read_blocks(source):
         if isinstance(found, str):
             yield Piece(begin, end, found, is_strange)
             continue
-        yield Piece(begin, end, _item(found, label, shown, kind), is_strange)
-        for item in _attribute_items(found, label) if not options.descriptor_column else ():
-            yield Piece(begin, end, item)
+        for number, item in enumerate(items_of(found, label, kind, shown)):
+            yield Piece(begin, end, item, is_strange and not number)
 
 
 def _recognizes(look: Look) -> bool:

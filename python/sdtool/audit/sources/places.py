@@ -1,4 +1,5 @@
 """What a source says of the place of a directory object, and the text of it that an object carries."""
+import re
 from typing import NamedTuple, Tuple
 
 from sdtool._windows import DEFAULTS, PROTECTING
@@ -6,6 +7,7 @@ from sdtool.audit.sources.items import WITHOUT_OWNER
 
 _PART = "\1"  # between the parts of a place; no name of a class has it
 _ABOVE = "\2"  # before what is above an object
+SHARE = "\3"  # before what the share of an object is
 _PROTECTING, _PROTECTED = PROTECTING
 
 
@@ -50,6 +52,26 @@ def above_of(text: str) -> Tuple[str, Above]:
     return place, Above(bool(is_folder), name, form, descriptor, reason)
 
 
+class Through(NamedTuple):
+    """The share by which an object of a server is reached: its name and descriptor, or why it has none that is known.
+    An object that isn't of a share has one without a name."""
+
+    name: str = ""
+    form: str = ""
+    told: str = ""  # the descriptor, or the reason
+    samba: str = ""  # whether the server is one of Samba
+
+    def text(self) -> str:
+        """The text of the place of an object of the share."""
+        return SHARE.join(["", *(re.sub("[\1-\3\ud800-\udfff]", " ", one) for one in self)])
+
+
+def through_of(text: str) -> Tuple[str, Through]:
+    """The text of a place without its share, and that."""
+    place, *parts = text.split(SHARE)
+    return place, Through(*parts)
+
+
 def place_of(text: str) -> Place:
     """The place of its text."""
     if not text:
@@ -65,13 +87,14 @@ def _words(text: str) -> Tuple[str, ...]:
 
 def classes_of(text: str) -> Tuple[str, ...]:
     """The classes of the object that the text of a place is of."""
-    text = text.partition(_ABOVE)[0]
+    text = through_of(text.partition(_ABOVE)[0])[0]
     return place_of("" if text == WITHOUT_OWNER else text).classes
 
 
 def known_place(text: str, kind: str) -> Place:
     """The place of an object of a kind, with all classes that its rights are of. A template has its class by its
     kind. Without classes the name says nothing."""
+    text = through_of(text)[0]
     place = place_of("" if text == WITHOUT_OWNER else text)
     if not place.classes:
         own = ("pKICertificateTemplate",) if kind == "template" else ()

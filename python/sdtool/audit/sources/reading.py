@@ -3,9 +3,9 @@ import os
 import re
 from typing import Any, Callable, Dict, Iterator, List, NamedTuple, Optional, Tuple
 
-from sdtool.audit.sources import (binary, columns, delimited, digits, dsacl, getfattr, icacls, json_text, ldif, listing,
-                                  ndr, opening, plain, registry, registry_query, sds, secedit, service, smbcacls, tree,
-                                  unsupported, wevtutil, xml_text)
+from sdtool.audit.sources import (binary, collected, columns, delimited, digits, dsacl, getfattr, icacls, json_text,
+                                  ldif, listing, ndr, opening, plain, registry, registry_query, sds, secedit, service,
+                                  smbcacls, tree, unsupported, wevtutil, xml_text)
 from sdtool.audit.sources.archives import Trouble
 from sdtool.audit.sources.frame import OPENERS, Account, Format, Look, cut_item, guesses_of, objects_of
 from sdtool.audit.sources.items import Item, unreadable
@@ -19,8 +19,8 @@ __all__ = ["FORMATS", "NAMES", "Table", "cut_item", "empty_item", "format_help",
 # The order counts where two formats read a text equally well.
 FORMATS: Tuple[Format, ...] = (
     registry.FORMAT, registry_query.FORMAT, digits.FORMAT, secedit.FORMAT, getfattr.FORMAT, ldif.FORMAT,
-    smbcacls.FORMAT, ndr.FORMAT, dsacl.FORMAT, wevtutil.FORMAT, json_text.LINES_FORMAT, json_text.FORMAT,
-    xml_text.FORMAT, listing.FORMAT, columns.FORMAT, service.FORMAT, icacls.FORMAT, delimited.FORMAT,
+    smbcacls.FORMAT, ndr.FORMAT, dsacl.FORMAT, wevtutil.FORMAT, collected.FORMAT, json_text.LINES_FORMAT,
+    json_text.FORMAT, xml_text.FORMAT, listing.FORMAT, columns.FORMAT, service.FORMAT, icacls.FORMAT, delimited.FORMAT,
     unsupported.FORMAT, plain.FORMAT, sds.FORMAT, binary.FORMAT)
 _BY_NAME: Dict[str, Format] = {one.name: one for one in FORMATS}
 NAMES = tuple(name for name in _BY_NAME if name not in (unsupported.FORMAT.name, digits.FORMAT.name)) + ("tree",)

@@ -6,11 +6,12 @@ import contextlib
 import hashlib
 import os
 import sqlite3
-from typing import Any, Callable, Dict, Iterable, Iterator, List, NamedTuple, Optional, Tuple
+from typing import Any, Callable, Dict, Iterable, Iterator, List, NamedTuple, Optional, Sequence, Tuple
 
 from sdtool.audit import files, stopping
 from sdtool.audit.engine import Answered, Engine
-from sdtool.audit.findings import Answer, unknown
+from sdtool.audit.findings import Answer, unknown, unread
+from sdtool.audit.live.talking import SAID
 from sdtool.audit.sources.items import UNREADABLE, Item, unreadable
 from sdtool.audit.sources.opening import OpeningFault
 from sdtool.audit.store.scratch import restored, stored
@@ -25,6 +26,15 @@ CREATE TABLE objects(id INTEGER PRIMARY KEY, name NOT NULL, source INTEGER NOT N
                      line INTEGER NOT NULL, descriptor INTEGER REFERENCES descriptors, is_folder INTEGER, reason TEXT,
                      help TEXT, kind TEXT);
 """
+_UNSAFE = "PRAGMA journal_mode = OFF; PRAGMA synchronous = OFF;"  # for a file that has no name before it is whole
+# What an address is asked for is kept as it comes. A row of asking is a source, in the order of the words.
+_ASKING = """
+CREATE TABLE asking(id INTEGER PRIMARY KEY, source NOT NULL, is_whole INTEGER NOT NULL, reason TEXT);
+CREATE TABLE facts(source NOT NULL, kind TEXT NOT NULL, key NOT NULL, value NOT NULL);
+CREATE INDEX objects_name ON objects(name, source);
+"""
+_BEGIN = "BEGIN IMMEDIATE"  # so that no other run can write in between
+_ASKED = "asked"  # a kind of facts
 _BATCH = 10_000
 _MOST_KNOWN = 500_000  # descriptors whose numbers are kept in memory
 _MOST_ANSWERS = 100_000  # to descriptors
@@ -45,11 +55,11 @@ def _digest(item: Item) -> bytes:
 class _Writer:
     """Fills a new file."""
 
-    def __init__(self, path: str) -> None:
+    def __init__(self, path: str, schema: str = _UNSAFE + _SCHEMA) -> None:
         self._database = sqlite3.connect(path, isolation_level=None, check_same_thread=False)
         stopping.close_early(self.close)
-        self._database.executescript("PRAGMA journal_mode = OFF; PRAGMA synchronous = OFF;" + _SCHEMA)
-        self._database.execute("BEGIN")
+        self._database.executescript(schema)
+        self._database.execute(_BEGIN)
         self._objects = 0
         self._known: Dict[bytes, int] = {}
         self._sources: Dict[str, int] = {}
@@ -97,6 +107,7 @@ class _Writer:
     def end(self) -> None:
         """What says that the file is whole comes last."""
         self._flush()
+        self._database.execute("DROP INDEX IF EXISTS objects_name")
         self._database.execute("CREATE INDEX objects_descriptor ON objects(descriptor)")
         self._database.execute(f"CREATE INDEX objects_help ON objects(help, source) WHERE {_IS_NOTED}")
         self._database.execute("INSERT INTO about VALUES (?, ?, ?)", (VERSION, self._objects, self._descriptors))
@@ -105,6 +116,119 @@ class _Writer:
 
     def close(self) -> None:
         self._database.close()
+
+
+class Asking(_Writer):
+    """Fills a file with the objects of addresses, and of other sources. What was read stays, however the run ends, and
+    another run that asks the same sources in the same way goes on with it."""
+
+    def __init__(self, path: str, paths: Sequence[str], asked: str) -> None:
+        is_new = not os.path.exists(path) or not os.path.getsize(path)
+        try:
+            super().__init__(path, _SCHEMA + _ASKING if is_new else "")
+            if is_new:
+                self._database.executemany("INSERT INTO asking VALUES (NULL, ?, 0, NULL)",
+                                           ((stored(one),) for one in paths))
+                self.add_fact("", _ASKED, "", asked)
+            [(before,)] = self._database.execute("SELECT value FROM facts WHERE kind = ?", (_ASKED,))
+            if before != asked:
+                raise OpeningFault(f"--into {path}: the run that has begun it asked {before}, and this one {asked}: "
+                                   "ask as it did, or name a new file")
+            self._go_on()
+        except sqlite3.Error as error:
+            raise OpeningFault(f"--into {path}: {error}") from error
+        self._path = path
+
+    def _go_on(self) -> None:
+        """Takes up what is in the file. What couldn't be read is asked for again, and what was said of the rest
+        holds."""
+        query = self._database.execute
+        waits = "source IN (SELECT sources.id FROM sources JOIN asking ON source = sources.name WHERE NOT is_whole)"
+        query(f"DELETE FROM objects WHERE reason IS NOT NULL AND {waits}")
+        query("DELETE FROM facts WHERE kind != ? AND source IN (SELECT source FROM asking WHERE NOT is_whole)", (SAID,))
+        query("UPDATE asking SET reason = NULL")
+        self._sources = {restored(name): number for number, name in query("SELECT id, name FROM sources")}
+        self._objects, = query("SELECT count(*) FROM objects").fetchone()
+        self._before, = query("SELECT coalesce(max(id), 0) FROM objects").fetchone()
+        self._descriptors, = query("SELECT coalesce(max(id), 0) FROM descriptors").fetchone()
+
+    def waiting(self) -> List[str]:
+        """The sources that aren't read to their end."""
+        return [restored(name) for name, in
+                self._database.execute("SELECT source FROM asking WHERE NOT is_whole ORDER BY id").fetchall()]
+
+    def has(self, source: str, name: str) -> bool:
+        """Whether an earlier run has read an object."""
+        return bool(self._before) and self._database.execute(
+            "SELECT 1 FROM objects WHERE name = ? AND source = ? AND id <= ?",
+            (stored(name), self._source(source), self._before)).fetchone() is not None
+
+    def add_fact(self, source: str, kind: str, key: str, value: str) -> None:
+        self._database.execute("INSERT INTO facts VALUES (?, ?, ?, ?)",
+                               (stored(source), kind, stored(key), stored(value)))
+
+    def keep(self) -> None:
+        """What was read so far stays."""
+        self._flush()
+        self._database.execute("COMMIT")
+        self._database.execute(_BEGIN)
+
+    def end_source(self, source: str, reason: Optional[str] = None) -> None:
+        """Says that a source is read to its end, or why it isn't."""
+        self._database.execute("UPDATE asking SET is_whole = ?, reason = ? WHERE source = ?",
+                               (reason is None, reason, stored(source)))
+        self.keep()
+
+    def end_all(self) -> None:
+        """Says that the file is whole, if it is."""
+        if self.waiting():
+            self.keep()
+            self.close()
+        else:
+            self.end()
+
+
+def sources_asked(path: str) -> List[str]:
+    """The sources of a file that a run with addresses has begun and not ended."""
+    with contextlib.suppress(sqlite3.Error), contextlib.closing(_opened(path)) as database:
+        if not database.execute("SELECT 1 FROM about").fetchone():
+            return sources_of(path)
+    return []
+
+
+def sources_of(path: str) -> List[str]:
+    """The sources of a file that a run with addresses has begun."""
+    with contextlib.suppress(sqlite3.Error), contextlib.closing(_opened(path)) as database:
+        return [restored(name) for name, in database.execute("SELECT source FROM asking ORDER BY id")]
+    return []
+
+
+def add_facts(path: str, kind: str, pairs: Iterable[Tuple[str, str]]) -> None:
+    """Adds what was asked for beside the objects of a database."""
+    with contextlib.suppress(sqlite3.Error), contextlib.closing(sqlite3.connect(path)) as database, database:
+        database.executemany("INSERT INTO facts VALUES ('', ?, ?, ?)",
+                             ((kind, stored(key), stored(value)) for key, value in pairs))
+
+
+def texts(path: str) -> Iterator[Tuple[str, List[str]]]:
+    """The descriptors of a database, some of one form at a time."""
+    with contextlib.closing(_opened(path)) as database:
+        for form, in database.execute("SELECT DISTINCT form FROM descriptors").fetchall():
+            rows = database.execute("SELECT text FROM descriptors WHERE form = ?", (form,))
+            for some in iter(lambda: rows.fetchmany(_BATCH), []):
+                yield form, [restored(text) for text, in some]
+
+
+def facts(path: str, kind: str) -> Iterator[Tuple[str, str]]:
+    """What servers have said beside their objects: key and value of this kind."""
+    with contextlib.closing(_opened(path)) as database:
+        try:
+            has_facts = database.execute("SELECT 1 FROM sqlite_master WHERE name = 'facts'").fetchone()
+        except sqlite3.Error:
+            return  # whoever reads its objects is told that it is damaged
+        for key, value in database.execute("SELECT key, value FROM facts WHERE kind = ? ORDER BY rowid",
+                                           (kind,)) if has_facts else ():
+            yield restored(key), restored(value)
 
 
 @contextlib.contextmanager
@@ -193,8 +317,18 @@ def require_whole(path: str) -> None:
     last = None
     for last in items(path):
         pass
+    if sources_asked(path):
+        raise OpeningFault(f"{path}: the run that makes it hasn't ended")
     if last is None or last.form == UNREADABLE and last.name.startswith(f"{path}: the rest"):
         raise OpeningFault(f"{path}: {last.text if last else 'no objects'}")
+
+
+def _unread(database: sqlite3.Connection, path: str) -> Iterator[Item]:
+    """What stands for the objects of sources that weren't read to their end."""
+    for name, reason in database.execute("SELECT source, reason FROM asking WHERE NOT is_whole ORDER BY id"):
+        yield unreadable(f"{restored(name)}: the rest", restored(name), 0,
+                         reason or f"the run that makes {path} hasn't ended",
+                         "the same command with --into goes on with it")
 
 
 def items(path: str) -> Iterator[Item]:
@@ -202,10 +336,14 @@ def items(path: str) -> Iterator[Item]:
     count = 0
     database = _opened(path)
     try:
-        about = _about(database, path)
+        is_asking = bool(sources_asked(path))
+        about = About(VERSION, -1, -1) if is_asking else _about(database, path)
         for row in database.execute(f"SELECT {_COLUMNS} FROM {_FROM} ORDER BY objects.id"):
             count += 1
             yield _item(row)
+        if is_asking:
+            yield from _unread(database, path)
+            return
     except (DamagedFault, sqlite3.Error) as error:
         yield _lost(path, count, str(error))
         return
@@ -253,7 +391,7 @@ class AnsweredDatabase:
         is_most = 20 * sum(counts.get(number, 0) for number in (None, *listed)) > sum(counts.values())
         for number, item in self._objects_of(listed, is_most):
             counts[number] -= 1
-            yield Answered(item, answers[number] if number is not None else unknown(item.text, item.help))
+            yield Answered(item, answers[number] if number is not None else unread(item.text, item.help))
         for number, left in counts.items():
             if left:
                 count(answers[number] if number is not None else unknown("", ""), left)

@@ -1,6 +1,5 @@
 """ACEs in words."""
 from sdtool.audit.library import INHERITED, Ace
-from sdtool.audit.windows import names as sids
 from sdtool.audit.windows import rights
 from sdtool.audit.windows.names import Names
 
@@ -21,10 +20,10 @@ def _where(ace: Ace) -> str:
     return f", here and for {below}" if ace.counts else f", only for {below}"
 
 
-def _bound(ace: Ace) -> str:
-    bound = f", only for object type {sids.object_type(ace.object_type)}" if ace.object_type else ""
+def _bound(ace: Ace, names: Names) -> str:
+    bound = f", only for object type {names.object_type(ace.object_type)}" if ace.object_type else ""
     if ace.inherited_type:
-        bound += f", inherited by objects of class {sids.object_type(ace.inherited_type)}"
+        bound += f", inherited by objects of class {names.object_type(ace.inherited_type)}"
     return bound
 
 
@@ -38,9 +37,9 @@ def ace_in_words(ace: Ace, kind: str, names: Names) -> str:
         return f"integrity level {level}: a lower level may not {' or '.join(limits) or 'do less'}{_where(ace)}{origin}"
     what = rights.short_text(ace.mask, kind)
     if ace.kind in _VERBS:
-        return f"{names.named(ace.sid)} {_VERBS[ace.kind]}: {what}{_bound(ace)}{_where(ace)}{origin}"
+        return f"{names.named(ace.sid)} {_VERBS[ace.kind]}: {what}{_bound(ace, names)}{_where(ace)}{origin}"
     if ace.kind in ("AU", "OU"):
         when = {_SUCCESS: "successful", _FAILURE: "failed", _SUCCESS | _FAILURE: "any"}.get(
             ace.flags & (_SUCCESS | _FAILURE), "no")
-        return f"audits {when} access of {names.named(ace.sid)}: {what}{_bound(ace)}{_where(ace)}{origin}"
+        return f"audits {when} access of {names.named(ace.sid)}: {what}{_bound(ace, names)}{_where(ace)}{origin}"
     return f"an ACE of kind {ace.kind}, which isn't known here"

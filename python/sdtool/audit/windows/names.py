@@ -80,8 +80,9 @@ class Names:
     """Names of SIDs: those that a file gives, then those that every system has, then those of the sources. No source
     calls Everyone anything else."""
 
-    def __init__(self, given: Optional[Dict[str, str]] = None, of_sources: Optional[Dict[str, str]] = None) -> None:
-        self.given = given or {}
+    def __init__(self, given: Optional[Dict[str, str]] = None, of_sources: Optional[Dict[str, str]] = None,
+                 types: Optional[Dict[str, str]] = None) -> None:
+        self.given, self.types = given or {}, types or {}
         self.of_sources = {sid: name for sid, name in (of_sources or {}).items() if meaning_of(sid).name is None}
         self.all = {**self.of_sources, **self.given}
 
@@ -99,8 +100,7 @@ class Names:
         name = self.all.get(sid) or meaning_of(sid).name or meaning_of(sid).family
         return f"{name} ({sid})" if name else sid
 
-
-def object_type(guid: str) -> str:
-    """A GUID of an object type, with its name if it is known."""
-    name = OBJECT_TYPES.get(guid)
-    return f"{name} ({guid})" if name else guid
+    def object_type(self, guid: str) -> str:
+        """A GUID of an object type, with its name if Windows or the sources have one."""
+        name = OBJECT_TYPES.get(guid) or self.types.get(guid)
+        return f"{name} ({guid})" if name else guid

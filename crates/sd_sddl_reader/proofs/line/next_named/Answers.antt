@@ -1,21 +1,14 @@
-use Rattle.std.proofs.Common.{◌∙◌, ap, arith, ◌++◌}
-use Rattle.sd_sddl_reader.proofs.WholeParts.{sid-bytes-text}
+use Rattle.std.proofs.Common.{arith}
+use Rattle.sd_sddl_reader.proofs.WholeParts.{head-behind}
 use Rattle.sd_sddl_reader.proofs.line.next_named.Goals as goal
 
 pub returns-clause-found : goal.returns-clause-found
 returns-clause-found c =
     let at = c.in_ok-name.ensures.found in
-    let between = c.behind_blanks.ensures in
     let next = c.in_ok-head.ensures.found in
     record {
       field = at.field;
-      before = record {
-        whole = record { plain = sid-bytes-text at.field at.plain; fits = omega (arith, at.short) };
-        blanks = between.blanks;
-        blank = between.blank;
-        letter = _;
-        stands = at.stands ∙ ap (λ t. at.field ++ t) (between.stands ∙ ap (λ t. between.blanks ++ t) next.1);
-        names = next.0;
-      };
+      before = head-behind at.field _ _ _ _ _ _ at.plain (omega (arith, at.short)) at.stands c.behind_blanks.ensures
+          next.1 next.0;
       reads = at.reads;
     }

@@ -2,7 +2,7 @@ use Rattle.std.proofs.Common.{true, refl, sym, ap, ◌∙◌, arith}
 use Rattle.sd_text.specs.Chains.{unless}
 use Rattle.sd_sddl_reader.specs.declared.reader.SddlReader.{SddlReader}
 use Rattle.sd_sddl_reader.proofs.Steps.{open_first, open_next, open_nowhere, unsound}
-use Rattle.sd_sddl_reader.proofs.FitLaws.{can-take-front, fits-first, fits-next, none-before, read-ok}
+use Rattle.sd_sddl_reader.proofs.FitLaws.{calm-cleared, can-take-front, fits-first, fits-next, none-before, read-ok}
 use Rattle.sd_sddl_reader.proofs.reader.SddlReader.begin_ace.Goals as goal
 
 pub end_field-requires : goal.end_field-requires
@@ -41,10 +41,7 @@ returns-in-AclFlags c =
             (open_first s.fields.domain s.sound s.twice s.seen (unless s.fault t) s.field rest c.in-AclFlags.which
             c.requires.ready.calm.held),
       ));
-      calm = record {
-        held = rw (c.end_field.ensures.cleared) (record { clean = refl; fits = omega arith });
-        gap = λ _. rw (c.end_field.ensures.cleared) refl;
-      };
+      calm = calm-cleared _ c.end_field.ensures.cleared;
       pending = ap (λ (r : SddlReader). r.pending) same;
     }
 
@@ -58,10 +55,7 @@ returns-in-AfterAce c =
         λ rest. rw (c.in-AfterAce.is, c.clear.ensures)
             (open_next s.fields.domain s.sound s.twice s.seen (unless s.fault t) s.field rest),
       );
-      calm = record {
-        held = rw (c.clear.ensures) (record { clean = refl; fits = omega arith });
-        gap = λ _. rw (c.clear.ensures) refl;
-      };
+      calm = calm-cleared _ c.clear.ensures;
       pending = refl;
     }
 

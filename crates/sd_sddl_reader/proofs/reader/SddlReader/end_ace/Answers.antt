@@ -3,7 +3,7 @@ use Rattle.sd_sddl_reader.specs.declared.line.State.TheVariants as state
 use Rattle.sd_text.specs.Chains.{unless}
 use Rattle.sd_sddl_reader.specs.declared.reader.SddlReader.{SddlReader}
 use Rattle.sd_sddl_reader.proofs.Steps.{close_early, close_last, column_more, unsound}
-use Rattle.sd_sddl_reader.proofs.FitLaws.{fits-field, none-before, read-ok}
+use Rattle.sd_sddl_reader.proofs.FitLaws.{calm-cleared, fits-field, none-before, read-ok}
 use Rattle.sd_sddl_reader.proofs.reader.SddlReader.end_ace.Goals as goal
 
 pub returns-in-Sid : goal.returns-in-Sid
@@ -35,10 +35,7 @@ returns-in-Sid c =
         )
             (close_last s.fields.domain s.sound s.twice s.seen (unless s.fault t) s.field rest),
       ));
-      calm = record {
-        held = rw (c.end_field.ensures.cleared) (record { clean = refl; fits = omega arith });
-        gap = λ _. rw (c.end_field.ensures.cleared) refl;
-      };
+      calm = calm-cleared _ c.end_field.ensures.cleared;
       pending = ap (λ (r : SddlReader). r.pending) same;
     }
 

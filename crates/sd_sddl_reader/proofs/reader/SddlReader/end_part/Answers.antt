@@ -9,12 +9,22 @@ end_field-requires-in-AclFlags c =
       held = can-take-front c.args.self.now _ c.in-AclFlags.which false c.in-AclFlags.is c.requires.ready.held;
     }
 
-pub returns-in-Sid-clause-read : goal.returns-in-Sid-clause-read
-returns-in-Sid-clause-read c = λ t k.
-    let e = c.end_field.ensures.read t k.fields in
-    (e.0, e.1, rw (c.in-Sid.is) e.2)
+pub returns-in-Sid : goal.returns-in-Sid
+returns-in-Sid c =
+    let ended = c.end_field.ensures in
+    record {
+      read = λ t k. (let e = ended.read t k.fields in (e.0, e.1, rw (c.in-Sid.is) e.2));
+      cleared = ended.cleared;
+      domain = ended.domain;
+      same = ended.same;
+    }
 
-pub returns-in-AclFlags-clause-read : goal.returns-in-AclFlags-clause-read
-returns-in-AclFlags-clause-read c = λ t k.
-    let e = c.end_field-in-AclFlags.ensures.read t k.fields in
-    (e.0, e.1, rw (c.in-AclFlags.is) e.2)
+pub returns-in-AclFlags : goal.returns-in-AclFlags
+returns-in-AclFlags c =
+    let ended = c.end_field-in-AclFlags.ensures in
+    record {
+      read = λ t k. (let e = ended.read t k.fields in (e.0, e.1, rw (c.in-AclFlags.is) e.2));
+      cleared = ended.cleared;
+      domain = ended.domain;
+      same = ended.same;
+    }

@@ -50,12 +50,11 @@ returns-in-Some c =
 
 pub returns-in-Some-first_parenthesis : goal.returns-in-Some-first_parenthesis
 returns-in-Some-first_parenthesis c =
-    let taken = c.take_whole.ensures in
     let over = steps-flags c.args.self.now c.take_whole.new.self c.args.buf.now c.take_whole.new.buf
     c.in-Some-first_parenthesis.field.now c.in-Some-first_parenthesis.rest.now c.args.text.now c.args.which
     c.requires.here c.requires.fresh
     c.in-Some-first_parenthesis.ensures.found.0 c.in-Some-first_parenthesis.ensures.found.1
-    (record { read = taken.read; domain = taken.domain; same = taken.same }) in
+    c.take_whole.ensures in
     feeds-to c.args.self.now (record c.take_whole.new.self { state = state.Ace field.Kind })
     c.args.buf.now c.args.text.now
     c.take_whole.new.buf c.in-Some-first_parenthesis.rest.now c.requires.fresh.none c.requires.reader over

@@ -1,3 +1,0 @@
--- What private contracts and invariants cite. No definition rests on these files.
-pub mod Building
-pub mod ErrorEnds

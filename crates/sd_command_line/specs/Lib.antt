@@ -1,4 +1,0 @@
-pub mod CommandLine
-pub mod EarlyEnds
-pub mod FaultLines
-pub mod Inner

@@ -1,4 +1,0 @@
-pub mod Fields
-pub mod Inner
-pub mod Places
-pub mod Shape

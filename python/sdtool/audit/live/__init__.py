@@ -1,0 +1,1 @@
+"""Sources that are addresses of servers."""
