@@ -55,10 +55,11 @@ start_watcher() {
     set +m
 }
 
-# Adds what a part printed, by its log, its status and its name.
+# Adds what a part printed, by its log, its status and its name. A library may write to standard error behind the line that
+# counts, as the program ends.
 add() {
     local before=$failed
-    if [[ $(tail -n 1 "$1") =~ ^([0-9]+)\ passed,\ ([0-9]+)\ failed$ ]]; then
+    if [[ $(grep -aE '^[0-9]+ passed, [0-9]+ failed$' "$1" | tail -n 1) =~ ^([0-9]+)\ passed,\ ([0-9]+)\ failed$ ]]; then
         ((passed += BASH_REMATCH[1], failed += BASH_REMATCH[2]))
         (($2 == 0 || BASH_REMATCH[2] > 0 || (failed += 1)))
     else

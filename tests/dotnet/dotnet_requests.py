@@ -45,9 +45,8 @@ def answers(count, way, lines):
 
 def judge_values(count, folder):
     ended = assembly.ran(assembly.over_assembly(folder, "Objects", "System.Core.dll"))
-    *said, last = ended.stdout.splitlines() or [""]
-    if not count.add_counted(last, ended.returncode):
-        print("\n".join([*said, ended.stderr[:2000]]))
+    if not count.add_counted(ended.stdout, ended.returncode):
+        print(f"{ended.stdout}\n{ended.stderr[:2000]}")
 
 
 def judge_places(count, way, chance):

@@ -18,7 +18,7 @@ sys.path[:0] = map(str, [*sorted(FOLDERS), TOP / "tests", TOP / "tools"])
 PROGRAM = os.path.abspath(os.environ.get("SDTOOL_PROGRAM", TOP / "crates/sdtool/out/sdtool"))
 DEBIAN_PYTHON = "/usr/bin/python3"  # which sees Debian's packages
 LIBRARY = os.path.abspath(os.environ.get("SDTOOL_LIBRARY", TOP / "out/lib/libsdtool.so"))
-COUNTED = re.compile(r"(\d+) passed, (\d+) failed")
+COUNTED = re.compile(r"^(\d+) passed, (\d+) failed$", re.M)
 ONLY: List[str] = []  # words of --only
 chosen: List[str] = []  # the parts that run
 
@@ -124,10 +124,13 @@ class Count:
         if not is_right and self.failed <= self.most_shown:
             print(f"FAIL {what}")
 
-    def add_counted(self, line: str, status: int) -> bool:
-        """Adds the last line of a test. One that has none, or another status than the line says, has failed."""
-        counted = COUNTED.fullmatch(line.strip())
-        passed, failed = map(int, counted.groups()) if counted else (0, 1)
+    def add_counted(self, said: str, status: int) -> bool:
+        """
+        Adds the line of a test that counts. A library may write more as the program ends. A test without such a line,
+        or with another status than the line says, has failed.
+        """
+        counted = COUNTED.findall(said)
+        passed, failed = map(int, counted[-1]) if counted else (0, 1)
         self.passed, self.failed = self.passed + passed, self.failed + (failed or bool(status))
         return not failed and not status
 
