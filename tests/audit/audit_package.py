@@ -200,4 +200,4 @@ def main(count: preload.Count) -> None:
         for other in others:
             other(count, python)
     elif others:
-        print("skipped: no Python here has click, rich and ldif (Debian: python3-click, python3-rich, python3-ldap)")
+        print("skipped: no Python here has click and rich (Debian: python3-click, python3-rich)")
