@@ -1,22 +1,29 @@
 #!/usr/bin/env python3
 """prove.py CRATE WORD..
 
-Runs `rt WORD..` in the folder of a crate, which first proves the crates below it. Standard output has a line for each
-crate: how many of all are proved, and about how long the rest takes. What rt says goes to a file in out/, and its end
-is shown if the command fails. The exit status is that of rt.
+Runs `rt WORD..` in the folder of a crate, which first proves the crates below it, one after the other. Where there are
+four processors and the memory, a second rt in a copy of the crates proves those that the first comes to last, and the
+first takes them over. Standard output has a line for each crate: how many of all are proved, and about how long the
+rest takes. What rt says goes to files in out/, and its end is shown if the command fails. The exit status is rt's.
 """
+import contextlib
+import os
 import pathlib
 import re
+import shutil
 import subprocess
 import sys
+import tempfile
+import threading
 import time
-from typing import Dict, List, Optional
+from typing import Dict, Iterator, List, Optional, Set, TextIO
 
 TOP = pathlib.Path(__file__).resolve().parent.parent
 BEGINS = re.compile(r"rt: chose --jobs \d+ for (\w+)$")
 LAST_LINES = 40  # of what rt said, where it fails
 START = 800  # lines that are proved in the time in which a crate's libraries are loaded
 SAYS_FROM = 0.1  # of all, and no time is told before
+PROCESSORS, MEMORY = 4, 8 * 2**30  # that are free where a second crate is begun
 
 
 def dependencies() -> Dict[str, List[str]]:
@@ -46,35 +53,96 @@ def in_words(seconds: float) -> str:
     return "less than a minute" if seconds < 60 else f"about {round(seconds / 60)} minutes"
 
 
+def has_room() -> bool:
+    """Whether a second crate can be proved."""
+    free = re.search(r"^MemAvailable: +(\d+) kB", pathlib.Path("/proc/meminfo").read_text(encoding="ascii"), re.M)
+    return len(os.sched_getaffinity(0)) >= PROCESSORS and free is not None and int(free[1]) * 1024 >= MEMORY
+
+
 class Progress:
-    """What rt has proved so far. It says nothing of crates that an earlier run has proved, so it passes over them."""
+    """What is proved so far. rt says nothing of crates that an earlier run has proved, so it passes over them."""
 
     def __init__(self, crate: str) -> None:
-        order = in_order(crate, dependencies())
-        self.weights = {name: START + lines_of(name) for name in order}
-        self.order, self.began = order, time.monotonic()
-        self.first: Optional[int] = None
+        self.known = dependencies()
+        self.order = in_order(crate, self.known)
+        self.weights = {name: START + lines_of(name) for name in self.order}
+        self.at, self.began = -1, time.monotonic()
+        self.beside: Set[str] = set()  # proved by the second rt
+        self.found: Optional[Set[str]] = None  # proved by an earlier run
+
+    def proved(self) -> Set[str]:
+        return {*self.order[:max(self.at, 0)], *self.beside}
 
     def begins(self, crate: str) -> str:
         """The line that is shown where a crate is begun."""
-        at = self.order.index(crate)
-        self.first = at if self.first is None else self.first
-        done = sum(self.weights[name] for name in self.order[self.first:at])
-        left = sum(self.weights[name] for name in self.order[at:])
+        self.at = self.order.index(crate)
+        proved = self.proved()
+        self.found = set(proved) if self.found is None else self.found
+        done = sum(self.weights[name] for name in proved - self.found)
+        left = sum(self.weights[name] for name in self.order if name not in proved)
+        said = f"{len(proved)} of {len(self.order)} crates are proved"
         if done < SAYS_FROM * (done + left):
-            return f"{at} of {len(self.order)} crates are proved: {crate}"
-        seconds = (time.monotonic() - self.began) * left / done
-        return f"{at} of {len(self.order)} crates are proved, {in_words(seconds)} left: {crate}"
+            return f"{said}: {crate}"
+        return f"{said}, {in_words((time.monotonic() - self.began) * left / done)} left: {crate}"
+
+    def last_ready(self) -> Optional[str]:
+        """The last of all crates that stands over proved ones alone, and that nobody has begun."""
+        proved = self.proved()
+        ready = [name for name in self.order[self.at + 1:-1]
+                 if name not in proved and proved.issuperset(self.known[name])]
+        return ready[-1] if ready else None
 
 
-def main() -> int:
-    if len(sys.argv) < 3:
-        sys.exit(__doc__)
-    crate, *words = sys.argv[1:]
-    log = TOP / f"out/{crate}.log"
-    log.parent.mkdir(exist_ok=True)
-    print(f"proving {crate}; all that rt says is in {log.relative_to(TOP)}", flush=True)
-    progress = Progress(crate)
+class Beside(threading.Thread):
+    """
+    A second rt over a copy. rt takes what is proved in one checkout of this machine for another, and waits for what is
+    being proved. So nothing rests on this one: where it fails, the first proves the rest.
+    """
+
+    def __init__(self, progress: Progress, folder: pathlib.Path, log: TextIO) -> None:
+        super().__init__()
+        self.progress, self.folder, self.log, self.has_ended = progress, folder, log, threading.Event()
+        self.running: Optional[subprocess.Popen[bytes]] = None
+
+    def run(self) -> None:
+        while not self.has_ended.wait(1):
+            crate = self.progress.last_ready() if has_room() else None
+            if not crate:
+                continue
+            self.running = subprocess.Popen(["rt", "lib"], cwd=self.folder / "crates" / crate, stdin=subprocess.DEVNULL,
+                                            stdout=self.log, stderr=subprocess.STDOUT)
+            if self.running.wait():
+                return
+            self.progress.beside.add(crate)
+
+    def end(self) -> None:
+        self.has_ended.set()
+        while self.is_alive():
+            if self.running:
+                self.running.kill()
+            self.join(1)
+
+
+@contextlib.contextmanager
+def beside(progress: Progress, log: pathlib.Path) -> Iterator[None]:
+    """Has a second rt prove beside the first."""
+    folder = pathlib.Path(tempfile.mkdtemp(prefix="beside-", dir=log.parent))
+    try:
+        shutil.copy(TOP / "crates.txt", folder)
+        shutil.copytree(TOP / "crates", folder / "crates", symlinks=True, ignore=shutil.ignore_patterns("out"))
+        with open(log, "w", encoding="utf-8") as kept:
+            second = Beside(progress, folder, kept)
+            second.start()
+            try:
+                yield
+            finally:
+                second.end()
+    finally:
+        shutil.rmtree(folder, ignore_errors=True)
+
+
+def prove(crate: str, words: List[str], progress: Progress, log: pathlib.Path) -> int:
+    """Runs rt, shows how far it is, and returns its status."""
     told: List[str] = []
     with open(log, "w", encoding="utf-8") as kept:
         running = subprocess.Popen(["rt", *words], cwd=TOP / "crates" / crate, stdin=subprocess.DEVNULL,
@@ -90,6 +158,18 @@ def main() -> int:
     if status:
         sys.stdout.writelines(told)
     return status if status >= 0 else 128 - status
+
+
+def main() -> int:
+    if len(sys.argv) < 3:
+        sys.exit(__doc__)
+    crate, *words = sys.argv[1:]
+    log = TOP / f"out/{crate}.log"
+    log.parent.mkdir(exist_ok=True)
+    print(f"proving {crate}; all that rt says is in {log.relative_to(TOP)}", flush=True)
+    progress = Progress(crate)
+    with beside(progress, log.with_suffix(".beside.log")):
+        return prove(crate, words, progress, log)
 
 
 if __name__ == "__main__":
