@@ -210,7 +210,7 @@ build_extension() {
 
 # No older program, library or extension is to be tested where the gate stops before it has built one.
 start_watcher
-rm -rf "$program" out/lib out/sdtool.html out/systems python/sdtool/_native.abi3.so
+rm -rf "$program" out/beside out/lib out/sdtool.html out/systems python/sdtool/_native.abi3.so
 count tests/run sources/
 # The gate keeps no work that the library could be built over, so its crates are proved once more. That takes the
 # processors that the gate leaves idle.

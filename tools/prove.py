@@ -7,13 +7,13 @@ first takes them over. Standard output has a line for each crate: how many of al
 rest takes. What rt says goes to files in out/, and its end is shown if the command fails. The exit status is rt's.
 """
 import contextlib
+import fcntl
 import os
 import pathlib
 import re
 import shutil
 import subprocess
 import sys
-import tempfile
 import threading
 import time
 from typing import Dict, Iterator, List, Optional, Set, TextIO
@@ -124,21 +124,25 @@ class Beside(threading.Thread):
 
 
 @contextlib.contextmanager
-def beside(progress: Progress, log: pathlib.Path) -> Iterator[None]:
-    """Has a second rt prove beside the first."""
-    folder = pathlib.Path(tempfile.mkdtemp(prefix="beside-", dir=log.parent))
-    try:
-        shutil.copy(TOP / "crates.txt", folder)
+def beside(progress: Progress, folder: pathlib.Path) -> Iterator[None]:
+    """Has a second rt prove beside the first. Of two commands at once in one checkout, one has it."""
+    with open(folder.with_suffix(".log"), "a", encoding="utf-8") as log:
+        try:
+            fcntl.flock(log, fcntl.LOCK_EX | fcntl.LOCK_NB)
+        except BlockingIOError:
+            yield
+            return
+        shutil.rmtree(folder, ignore_errors=True)  # what a command that was killed left
         shutil.copytree(TOP / "crates", folder / "crates", symlinks=True, ignore=shutil.ignore_patterns("out"))
-        with open(log, "w", encoding="utf-8") as kept:
-            second = Beside(progress, folder, kept)
-            second.start()
-            try:
-                yield
-            finally:
-                second.end()
-    finally:
-        shutil.rmtree(folder, ignore_errors=True)
+        shutil.copy(TOP / "crates.txt", folder)
+        log.truncate(0)
+        second = Beside(progress, folder, log)
+        second.start()
+        try:
+            yield
+        finally:
+            second.end()
+            shutil.rmtree(folder, ignore_errors=True)
 
 
 def prove(crate: str, words: List[str], progress: Progress, log: pathlib.Path) -> int:
@@ -168,7 +172,7 @@ def main() -> int:
     log.parent.mkdir(exist_ok=True)
     print(f"proving {crate}; all that rt says is in {log.relative_to(TOP)}", flush=True)
     progress = Progress(crate)
-    with beside(progress, log.with_suffix(".beside.log")):
+    with beside(progress, log.with_name("beside")):
         return prove(crate, words, progress, log)
 
 
