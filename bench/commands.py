@@ -23,7 +23,7 @@ TOP = pathlib.Path(__file__).resolve().parent.parent
 LOGS = TOP / "out/commands"
 KEPT = re.compile(r"begins with what a check kept in|is kept: an earlier run")
 SUM = re.compile(r"^\d+ passed, \d+ failed$", re.M)
-PARTS = "The longest parts, in seconds:\n"
+PARTS = "The longest parts, in seconds by the clock and of processors:\n"
 
 
 def timed(tree, target):

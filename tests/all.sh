@@ -84,16 +84,23 @@ note_failure() {
 } >>"$logs/failures"
 
 count() {
-    local began=$SECONDS
     echo "== $*"
-    "$@" 2>&1 | tee "$logs/part"
+    timed "$logs/part.time" "$@" 2>&1 | tee "$logs/part"
     add "$logs/part" "${PIPESTATUS[0]}" "$*"
-    note_part "$logs/part" $((SECONDS - began)) "$*"
+    note_part "$logs/part" "$logs/part.time" "$*"
+}
+
+# Runs a command, and keeps its seconds by the clock and those of processors.
+timed() {
+    local TIMEFORMAT='%0R %0U %0S'
+    { time "${@:2}" 2>&3; } 3>&2 2>"$1"
 }
 
 # Keeps how long a part took, and what it skipped for want of a tool.
 note_part() {
-    echo "$2 $3" >>"$logs/times"
+    local clock user system
+    read -r clock user system <"$2"
+    echo "$clock $((user + system)) $3" >>"$logs/times"
     grep -ah 'skipped' "$1" >>"$logs/skipped"
 }
 
@@ -104,7 +111,7 @@ show_notes() {
         echo "Skipped; CONTRIBUTING.md lists the packages:"
         sort -u "$logs/skipped" | sed -e 's/^ *//' -e 's/^/    /'
     fi
-    echo "The longest parts, in seconds:"
+    echo "The longest parts, in seconds by the clock and of processors:"
     sort -rn "$logs/times" | head -n 10 | sed 's/^/    /'
     if [[ -s $logs/failures ]]; then
         echo "What failed:"
@@ -115,21 +122,20 @@ show_notes() {
 # Runs the parts of a lane one after the other. What a part prints comes out whole when it has ended, with its time, since
 # other lanes print too.
 run_lane() {
-    local folder=$1 part log began number=0
+    local folder=$1 part log number=0
     shift
     export SDTOOL_TESTS=$logs
     for part; do
         kill -0 $$ 2>/dev/null || return
         log=$folder/$((number += 1))
-        began=$SECONDS
         # Each part is a test and its words.
         echo "$part" >"$log.name"
-        tests/run $part >"$log" 2>&1
+        timed "$log.time" tests/run $part >"$log" 2>&1
         echo $? >"$log.status"
         {
             flock 9
-            note_part "$log" $((SECONDS - began)) "$part"
-            echo "== $part ($((SECONDS - began)) s)"
+            note_part "$log" "$log.time" "$part"
+            echo "== $part ($(cut -d ' ' -f 1 "$log.time") s)"
             cat "$log"
         } 9>"$logs/lock"
     done
