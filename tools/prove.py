@@ -50,7 +50,7 @@ def lines_of(crate: str) -> int:
 
 
 def in_words(seconds: float) -> str:
-    return "less than a minute" if seconds < 60 else f"about {round(seconds / 60)} minutes"
+    return "about a minute" if seconds < 90 else f"about {round(seconds / 60)} minutes"
 
 
 def has_room() -> bool:
