@@ -7,12 +7,11 @@ ghost use Rattle.sd_sink.specs.Sink.{Puts};
 ghost use Rattle.sd_builder.specs.Draft.{is_present};
 ghost use Rattle.sd_acl_view.specs.Acl.{acl_size};
 ghost use Rattle.sd_acl_view.specs.AclLayout.{acl_bytes};
-ghost use Rattle.sd_view.specs.Layout.{acl_part, acl_part_size, descriptor_header, layout, sid_part};
+ghost use Rattle.sd_view.specs.Layout.{acl_part, acl_part_size, descriptor_header, layout};
 ghost use Rattle.sd_call_build.specs.New.{AreSmall, acl_shown, is_ace, new_descriptor, part_sizes, shown_ace};
-ghost use Rattle.sd_call_build.specs.New.{whole_sid};
 
 use crate::new::{LIST, NewAce, NewAcl, NewDescriptor};
-use crate::printing::{print_aces, print_sid};
+use crate::printing::{print_aces, print_sid_part};
 use crate::reading::whole_sid;
 use crate::sizes::has_object;
 use sd_builder::{acl_header, offsets_of};
@@ -46,9 +45,11 @@ fn print_new<P: Print>(new: &NewDescriptor<'_>, sizes: &Parts<u32>, out: &mut P)
     requires small { AreSmall sizes.now }
     ensures { Prints (P.told out.old) (P.told out.new) (layout (new_descriptor new.now)) }
 {
+    let owner = whole_sid(new.owner);
+    let group = whole_sid(new.group);
     out.put(&header_of(new, sizes));
-    print_sid_part(new.owner, out);
-    print_sid_part(new.group, out);
+    print_sid_part(&owner, out);
+    print_sid_part(&group, out);
     print_acl_part(&new.sacl, sizes.sacl, out);
     print_acl_part(&new.dacl, sizes.dacl, out);
 }
@@ -66,14 +67,6 @@ fn is_present(acl: &NewAcl<'_>) -> bool
     ensures { result ≡ is_present (acl_shown acl.now) }
 {
     acl.state != 0
-}
-
-fn print_sid_part<P: Print>(bytes: &[u8], out: &mut P)
-    ensures { Prints (P.told out.old) (P.told out.new) (sid_part (whole_sid bytes.now)) }
-{
-    if let Some(sid) = whole_sid(bytes) {
-        print_sid(&sid, out);
-    }
 }
 
 #[tactic(auto, using(crate::proofs::ListLemmas::list_shown))]

@@ -10,4 +10,5 @@ mod sizes;
 
 pub use build::{build_descriptor, whole_size};
 pub use new::{NewAce, NewAcl, NewDescriptor};
-pub use printing::{print_ace, print_sid};
+pub use printing::{print_ace, print_sid_part};
+pub use sizes::sid_part_size;

@@ -6,6 +6,7 @@ ghost use Rattle.sd_ace.specs.AceLayout.{ace_bytes, guid_part, guids};
 ghost use Rattle.sd_kinds.specs.Kinds.{is_object};
 ghost use Rattle.sd_sid.specs.Sid.{sid_bytes};
 ghost use Rattle.sd_sink.specs.Print.{Prints};
+ghost use Rattle.sd_view.specs.Layout.{sid_part};
 ghost use Rattle.sd_call_build.specs.New.{is_ace, shown_ace};
 
 use crate::new::NewAce;
@@ -57,8 +58,17 @@ fn print_guid<P: Print>(guid: &Option<Uuid>, out: &mut P)
     }
 }
 
-/// Prints the bytes of a SID.
-pub fn print_sid<P: Print>(sid: &Sid, out: &mut P)
+/// Prints the bytes of an owner or a group, if there is one.
+pub fn print_sid_part<P: Print>(sid: &Option<Sid>, out: &mut P)
+    ensures { Prints (P.told out.old) (P.told out.new) (sid_part sid.now) }
+{
+    if let Some(sid) = sid {
+        print_sid(sid, out);
+    }
+}
+
+// Prints the bytes of a SID.
+fn print_sid<P: Print>(sid: &Sid, out: &mut P)
     ensures { Prints (P.told out.old) (P.told out.new) (sid_bytes sid.now) }
 {
     let mut cells = [0; MOST_SID_SIZE];

@@ -5,11 +5,12 @@ ghost use Rattle.std.specs.List.{AllPass, list_any};
 ghost use Rattle.sd_acl_view.specs.Acl.{acl_size, has_object};
 ghost use Rattle.sd_view.specs.Layout.{acl_part_size, sid_part_size};
 ghost use Rattle.sd_call_build.specs.New.{AreSmall, acl_shown, is_ace, is_object_ace, large_part, new_descriptor};
-ghost use Rattle.sd_call_build.specs.New.{part_sizes, shown_ace, whole_sid};
+ghost use Rattle.sd_call_build.specs.New.{part_sizes, shown_ace};
 
 use crate::new::{LIST, NewAce, NewAcl, NewDescriptor};
 use crate::reading::{ace_in, shown_ace, whole_sid};
 use sd_parts::{ACL_HEADER_SIZE, MOST_ACL_SIZE, Parts, Which};
+use sd_sid::Sid;
 
 /// The size of an ACL of these ACEs. None where it would pass 65,535 bytes.
 pub fn acl_size(aces: &[NewAce<'_>]) -> Option<usize>
@@ -67,8 +68,8 @@ pub fn part_sizes(new: &NewDescriptor<'_>) -> Result<Parts<u32>, Which>
         return Err(Which::Dacl);
     };
     Ok(Parts {
-        owner: sid_part_size(new.owner),
-        group: sid_part_size(new.group),
+        owner: sid_part_size(&whole_sid(new.owner)),
+        group: sid_part_size(&whole_sid(new.group)),
         sacl,
         dacl,
     })
@@ -89,11 +90,12 @@ fn acl_part_size(acl: &NewAcl<'_>) -> Option<u32>
     }
 }
 
-fn sid_part_size(bytes: &[u8]) -> u32
-    ensures size { result ≡ sid_part_size (whole_sid bytes.now) }
+/// The size of an owner or a group as it stands in a descriptor.
+pub fn sid_part_size(sid: &Option<Sid>) -> u32
+    ensures size { result ≡ sid_part_size sid.now }
     ensures small { result ≤ 68 }
 {
-    match whole_sid(bytes) {
+    match sid {
         Some(sid) => sid.size() as u32,
         None => 0,
     }

@@ -1,12 +1,12 @@
 -- Rows that are answered one after the other.
 use Rattle.std.proofs.Common.{◌≡◌, ◌≤◌, ◌<◌, ◌+◌, ◌-◌, ℕ, suc, zero, List, [], ◌∷◌, ◌++◌, length, take, drop, get_or}
 use Rattle.std.proofs.Common.{map, Result, Ok, Err, refl, sym, ap, ◌∙◌, add-one, append_assoc, length-append, arith}
-use Rattle.std.proofs.Common.{◌≢◌, get_or-set_other, get_or-set_same, inl, inr, min}
+use Rattle.std.proofs.Common.{◌≢◌, Bool, get_or-set_other, get_or-set_same, inl, inr, min}
 use Rattle.std.specs.List.{flat_map}
 use Rattle.std.proofs.Math.ListN.{set}
 use Rattle.std.proofs.lemmas.List.{drop_more, flat_map_more, get_or-map, length-map, length-take, map_more, set_at}
 use Rattle.std.proofs.lemmas.List.{append-nil, drop_all, length-drop, take-map, take-take, take_all, take_at}
-use Rattle.std.proofs.lemmas.List.{take_min, take_more, take_rest, length-take-le, take-append-le}
+use Rattle.std.proofs.lemmas.List.{map-set, take_min, take_more, take_rest, length-take-le, take-append-le}
 use Rattle.std.proofs.lemmas.Bool.{cases_lt}
 use Rattle.std.proofs.Math.Seq.{take-append-add}
 use borrow.Rule.Slice.PartMut.{post_of, put_mid}
@@ -200,6 +200,11 @@ ends_more begin given now i at room h is k within = elim (cases_lt i k) [
       get_or-set_other now (i + 1) k at 0 other ∙ h k before)
 ]
 
+-- what is set, in numbers
+pub set_number : {T : Type 0} (number : T → ℕ) (now : List T) (i : ℕ) (offset : T) (at : ℕ) → number offset ≡ at
+    → map number (set now i offset) ≡ set (map number now) i at
+set_number number now i offset at is = map-set number now i offset ∙ ap (λ (n : ℕ). set (map number now) i n) is
+
 pub outcome_size : (a : Result (List ℕ) CallFault) → (outcome_of a).length ≡ length (bytes_of a)
 outcome_size (Ok bytes) = refl
 outcome_size (Err fault) = refl
@@ -315,6 +320,19 @@ pub none_converted : (asked : Asked) (old : Lent) (outcome : Outcome) (fault : C
     ≡ Err fault
     → outcome ≡ failed fault → ConvertsMany asked old old outcome
 none_converted asked old outcome fault e is = rw e (is, (refl, refl, refl))
+
+-- how it is converted, by what was counted
+pub manner_is : (asked : Asked) (old : Lent) (count size : ℕ) (enough : Bool) (found : Result Manner CallFault)
+    → count ≡ length asked.offsets → length old.offsets ≡ size
+    → enough ≡ has_room count asked.begin (record {
+      bytes = length old.bytes;
+      offsets = size;
+      outcomes = length old.outcomes;
+    })
+    → found ≡ manner_for asked.kind asked.options asked.domain enough
+    → manner_for asked.kind asked.options asked.domain (has_room (length asked.offsets) asked.begin (room_of old))
+    ≡ found
+manner_is asked old count size enough found n m e is = rw (← n, m, ← e) (sym is)
 
 -- what is written to the front of some bytes
 pub front_kept : (most size : ℕ) (old part : List ℕ) → size ≡ min most (length old) → length part ≡ size

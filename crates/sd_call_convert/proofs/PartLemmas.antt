@@ -1,10 +1,9 @@
 -- No text of an ACE is longer than 312 characters.
-use Rattle.std.proofs.Common.{◌≤◌, ℕ, List, [], ◌++◌, length, Option, Some, None, arith, length-append}
+use Rattle.std.proofs.Common.{◌≤◌, ℕ, List, ◌++◌, length, Option, Some, None, arith, length-append}
 use Rattle.std.specs.Prelude.{codes}
 use Rattle.sd_ace.specs.Ace.{AccessControlEntry, IsAce}
 use Rattle.sd_ace.proofs.laws.GuidTexts.{guid_text-length}
 use Rattle.sd_kinds.specs.Flags.{flags_text}
-use Rattle.sd_kinds.specs.declared.kinds.AceKind.{AceKind}
 use Rattle.sd_kinds.proofs.laws.FlagLaws.{flags_text-length}
 use Rattle.sd_rights.specs.Rights.{rights_text}
 use Rattle.sd_rights.proofs.laws.RightsLaws.{rights_text-length}

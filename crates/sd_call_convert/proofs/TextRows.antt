@@ -1,6 +1,6 @@
 -- Texts of parts, by hand (MS-DTYP 2.5.1.1, 2.4.4 and 2.3.4.3).
-use Rattle.std.proofs.Common.{◌≡◌, [], ◌∷◌, ◌++◌, true, false, codes, None, Some, Ok, Err, refl}
-use Rattle.std.specs.Prelude.{List, ℕ}
+use Rattle.std.proofs.Common.{◌≡◌, [], ◌∷◌, true, false, codes, None, Some, Ok, Err, refl}
+use Rattle.std.specs.Prelude.{List}
 use Rattle.sd_ace.specs.Ace.{AccessControlEntry}
 use Rattle.sd_kinds.specs.Flags.{flags_reads, flags_text}
 use Rattle.sd_kinds.specs.declared.kinds.AceKind.TheVariants as kinds
@@ -14,9 +14,9 @@ use Rattle.sd_call.specs.Arguments.{optional_sid_in}
 use Rattle.sd_call.specs.Outcomes.{done, failed}
 use Rattle.sd_call.specs.declared.argument.Argument.TheVariants as which
 use Rattle.sd_call.specs.declared.outcome.CallFault.TheVariants as call
-use Rattle.sd_call_convert.specs.AceTexts.{ace_alone, domain_of_ace, ace_from_text, ace_in, alone}
+use Rattle.sd_call_convert.specs.AceTexts.{ace_alone, domain_of_ace, alone}
 use Rattle.sd_call_convert.specs.Conversions.{read_under}
-use Rattle.sd_call_convert.specs.FieldTexts.{flags_in, flags_to_text, guid_from_text, guid_to_text, of_text, rights_in}
+use Rattle.sd_call_convert.specs.FieldTexts.{flags_in, flags_to_text, guid_to_text, of_text, rights_in}
 use Rattle.sd_call_convert.specs.FieldTexts.{rights_to_text, told}
 
 -- Empty rights and flags are 0; 010 is octal, and a label has rights of its own.

@@ -2,6 +2,7 @@ pub mod AceTexts
 pub mod Conversions
 pub mod Described
 pub mod FieldTexts
+pub mod Inner
 pub mod Many
 pub mod PartTexts
 pub mod PlaceTold

@@ -4,6 +4,7 @@
 mod ace_texts;
 mod conversions;
 mod described;
+mod ends;
 mod field_texts;
 mod many;
 mod name;

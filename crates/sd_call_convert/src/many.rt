@@ -1,10 +1,12 @@
 //! The calls that convert the rows of a column.
 
-ghost use Rattle.std.specs.Prelude.{◌≡◌, ◌≤◌, ◌<◌, ◌+◌, ◌^◌, ℕ, length, take, drop, slice_index};
+ghost use Rattle.std.specs.Prelude.{◌≡◌, ◌≤◌, ◌<◌, ◌+◌, ◌^◌, length, map, take};
 ghost use Rattle.sd_call.specs.Columns.{numbers};
 ghost use Rattle.sd_call_convert.specs.Many.{ConvertsAll, ConvertsMany, Ends, Holds, answers_by, asked, asked_large};
-ghost use Rattle.sd_call_convert.specs.Many.{lengths, lent, most_small, stopped};
+ghost use Rattle.sd_call_convert.specs.Many.{lent, most_small, stopped};
+ghost use Rattle.sd_call_convert.specs.Inner.Column.{asked_any};
 
+use crate::ends::{Offset, write_ends};
 use crate::row::{Manner, Room, convert_row, has_room, manner_for};
 use sd_buffer::SdBuf;
 use sd_call::{Column, Offsets, Outcome, done, failed, no_memory, row_count, too_small};
@@ -40,6 +42,16 @@ pub struct LargeConversion<'a> {
     pub options: u32,
 }
 
+// A conversion, whichever size its offsets have.
+#[derive(Clone, Copy)]
+struct AnyConversion<'a> {
+    column: Column<'a>,
+    domain: &'a [u8],
+    begin: usize,
+    kind: u32,
+    options: u32,
+}
+
 /// Converts each row of a column with offsets of 32 bits.
 pub fn convert_many(
     alloc: Global,
@@ -51,48 +63,18 @@ pub fn convert_many(
     ensures { ConvertsMany (asked conversion.now) (lent (take most_small out.old) out_offsets.old outcomes.old)
         (lent (take most_small out.new) out_offsets.new outcomes.new) result }
 {
-    let size = MOST_SMALL.min(out.len());
-    convert_within(alloc, conversion, &mut out[..size], out_offsets, outcomes)
-}
-
-// The same with an output that these offsets can reach.
-fn convert_within(
-    alloc: Global,
-    conversion: &Conversion<'_>,
-    out: &mut [u8],
-    out_offsets: &mut [u32],
-    outcomes: &mut [Outcome],
-) -> Outcome
-    requires { length out.old ≤ most_small }
-    ensures { ConvertsMany (asked conversion.now) (lent out.old out_offsets.old outcomes.old)
-        (lent out.new out_offsets.new outcomes.new) result }
-{
-    let room = Room {
-        bytes: out.len(),
-        offsets: out_offsets.len(),
-        outcomes: outcomes.len(),
+    let any = AnyConversion {
+        column: Column {
+            data: front_of(conversion.data),
+            offsets: Offsets::Small(conversion.offsets),
+        },
+        domain: conversion.domain,
+        begin: conversion.begin,
+        kind: conversion.kind,
+        options: conversion.options,
     };
-    let enough = has_room(conversion.offsets.len(), conversion.begin, &room);
-    match manner_for(
-        conversion.kind,
-        conversion.options,
-        conversion.domain,
-        enough,
-    ) {
-        Ok(manner) => {
-            let column = Column {
-                data: front_of(conversion.data),
-                offsets: Offsets::Small(conversion.offsets),
-            };
-            let work = Work {
-                column,
-                manner,
-                begin: conversion.begin,
-            };
-            convert_small(&work, SdBuf::new(alloc), out, out_offsets, outcomes)
-        }
-        Err(fault) => failed(fault),
-    }
+    let size = MOST_SMALL.min(out.len());
+    convert_column(alloc, &any, &mut out[..size], out_offsets, outcomes)
 }
 
 // What these offsets can reach.
@@ -113,12 +95,38 @@ pub fn convert_many_large(
     ensures { ConvertsMany (asked_large conversion.now) (lent out.old out_offsets.old outcomes.old)
         (lent out.new out_offsets.new outcomes.new) result }
 {
+    let any = AnyConversion {
+        column: Column {
+            data: conversion.data,
+            offsets: Offsets::Large(conversion.offsets),
+        },
+        domain: conversion.domain,
+        begin: conversion.begin,
+        kind: conversion.kind,
+        options: conversion.options,
+    };
+    convert_column(alloc, &any, out, out_offsets, outcomes)
+}
+
+fn convert_column<T: Offset>(
+    alloc: Global,
+    conversion: &AnyConversion<'_>,
+    out: &mut [u8],
+    out_offsets: &mut [T],
+    outcomes: &mut [Outcome],
+) -> Outcome
+    requires reaches { length out.old ≤ T.most }
+    requires fits { length out.old < 2 ^ 64 }
+    ensures { ConvertsMany (asked_any conversion.now) (lent out.old (map T.number out_offsets.old) outcomes.old)
+        (lent out.new (map T.number out_offsets.new) outcomes.new) result }
+{
     let room = Room {
         bytes: out.len(),
         offsets: out_offsets.len(),
         outcomes: outcomes.len(),
     };
-    let enough = has_room(conversion.offsets.len(), conversion.begin, &room);
+    let count = offset_count(conversion.column.offsets);
+    let enough = has_room(count, conversion.begin, &room);
     match manner_for(
         conversion.kind,
         conversion.options,
@@ -126,18 +134,23 @@ pub fn convert_many_large(
         enough,
     ) {
         Ok(manner) => {
-            let column = Column {
-                data: conversion.data,
-                offsets: Offsets::Large(conversion.offsets),
-            };
             let work = Work {
-                column,
+                column: conversion.column,
                 manner,
                 begin: conversion.begin,
             };
-            convert_large(&work, SdBuf::new(alloc), out, out_offsets, outcomes)
+            convert_all(&work, SdBuf::new(alloc), out, out_offsets, outcomes)
         }
         Err(fault) => failed(fault),
+    }
+}
+
+fn offset_count(offsets: Offsets<'_>) -> usize
+    ensures { result ≡ length (numbers offsets.entry) }
+{
+    match offsets {
+        Offsets::Small(numbers) => numbers.len(),
+        Offsets::Large(numbers) => numbers.len(),
     }
 }
 
@@ -156,50 +169,27 @@ struct Ending {
     outcome: Outcome,
 }
 
-fn convert_small(
+fn convert_all<T: Offset>(
     work: &Work<'_>,
     buf: Result<SdBuf, NoMemory>,
     out: &mut [u8],
-    out_offsets: &mut [u32],
+    out_offsets: &mut [T],
     outcomes: &mut [Outcome],
 ) -> Outcome
-    requires small { length out.old ≤ most_small }
-    requires some { 0 < length (numbers work.now.column.offsets) }
-    requires offsets { length (numbers work.now.column.offsets) ≤ length out_offsets.old }
-    requires outcomes { length (numbers work.now.column.offsets) ≤ length outcomes.old + 1 }
-    requires begin { work.now.begin ≤ length out.old }
-    ensures { ConvertsAll (answers_by work.now.manner work.now.column.data.now (numbers work.now.column.offsets))
-        work.now.begin (lent out.old out_offsets.old outcomes.old) (lent out.new out_offsets.new outcomes.new) result }
-{
-    match buf {
-        Ok(mut buf) => {
-            let ending = convert_rows(work, &mut buf, out, outcomes);
-            write_small(work.begin, &outcomes[..ending.count], out_offsets);
-            ending.outcome
-        }
-        Err(refused) => no_memory(refused),
-    }
-}
-
-fn convert_large(
-    work: &Work<'_>,
-    buf: Result<SdBuf, NoMemory>,
-    out: &mut [u8],
-    out_offsets: &mut [u64],
-    outcomes: &mut [Outcome],
-) -> Outcome
+    requires reaches { length out.old ≤ T.most }
     requires fits { length out.old < 2 ^ 64 }
     requires some { 0 < length (numbers work.now.column.offsets) }
     requires offsets { length (numbers work.now.column.offsets) ≤ length out_offsets.old }
     requires outcomes { length (numbers work.now.column.offsets) ≤ length outcomes.old + 1 }
     requires begin { work.now.begin ≤ length out.old }
     ensures { ConvertsAll (answers_by work.now.manner work.now.column.data.now (numbers work.now.column.offsets))
-        work.now.begin (lent out.old out_offsets.old outcomes.old) (lent out.new out_offsets.new outcomes.new) result }
+        work.now.begin (lent out.old (map T.number out_offsets.old) outcomes.old)
+        (lent out.new (map T.number out_offsets.new) outcomes.new) result }
 {
     match buf {
         Ok(mut buf) => {
             let ending = convert_rows(work, &mut buf, out, outcomes);
-            write_large(work.begin, &outcomes[..ending.count], out_offsets);
+            write_ends(work.begin, &outcomes[..ending.count], out_offsets);
             ending.outcome
         }
         Err(refused) => no_memory(refused),
@@ -250,36 +240,5 @@ fn stopped(row: usize, size: usize) -> Outcome
     Outcome {
         entry: row,
         ..too_small(size)
-    }
-}
-
-// Writes where the answers begin and end.
-fn write_small(begin: usize, outcomes: &[Outcome], offsets: &mut [u32])
-    requires room { length outcomes.now < length offsets.old }
-    requires fits { begin + lengths outcomes.now < 2 ^ 32 }
-    ensures ends { (k : ℕ) → k ≤ length outcomes.now
-        → slice_index offsets.new k ≡ begin + lengths (take k outcomes.now) }
-    ensures rest { drop (length outcomes.now + 1) offsets.new ≡ drop (length outcomes.now + 1) offsets.old }
-{
-    let mut at = begin;
-    offsets[0] = at as u32;
-    for i in 0..outcomes.len() {
-        at += outcomes[i].length;
-        offsets[i + 1] = at as u32;
-    }
-}
-
-fn write_large(begin: usize, outcomes: &[Outcome], offsets: &mut [u64])
-    requires room { length outcomes.now < length offsets.old }
-    requires fits { begin + lengths outcomes.now < 2 ^ 64 }
-    ensures ends { (k : ℕ) → k ≤ length outcomes.now
-        → slice_index offsets.new k ≡ begin + lengths (take k outcomes.now) }
-    ensures rest { drop (length outcomes.now + 1) offsets.new ≡ drop (length outcomes.now + 1) offsets.old }
-{
-    let mut at = begin;
-    offsets[0] = at as u64;
-    for i in 0..outcomes.len() {
-        at += outcomes[i].length;
-        offsets[i + 1] = at as u64;
     }
 }

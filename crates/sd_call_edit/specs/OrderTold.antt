@@ -1,5 +1,5 @@
 -- What is told of the order of the two ACLs.
-use Rattle.std.specs.Prelude.{ℕ, List, Option, Some, None, unwrap_or, Result, Ok, Err}
+use Rattle.std.specs.Prelude.{ℕ, List, Option, unwrap_or, Result, Ok, Err}
 use Rattle.sd_parts.specs.declared.part.Which.{Which}
 use Rattle.sd_parts.specs.declared.part.Which.TheVariants as which
 use Rattle.sd_view.specs.Descriptor.{Descriptor}

@@ -1,6 +1,6 @@
 //! An edited descriptor in its one layout (MS-DTYP 2.4.6).
 
-ghost use Rattle.std.specs.Prelude.{◌≡◌, ◌≤◌, ◌<◌, ◌+◌, ◌^◌, length};
+ghost use Rattle.std.specs.Prelude.{◌≡◌, ◌<◌, ◌+◌, ◌^◌, length};
 ghost use Rattle.std.specs.List.{flat_map};
 ghost use Rattle.sd_ace.specs.AceLayout.{ace_bytes};
 ghost use Rattle.sd_acl_view.specs.Acl.{acl_size, has_object};
@@ -10,15 +10,14 @@ ghost use Rattle.sd_call_build.specs.New.{AreSmall, part_sizes};
 ghost use Rattle.sd_edit.specs.Shown.{AclsFit, acl_shown, shown};
 ghost use Rattle.sd_sink.specs.Print.{Prints};
 ghost use Rattle.sd_sink.specs.Sink.{Puts};
-ghost use Rattle.sd_view.specs.Layout.{acl_part, acl_part_size, descriptor_header, layout, sid_part, sid_part_size};
+ghost use Rattle.sd_view.specs.Layout.{acl_part, acl_part_size, descriptor_header, layout};
 
 use sd_ace::Ace;
 use sd_builder::{acl_header, offsets_of};
 use sd_call::{Front, Outcome, done, too_small};
-use sd_call_build::{print_ace, print_sid, whole_size};
+use sd_call_build::{print_ace, print_sid_part, sid_part_size, whole_size};
 use sd_edit::{Edited, EditedAcl, acl_size};
 use sd_parts::{HEADER_SIZE, Parts, header};
-use sd_sid::Sid;
 use sd_sink::{Print, Printer, Sink, SinkFault};
 
 /// Gives the layout.
@@ -49,16 +48,6 @@ fn part_sizes(edited: &Edited) -> Parts<u32>
         group: sid_part_size(&edited.group),
         sacl: acl_part_size(&edited.sacl),
         dacl: acl_part_size(&edited.dacl),
-    }
-}
-
-fn sid_part_size(sid: &Option<Sid>) -> u32
-    ensures size { result ≡ sid_part_size sid.now }
-    ensures small { result ≤ 68 }
-{
-    match sid {
-        Some(sid) => sid.size() as u32,
-        None => 0,
     }
 }
 
@@ -102,14 +91,6 @@ fn header_of(edited: &Edited, sizes: &Parts<u32>) -> [u8; HEADER_SIZE]
     ensures { result ≡ descriptor_header (shown edited.now) }
 {
     header(edited.rm, edited.control, offsets_of(sizes))
-}
-
-fn print_sid_part<P: Print>(sid: &Option<Sid>, out: &mut P)
-    ensures { Prints (P.told out.old) (P.told out.new) (sid_part sid.now) }
-{
-    if let Some(sid) = sid {
-        print_sid(sid, out);
-    }
 }
 
 fn print_acl_part<P: Print>(acl: &EditedAcl, size: u32, out: &mut P)

@@ -1,23 +1,6 @@
-use Rattle.std.proofs.Common.{◌∙◌, sym, ap}
-use Rattle.sd_call_convert.specs.Many.{asked_large, lent, manner_for}
-use Rattle.sd_call_convert.proofs.ManyLemmas.{all_converted, none_converted}
+use Rattle.std.proofs.lemmas.List.{map-id}
 use Rattle.sd_call_convert.proofs.many.convert_many_large.Goals as goal
 
-pub returns-in-Ok : goal.returns-in-Ok
-returns-in-Ok c =
-    let a = c.args in
-    let v = a.conversion.now in
-    all_converted (asked_large v) (lent a.out.now a.out_offsets.now a.outcomes.now)
-    (lent c.convert_large.new.out c.convert_large.new.out_offsets c.convert_large.new.outcomes) c.convert_large.result
-    c.in-Ok.manner
-    (ap (manner_for v.kind v.options v.domain.now) (sym c.has_room-enough.ensures) ∙ sym c.in-Ok.ensures.exact)
-    c.in-Ok.ensures.domain
-    c.convert_large.ensures
-
-pub returns-in-Err : goal.returns-in-Err
-returns-in-Err c =
-    let a = c.args in
-    let v = a.conversion.now in
-    none_converted (asked_large v) (lent a.out.now a.out_offsets.now a.outcomes.now) c.failed.result c.in-Err.fault
-    (ap (manner_for v.kind v.options v.domain.now) (sym c.has_room-enough.ensures) ∙ sym c.in-Err.ensures.exact)
-    c.failed.ensures
+pub returns : goal.returns
+returns c =
+    rw (← (map-id c.args.out_offsets.now), ← (map-id c.convert_column.new.out_offsets)) c.convert_column.ensures

@@ -1,5 +1,4 @@
-use Rattle.std.proofs.Common.{◌∷◌, ◌++◌, [], ℕ, take, Result, Ok, Err, ap, sym, ◌∙◌, arith}
-use Rattle.sd_call.specs.declared.outcome.CallFault.{CallFault}
+use Rattle.std.proofs.Common.{ℕ, take, Err, ap, sym, ◌∙◌, arith}
 use Rattle.sd_call.specs.declared.outcome.CallFault.TheVariants as call
 use Rattle.sd_edit.specs.Edits.{Outcome, edit, edited}
 use Rattle.sd_edit.specs.Shown.{shown}

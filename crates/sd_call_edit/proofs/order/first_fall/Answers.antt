@@ -1,4 +1,4 @@
-use Rattle.std.proofs.Common.{◌≡◌, ◌<◌, List, ap, sym, ◌∙◌, length, arith, rules, length-append}
+use Rattle.std.proofs.Common.{◌<◌, List, ap, sym, ◌∙◌, length, arith, rules, length-append}
 use Rattle.std.proofs.lemmas.List.{length-map}
 use Rattle.sd_ace.specs.Ace.{AccessControlEntry}
 use Rattle.sd_edit.specs.Order.{rank, ranks}

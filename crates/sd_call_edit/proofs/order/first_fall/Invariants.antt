@@ -1,4 +1,4 @@
-use Rattle.std.proofs.Common.{◌≡◌, ◌++◌, length}
+use Rattle.std.proofs.Common.{◌≡◌, ◌++◌}
 use Rattle.sd_edit.specs.Order.{Seen, ranks}
 use Rattle.sd_call_edit.proofs.order.first_fall.Given as goal
 
