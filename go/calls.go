@@ -7,7 +7,7 @@ package sdtool
 // #include <stdlib.h>
 // enum { token_first = SDTOOL_TOKEN_WORDS(0), token_each = SDTOOL_TOKEN_WORDS(1) - SDTOOL_TOKEN_WORDS(0) };
 //
-// // The struct is made here, since Go gives C no memory with pointers of Go.
+// // Structs are made here, since Go gives C no memory with pointers of Go.
 // static inline struct sdtool_outcome convert_many(const uint8_t *data, size_t data_size, const uint64_t *offsets,
 //                                                  size_t offset_count, const uint8_t *domain, size_t domain_size,
 //                                                  size_t begin, uint32_t kind, uint32_t options, uint8_t *out,
@@ -16,6 +16,33 @@ package sdtool
 //     struct sdtool_large_conversion asked = {{data, data_size}, offsets, offset_count, {domain, domain_size}, begin,
 //                                             kind, options};
 //     return sdtool_convert_many_large(&asked, out, out_size, ends, offset_count, outcomes, offset_count - 1);
+// }
+//
+// static inline struct sdtool_outcome derive_many(const uint8_t *data, size_t data_size, const uint64_t *offsets,
+//                                                 size_t offset_count, const uint8_t *creator, size_t creator_size,
+//                                                 const uint8_t *owner, size_t owner_size, const uint8_t *group,
+//                                                 size_t group_size, size_t begin, uint32_t kind, uint32_t mapping,
+//                                                 uint8_t *out, size_t out_size, uint64_t *ends,
+//                                                 struct sdtool_outcome *outcomes)
+// {
+//     struct sdtool_large_derivation asked = {{{data, data_size}, offsets, offset_count},
+//                                             {{creator, creator_size}, {owner, owner_size}, {group, group_size}, kind,
+//                                              mapping},
+//                                             begin};
+//     return sdtool_derive_many_large(&asked, out, out_size, ends, offset_count, outcomes, offset_count - 1);
+// }
+//
+// static inline struct sdtool_outcome check_column(const uint8_t *data, size_t data_size, const uint64_t *offsets,
+//                                                  size_t offset_count, const uint8_t *sids, size_t sids_size,
+//                                                  const uint8_t *entries, size_t sid_count, const uint8_t *object,
+//                                                  size_t object_size, const uint8_t *principal_self,
+//                                                  size_t principal_self_size, const struct sdtool_request *request,
+//                                                  struct sdtool_verdict *verdicts)
+// {
+//     struct sdtool_large_column_check asked = {{{data, data_size}, offsets, offset_count}, {sids, sids_size},
+//                                               {entries, sid_count}, {object, object_size},
+//                                               {principal_self, principal_self_size}, *request};
+//     return sdtool_check_column_large(&asked, verdicts, offset_count - 1);
 // }
 import "C"
 
@@ -495,38 +522,56 @@ func checkMany(descriptors [][]byte, sids, entries string, asked *question) ([]A
 	told := C.sdtool_check_many((*C.struct_sdtool_bytes)(list), C.size_t(count), at(sids), size(sids), at(entries),
 		size(entries), at(asked.object), size(asked.object), at(asked.principalSelf), size(asked.principalSelf),
 		asked.request, &verdicts[0], C.size_t(count))
+	return answersOf(told, verdicts[:count], func(index int) string { return string(descriptors[index]) })
+}
+
+func checkColumn(column *Column, sids, entries string, asked *question) ([]Answer, *outcome) {
+	count := len(column.Offsets) - 1
+	if count < 0 {
+		return nil, &outcome{fault: C.SDTOOL_ARGUMENT, argument: C.SDTOOL_ARGUMENT_OFFSETS}
+	}
+	verdicts := make([]C.struct_sdtool_verdict, count+1)
+	told := C.check_column(first(column.Data), C.size_t(len(column.Data)), offset(column.Offsets, 0),
+		C.size_t(count+1), at(sids), size(sids), at(entries), size(entries), at(asked.object), size(asked.object),
+		at(asked.principalSelf), size(asked.principalSelf), asked.request, &verdicts[0])
+	return answersOf(told, verdicts[:count], column.row)
+}
+
+// answersOf gives the verdicts, if there are any. BYTES are those of a descriptor.
+func answersOf(told outcome, verdicts []C.struct_sdtool_verdict, bytes func(int) string) ([]Answer, *outcome) {
 	if told.fault != C.SDTOOL_OK {
 		return nil, &told
 	}
-	answers := make([]Answer, count)
+	answers := make([]Answer, len(verdicts))
 	for index := range answers {
 		verdict := &verdicts[index]
-		if verdict.outcome.fault != C.SDTOOL_OK {
-			answers[index].Err = faultOfBytes(&verdict.outcome, string(descriptors[index]))
-		} else {
+		switch verdict.outcome.fault {
+		case C.SDTOOL_OK:
 			answers[index].Verdict = Verdict{Granted: verdict.granted == 1, Mask: uint32(verdict.mask)}
+		case C.SDTOOL_ARGUMENT:
+			answers[index].Err = fault(&verdict.outcome)
+		default:
+			answers[index].Err = faultOfBytes(&verdict.outcome, bytes(index))
 		}
 	}
 	return answers, nil
 }
 
-// convertMany gives the answers to the rows of a column, where each ends, and what the library says of each row.
-func convertMany(kind Conversion, numeric bool, domain string, column *Column) (Column, []outcome, *outcome) {
+func offset(offsets []int64, row int) *C.uint64_t {
+	return (*C.uint64_t)(unsafe.Pointer(&offsets[row]))
+}
+
+// rowsOf gives the answers of a call to the rows of a column, where each ends, and what the library says of each row.
+// The call is asked about the rows from one on.
+func rowsOf(column *Column, ask func(row int, made *Column, outcomes []outcome) outcome) (Column, []outcome, *outcome) {
 	rows := len(column.Offsets) - 1
 	if rows < 0 {
 		return Column{}, nil, &outcome{fault: C.SDTOOL_ARGUMENT, argument: C.SDTOOL_ARGUMENT_OFFSETS}
 	}
-	var options C.uint32_t
-	if numeric {
-		options = C.SDTOOL_NUMERIC
-	}
-	offset := func(offsets []int64, row int) *C.uint64_t { return (*C.uint64_t)(unsafe.Pointer(&offsets[row])) }
 	made := Column{make([]byte, len(column.Data)+1024), make([]int64, rows+1)}
 	outcomes := make([]outcome, rows+1)
 	for row := 0; ; {
-		told := C.convert_many(first(column.Data), C.size_t(len(column.Data)), offset(column.Offsets, row),
-			C.size_t(rows+1-row), at(domain), size(domain), C.size_t(made.Offsets[row]), C.uint32_t(kind), options,
-			first(made.Data), C.size_t(len(made.Data)), offset(made.Offsets, row), &outcomes[row])
+		told := ask(row, &made, outcomes)
 		switch told.fault {
 		case C.SDTOOL_OK:
 			made.Data = made.Data[:told.length]
@@ -539,6 +584,29 @@ func convertMany(kind Conversion, numeric bool, domain string, column *Column) (
 			return Column{}, nil, &told
 		}
 	}
+}
+
+func convertMany(kind Conversion, numeric bool, domain string, column *Column) (Column, []outcome, *outcome) {
+	var options C.uint32_t
+	if numeric {
+		options = C.SDTOOL_NUMERIC
+	}
+	return rowsOf(column, func(row int, made *Column, outcomes []outcome) outcome {
+		return C.convert_many(first(column.Data), C.size_t(len(column.Data)), offset(column.Offsets, row),
+			C.size_t(len(column.Offsets)-row), at(domain), size(domain), C.size_t(made.Offsets[row]), C.uint32_t(kind),
+			options, first(made.Data), C.size_t(len(made.Data)), offset(made.Offsets, row), &outcomes[row])
+	})
+}
+
+func deriveMany(made *Creation, parents *Column) (Column, []outcome, *outcome) {
+	creator, owner, group := made.Creator.layout, made.Owner.bytes, made.Group.bytes
+	kind, mapping := C.uint32_t(made.Kind), C.uint32_t(made.Mapping)
+	return rowsOf(parents, func(row int, children *Column, outcomes []outcome) outcome {
+		return C.derive_many(first(parents.Data), C.size_t(len(parents.Data)), offset(parents.Offsets, row),
+			C.size_t(len(parents.Offsets)-row), at(creator), size(creator), at(owner), size(owner), at(group),
+			size(group), C.size_t(children.Offsets[row]), kind, mapping, first(children.Data),
+			C.size_t(len(children.Data)), offset(children.Offsets, row), &outcomes[row])
+	})
 }
 
 func reasonsWith(bytes string, token words, asked *question) (reasons [Rights]Reason, told *outcome) {

@@ -51,8 +51,8 @@ struct sdtool_outcome {
      */
     uint32_t argument;
     /*
-     * Which entry of that argument it is, from 0 on, if it is a list; with SDTOOL_TOO_SMALL of sdtool_convert_many the
-     * row whose answer has no room; else 0.
+     * Which entry of that argument it is, from 0 on, if it is a list; with SDTOOL_TOO_SMALL of sdtool_convert_many and
+     * sdtool_derive_many the row whose answer has no room; else 0.
      */
     size_t entry;
     /* With SDTOOL_OK the length of the answer, and with SDTOOL_TOO_SMALL the size that it needs; else 0. */
@@ -690,6 +690,57 @@ struct sdtool_outcome sdtool_check_many(const struct sdtool_bytes *descriptors, 
                                         size_t principal_self_size, const struct sdtool_request *request,
                                         struct sdtool_verdict *verdicts, size_t verdict_count);
 
+/* A column of bytes or texts, as Arrow lays it out. */
+struct sdtool_column {
+    struct sdtool_bytes data;
+    /* One more than there are rows. Row I is the bytes of DATA from OFFSETS[I] up to OFFSETS[I + 1]. */
+    const uint32_t *offsets;
+    size_t offset_count;
+};
+
+/* The same with offsets of 64 bits, as a large column has. */
+struct sdtool_large_column {
+    struct sdtool_bytes data;
+    const uint64_t *offsets;
+    size_t offset_count;
+};
+
+/* Descriptors that are the rows of a column, and what sdtool_check takes beside a descriptor. */
+struct sdtool_column_check {
+    struct sdtool_column descriptors;
+    struct sdtool_bytes sids;
+    struct sdtool_bytes entries;
+    struct sdtool_bytes object;
+    struct sdtool_bytes principal_self;
+    struct sdtool_request request;
+};
+
+/* The same with offsets of 64 bits. */
+struct sdtool_large_column_check {
+    struct sdtool_large_column descriptors;
+    struct sdtool_bytes sids;
+    struct sdtool_bytes entries;
+    struct sdtool_bytes object;
+    struct sdtool_bytes principal_self;
+    struct sdtool_request request;
+};
+
+/*
+ * Gives the verdicts of sdtool_check_many on the rows of a column. A row whose offsets decrease or pass the end of
+ * DATA, as negative ones do, has SDTOOL_ARGUMENT for its offsets in its own verdict, and nothing is read of it. LENGTH
+ * is the number of rows. Of DATA it uses at most 2,147,483,647 bytes, since Arrow's offsets of 32 bits have a sign.
+ *
+ * SDTOOL_ARGUMENT for the offsets comes first, if OFFSETS is empty, and then the faults of sdtool_check_many.
+ *
+ * It knows nothing of nulls: a null is a row like any other, mostly an empty one, which is no descriptor.
+ */
+struct sdtool_outcome sdtool_check_column(const struct sdtool_column_check *check, struct sdtool_verdict *verdicts,
+                                          size_t verdict_count);
+
+/* The same with offsets of 64 bits. It uses DATA whole. */
+struct sdtool_outcome sdtool_check_column_large(const struct sdtool_large_column_check *check,
+                                                struct sdtool_verdict *verdicts, size_t verdict_count);
+
 /* What the rows of a column are converted to. */
 enum sdtool_conversion_kind {
     /* Descriptors to SDDL, as by sdtool_to_sddl. */
@@ -762,6 +813,47 @@ struct sdtool_outcome sdtool_convert_many(const struct sdtool_conversion *conver
 struct sdtool_outcome sdtool_convert_many_large(const struct sdtool_large_conversion *conversion, uint8_t *out,
                                                 size_t out_size, uint64_t *out_offsets, size_t out_offset_count,
                                                 struct sdtool_outcome *outcomes, size_t outcome_count);
+
+/* What sdtool_derive takes beside the parent. */
+struct sdtool_creation {
+    struct sdtool_bytes creator;
+    struct sdtool_bytes owner;
+    struct sdtool_bytes group;
+    uint32_t kind;
+    uint32_t mapping;
+};
+
+/* Parents, and what all new descriptors have in common. */
+struct sdtool_derivation {
+    struct sdtool_column parents;
+    struct sdtool_creation creation;
+    /* Where in OUT the first answer begins: 0, or where the answers of an earlier call end. */
+    size_t begin;
+};
+
+/* The same with offsets of 64 bits, as a large column has. */
+struct sdtool_large_derivation {
+    struct sdtool_large_column parents;
+    struct sdtool_creation creation;
+    size_t begin;
+};
+
+/*
+ * Gives the descriptor of sdtool_derive for each row of a column of parents. Answers, and how to go on after
+ * SDTOOL_TOO_SMALL, are those of sdtool_convert_many, with the offsets of PARENTS.
+ *
+ * SDTOOL_ARGUMENT comes first: for KIND, MAPPING, OWNER, GROUP and CREATOR in this order, and then for the offsets as
+ * by sdtool_convert_many. Then comes SDTOOL_NO_MEMORY: it allocates 131,226 bytes. After any of these nothing is
+ * written.
+ */
+struct sdtool_outcome sdtool_derive_many(const struct sdtool_derivation *derivation, uint8_t *out, size_t out_size,
+                                         uint32_t *out_offsets, size_t out_offset_count,
+                                         struct sdtool_outcome *outcomes, size_t outcome_count);
+
+/* The same with offsets of 64 bits. It uses the data and OUT whole. */
+struct sdtool_outcome sdtool_derive_many_large(const struct sdtool_large_derivation *derivation, uint8_t *out,
+                                               size_t out_size, uint64_t *out_offsets, size_t out_offset_count,
+                                               struct sdtool_outcome *outcomes, size_t outcome_count);
 
 /* How many numbers of 32 bits a token of so many SIDs takes. */
 #define SDTOOL_TOKEN_WORDS(sids) (2 + 20 * (size_t)(sids))
@@ -1071,28 +1163,35 @@ struct sdtool_outcome sdtool_fault_text(uint32_t fault, uint8_t *text, size_t te
 /*
  * The size of each struct on a 64-bit machine, and the offsets of its members:
  *
- *     sdtool_outcome           32: 0 4 8 12 16 24
- *     sdtool_asker             12: 0 4 8
- *     sdtool_request           20: 0 12 16
- *     sdtool_verdict           40: 0 32 36
- *     sdtool_origin             4: 0 2 3
- *     sdtool_origins           48: 0 32 40
- *     sdtool_place             16: 0 8
- *     sdtool_acl_place         24: 0 4 8
- *     sdtool_contents         120: 0 32 34 40 56 72 96
- *     sdtool_fault_place       32: 0 4 8 12 16
- *     sdtool_ace               80: 0 4 8 12 13 16 32 48 64
- *     sdtool_number            40: 0 32
- *     sdtool_bytes             16: 0 8
- *     sdtool_conversion        64: 0 16 24 32 48 56 60
- *     sdtool_large_conversion  64: 0 16 24 32 48 56 60
- *     sdtool_reason             4: 0 2
- *     sdtool_new_ace           56: 0 16 32 48 52 53
- *     sdtool_new_acl           24: 0 8 16
- *     sdtool_new_descriptor    88: 0 16 32 56 80 82
- *     sdtool_change           208: 0 4 8 12 16 20 24 28 30 32 33 34 35 36 37 38 39 40 56 72 140
- *     sdtool_acl_order         40: 0 32 36
- *     sdtool_ending            24: 0 8 16
+ *     sdtool_outcome              32: 0 4 8 12 16 24
+ *     sdtool_asker                12: 0 4 8
+ *     sdtool_request              20: 0 12 16
+ *     sdtool_verdict              40: 0 32 36
+ *     sdtool_origin                4: 0 2 3
+ *     sdtool_origins              48: 0 32 40
+ *     sdtool_place                16: 0 8
+ *     sdtool_acl_place            24: 0 4 8
+ *     sdtool_contents            120: 0 32 34 40 56 72 96
+ *     sdtool_fault_place          32: 0 4 8 12 16
+ *     sdtool_ace                  80: 0 4 8 12 13 16 32 48 64
+ *     sdtool_number               40: 0 32
+ *     sdtool_bytes                16: 0 8
+ *     sdtool_column               32: 0 16 24
+ *     sdtool_large_column         32: 0 16 24
+ *     sdtool_column_check        120: 0 32 48 64 80 96
+ *     sdtool_large_column_check  120: 0 32 48 64 80 96
+ *     sdtool_conversion           64: 0 16 24 32 48 56 60
+ *     sdtool_large_conversion     64: 0 16 24 32 48 56 60
+ *     sdtool_creation             56: 0 16 32 48 52
+ *     sdtool_derivation           96: 0 32 88
+ *     sdtool_large_derivation     96: 0 32 88
+ *     sdtool_reason                4: 0 2
+ *     sdtool_new_ace              56: 0 16 32 48 52 53
+ *     sdtool_new_acl              24: 0 8 16
+ *     sdtool_new_descriptor       88: 0 16 32 56 80 82
+ *     sdtool_change              208: 0 4 8 12 16 20 24 28 30 32 33 34 35 36 37 38 39 40 56 72 140
+ *     sdtool_acl_order            40: 0 32 36
+ *     sdtool_ending               24: 0 8 16
  */
 
 #ifdef __cplusplus

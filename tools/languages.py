@@ -28,10 +28,11 @@ HEAD = "`make figures` writes this file from include/sdtool.h"
 READ_ONCE = {"sdtool_check": "sdtool_check_with serves", "sdtool_reasons": "sdtool_reasons_with serves"}
 IN_PYTHON = {**READ_ONCE, "sdtool_describe": "_places.py says it"}
 NO_NUMBER = {"sdtool_version_number": "sdtool_version serves"}
-COLUMNS = ("sdtool_convert_many", "sdtool_convert_many_large")
-LARGE = {"sdtool_convert_many": "sdtool_convert_many_large serves"}
-SMALL = {"sdtool_convert_many_large": "no array has as many bytes"}
-ROWS = dict.fromkeys(COLUMNS, "a call for each row serves, as rows have to be copied to the module's memory anyway")
+COLUMNS = ("sdtool_check_column", "sdtool_convert_many", "sdtool_derive_many")
+LARGE = {name: f"{name}_large serves" for name in COLUMNS}
+SMALL = dict.fromkeys((f"{name}_large" for name in COLUMNS), "no array has as many bytes")
+ROWS = dict.fromkeys([*LARGE, *SMALL],
+                     "a call for each row serves, as rows have to be copied to the module's memory anyway")
 WASM = "systems/c/wasm.c"
 OF_STRUCT = {"uint8_t": "B", "uint16_t": "H", "uint32_t": "I"}  # letters of the struct module
 CALLERS: Dict[str, Tuple[str, str, Dict[str, str]]] = {
@@ -39,9 +40,9 @@ CALLERS: Dict[str, Tuple[str, str, Dict[str, str]]] = {
     "Go": ("go/*.go", r"\b(?:C\.|return ){name}\b", {**READ_ONCE, **LARGE}),
     ".NET": ("dotnet/Sdtool/[!N]*.cs", r"\bCalls\.{camel}\b", {**READ_ONCE, **SMALL}),
     "Python by ctypes": ("python/sdtool/_foreign.py", r"\b{name}\b",
-                         {**IN_PYTHON, **NO_NUMBER, **LARGE}),
+                         {**IN_PYTHON, **NO_NUMBER, **LARGE, "sdtool_check_many": "sdtool_check_column_large serves"}),
     "Python in C": ("python/sdtool/_native.c", r"\bEACH\({short}\)",
-                    {**IN_PYTHON, **dict.fromkeys(COLUMNS, "calls for single values take less time")}),
+                    {**IN_PYTHON, **dict.fromkeys([*LARGE, *SMALL], "calls for single values take less time")}),
     "JavaScript": ("javascript/sdtool.mjs", r'"{name}"', {**NO_NUMBER, **ROWS}),
     "WebAssembly": (WASM, r"\bEXPORT\({name}\)", ROWS),
 }
@@ -379,12 +380,19 @@ def shown(members: List[Member]) -> str:
     return "; ".join(f"{one.type.base} {one.name}" for one in members)
 
 
+def with_parts(header: Header, names: Set[str]) -> Set[str]:
+    """These types, and those of all members of structs among them."""
+    more = {one.type.base for name in names for one in header.structs.get(name, ())} - names
+    return with_parts(header, names | more) if more else names
+
+
 def judge_wasm(count: preload.Count, header: Header) -> None:
     """The structs of WASM that are not the header's are the same with 32 bits, and the others have none wider. It needs
     none that only functions take which it leaves out."""
     left_out = CALLERS["WebAssembly"][2]
-    used, unused = ({one.type.base for name, function in header.functions.items() if (name in left_out) == is_left_out
-                     for one in function.arguments} for is_left_out in (False, True))
+    used, unused = (with_parts(header, {
+        one.type.base for name, function in header.functions.items() if (name in left_out) == is_left_out
+        for one in function.arguments}) for is_left_out in (False, True))
     ours = {struct[len("sdtool_"):] for struct in header.structs}
     found = {name: members for item, name, members in items_of(preload.TOP / WASM, ours.__contains__)
              if item["kind"] == "RecordDecl" and members}

@@ -55,22 +55,101 @@ namespace Sdtool
         /// <summary>Each row by itself, under a domain or without aliases.</summary>
         public Column Convert(Conversion conversion, Sid domain = null, bool isNumeric = false)
         {
-            byte[] of = Sid.DataOf(domain), made = new byte[Math.Min(data.Length + 1024L, MostBytes)];
-            var ends = new int[offsets.Length];
-            var outcomes = new Native.Outcome[offsets.Length];
+            byte[] of = Sid.DataOf(domain);
+            return Answered((row, made, ends, outcomes) =>
+            {
+                fixed (byte* bytes = data, domains = of, room = made)
+                fixed (int* starts = offsets, told = ends)
+                fixed (Native.Outcome* all = outcomes)
+                {
+                    Native.Column rows = Rows(bytes, starts, row);
+                    var asked = new Native.Conversion
+                    {
+                        data = rows.data,
+                        offsets = rows.offsets,
+                        offsetCount = rows.offsetCount,
+                        domain = new Native.Bytes { bytes = domains, size = Answer.Size(of) },
+                        begin = (ulong)ends[row],
+                        kind = (uint)conversion,
+                        options = isNumeric ? Native.SDTOOL_NUMERIC : 0
+                    };
+                    return Loader.Calls.ConvertMany(&asked, room, Answer.Size(made), (uint*)told + row,
+                                                    asked.offsetCount, all + row, asked.offsetCount);
+                }
+            }, bytes => conversion == Conversion.FromSddl ? Given.Sddl(bytes, of) : Given.Descriptor(bytes));
+        }
+
+        /// <summary>
+        /// The descriptor of a new object for each row, which is the descriptor of a folder. The arguments are those of
+        /// <see cref="SecurityDescriptor.Derive"/>.
+        /// </summary>
+        public Column Derive(Sid owner, Sid group, ObjectKind kind = ObjectKind.File, SecurityDescriptor creator = null,
+                             Mapping mapping = Mapping.File)
+        {
+            byte[] brought = creator?.Data;
+            byte[] newOwner = Sid.DataOf(owner) ?? throw new ArgumentNullException(nameof(owner));
+            byte[] newGroup = Sid.DataOf(group) ?? throw new ArgumentNullException(nameof(group));
+            return Answered((row, made, ends, outcomes) =>
+            {
+                fixed (byte* bytes = data, creators = brought, owners = newOwner, groups = newGroup, room = made)
+                fixed (int* starts = offsets, told = ends)
+                fixed (Native.Outcome* all = outcomes)
+                {
+                    var asked = new Native.Derivation
+                    {
+                        parents = Rows(bytes, starts, row),
+                        creation = new Native.Creation
+                        {
+                            creator = new Native.Bytes { bytes = creators, size = Answer.Size(brought) },
+                            owner = new Native.Bytes { bytes = owners, size = Answer.Size(newOwner) },
+                            group = new Native.Bytes { bytes = groups, size = Answer.Size(newGroup) },
+                            kind = (uint)kind,
+                            mapping = (uint)mapping
+                        },
+                        begin = (ulong)ends[row]
+                    };
+                    return Loader.Calls.DeriveMany(&asked, room, Answer.Size(made), (uint*)told + row,
+                                                   asked.parents.offsetCount, all + row, asked.parents.offsetCount);
+                }
+            }, Given.Descriptor);
+        }
+
+        /// <summary>What a call that gets the rows says of each.</summary>
+        internal Native.Verdict[] Asked(CheckRows check)
+        {
+            var told = new Native.Verdict[Count];
+            Native.Outcome outcome;
+            fixed (byte* bytes = data)
+            fixed (int* starts = offsets)
+            fixed (Native.Verdict* verdicts = told)
+            {
+                outcome = check(Rows(bytes, starts, 0), verdicts, (ulong)told.Length);
+            }
+            if (outcome.fault != Native.SDTOOL_OK)
+            {
+                throw Given.Nothing.Refused(outcome);
+            }
+            return told;
+        }
+
+        internal delegate Native.Outcome CheckRows(Native.Column rows, Native.Verdict* verdicts, ulong count);
+
+        // A call about the rows from one on. Their answers begin where those before it end.
+        private delegate Native.Outcome AskRows(int row, byte[] made, int[] ends, Native.Outcome[] outcomes);
+
+        private Column Answered(AskRows ask, Func<byte[], Given> given)
+        {
+            var made = new byte[Math.Min(data.Length + 1024L, MostBytes)];
+            // One more of each, since there may be no offset.
+            var ends = new int[offsets.Length + 1];
+            var outcomes = new Native.Outcome[offsets.Length + 1];
             for (int row = 0; ; )
             {
-                var asked = new Native.Conversion
-                {
-                    offsetCount = (ulong)(offsets.Length - row),
-                    begin = row == 0 ? 0 : (ulong)ends[row],
-                    kind = (uint)conversion,
-                    options = isNumeric ? Native.SDTOOL_NUMERIC : 0
-                };
-                Native.Outcome told = Ask(asked, of, row, made, ends, outcomes);
+                Native.Outcome told = ask(row, made, ends, outcomes);
                 if (told.fault == Native.SDTOOL_OK)
                 {
-                    return new Column(made, ends, FaultsOf(outcomes, conversion, of));
+                    Array.Resize(ref ends, offsets.Length);
+                    return new Column(made, ends, FaultsOf(outcomes, given));
                 }
                 if (told.fault != Native.SDTOOL_TOO_SMALL)
                 {
@@ -82,34 +161,27 @@ namespace Sdtool
             }
         }
 
-        private Native.Outcome Ask(Native.Conversion asked, byte[] domain, int row, byte[] made, int[] ends,
-                                   Native.Outcome[] outcomes)
+        private Native.Column Rows(byte* bytes, int* starts, int row)
         {
-            fixed (byte* bytes = data, domains = domain, room = made)
-            fixed (int* starts = offsets, told = ends)
-            fixed (Native.Outcome* all = outcomes)
+            return new Native.Column
             {
-                asked.data = new Native.Bytes { bytes = bytes, size = Answer.Size(data) };
-                asked.domain = new Native.Bytes { bytes = domains, size = Answer.Size(domain) };
-                asked.offsets = (uint*)starts + row;
-                return Loader.Calls.ConvertMany(&asked, room, Answer.Size(made), (uint*)told + row, asked.offsetCount,
-                                                all + row, asked.offsetCount);
-            }
+                data = new Native.Bytes { bytes = bytes, size = Answer.Size(data) },
+                offsets = (uint*)starts + row,
+                offsetCount = (ulong)(offsets.Length - row)
+            };
         }
 
-        private Dictionary<int, Exception> FaultsOf(Native.Outcome[] outcomes, Conversion conversion, byte[] domain)
+        private Dictionary<int, Exception> FaultsOf(Native.Outcome[] outcomes, Func<byte[], Given> given)
         {
             var found = new Dictionary<int, Exception>();
             for (int row = 0; row < Count; row++)
             {
                 Native.Outcome told = outcomes[row];
-                if (told.fault == Native.SDTOOL_OK)
+                if (told.fault != Native.SDTOOL_OK)
                 {
-                    continue;
+                    bool isArgument = told.fault == Native.SDTOOL_ARGUMENT;
+                    found[row] = (isArgument ? Given.Nothing : given(GetRow(row))).Refused(told);
                 }
-                found[row] = told.fault == Native.SDTOOL_ARGUMENT ? Given.Nothing.Refused(told)
-                    : conversion == Conversion.FromSddl ? Given.Sddl(GetRow(row), domain).Refused(told)
-                                                        : Given.Descriptor(GetRow(row)).Refused(told);
             }
             return found;
         }

@@ -265,6 +265,44 @@ namespace Sdtool
         }
 
         [StructLayout(LayoutKind.Sequential)]
+        internal struct Column
+        {
+            internal Bytes data;
+            internal uint* offsets;
+            internal ulong offsetCount;
+        }
+
+        [StructLayout(LayoutKind.Sequential)]
+        internal struct LargeColumn
+        {
+            internal Bytes data;
+            internal ulong* offsets;
+            internal ulong offsetCount;
+        }
+
+        [StructLayout(LayoutKind.Sequential)]
+        internal struct ColumnCheck
+        {
+            internal Column descriptors;
+            internal Bytes sids;
+            internal Bytes entries;
+            internal Bytes @object;
+            internal Bytes principalSelf;
+            internal Request request;
+        }
+
+        [StructLayout(LayoutKind.Sequential)]
+        internal struct LargeColumnCheck
+        {
+            internal LargeColumn descriptors;
+            internal Bytes sids;
+            internal Bytes entries;
+            internal Bytes @object;
+            internal Bytes principalSelf;
+            internal Request request;
+        }
+
+        [StructLayout(LayoutKind.Sequential)]
         internal struct Conversion
         {
             internal Bytes data;
@@ -286,6 +324,32 @@ namespace Sdtool
             internal ulong begin;
             internal uint kind;
             internal uint options;
+        }
+
+        [StructLayout(LayoutKind.Sequential)]
+        internal struct Creation
+        {
+            internal Bytes creator;
+            internal Bytes owner;
+            internal Bytes group;
+            internal uint kind;
+            internal uint mapping;
+        }
+
+        [StructLayout(LayoutKind.Sequential)]
+        internal struct Derivation
+        {
+            internal Column parents;
+            internal Creation creation;
+            internal ulong begin;
+        }
+
+        [StructLayout(LayoutKind.Sequential)]
+        internal struct LargeDerivation
+        {
+            internal LargeColumn parents;
+            internal Creation creation;
+            internal ulong begin;
         }
 
         [StructLayout(LayoutKind.Sequential)]
@@ -466,6 +530,12 @@ namespace Sdtool
                                                 Verdict* verdicts, ulong verdictCount);
 
         [UnmanagedFunctionPointer(CallingConvention.Cdecl), SuppressUnmanagedCodeSecurity]
+        internal delegate Outcome CheckColumnCall(ColumnCheck* check, Verdict* verdicts, ulong verdictCount);
+
+        [UnmanagedFunctionPointer(CallingConvention.Cdecl), SuppressUnmanagedCodeSecurity]
+        internal delegate Outcome CheckColumnLargeCall(LargeColumnCheck* check, Verdict* verdicts, ulong verdictCount);
+
+        [UnmanagedFunctionPointer(CallingConvention.Cdecl), SuppressUnmanagedCodeSecurity]
         internal delegate Outcome ConvertManyCall(Conversion* conversion, byte* @out, ulong outSize, uint* outOffsets,
                                                   ulong outOffsetCount, Outcome* outcomes, ulong outcomeCount);
 
@@ -473,6 +543,15 @@ namespace Sdtool
         internal delegate Outcome ConvertManyLargeCall(LargeConversion* conversion, byte* @out, ulong outSize,
                                                        ulong* outOffsets, ulong outOffsetCount, Outcome* outcomes,
                                                        ulong outcomeCount);
+
+        [UnmanagedFunctionPointer(CallingConvention.Cdecl), SuppressUnmanagedCodeSecurity]
+        internal delegate Outcome DeriveManyCall(Derivation* derivation, byte* @out, ulong outSize, uint* outOffsets,
+                                                 ulong outOffsetCount, Outcome* outcomes, ulong outcomeCount);
+
+        [UnmanagedFunctionPointer(CallingConvention.Cdecl), SuppressUnmanagedCodeSecurity]
+        internal delegate Outcome DeriveManyLargeCall(LargeDerivation* derivation, byte* @out, ulong outSize,
+                                                      ulong* outOffsets, ulong outOffsetCount, Outcome* outcomes,
+                                                      ulong outcomeCount);
 
         [UnmanagedFunctionPointer(CallingConvention.Cdecl), SuppressUnmanagedCodeSecurity]
         internal delegate Outcome TokenReadCall(byte* sids, ulong sidsSize, byte* entries, ulong sidCount, uint* token,
@@ -541,8 +620,12 @@ namespace Sdtool
             internal readonly GuidFromTextCall GuidFromText;
             internal readonly GuidToTextCall GuidToText;
             internal readonly CheckManyCall CheckMany;
+            internal readonly CheckColumnCall CheckColumn;
+            internal readonly CheckColumnLargeCall CheckColumnLarge;
             internal readonly ConvertManyCall ConvertMany;
             internal readonly ConvertManyLargeCall ConvertManyLarge;
+            internal readonly DeriveManyCall DeriveMany;
+            internal readonly DeriveManyLargeCall DeriveManyLarge;
             internal readonly TokenReadCall TokenRead;
             internal readonly CheckWithCall CheckWith;
             internal readonly ReasonsCall Reasons;
@@ -583,8 +666,12 @@ namespace Sdtool
                 GuidFromText = Bound<GuidFromTextCall>(find("sdtool_guid_from_text"));
                 GuidToText = Bound<GuidToTextCall>(find("sdtool_guid_to_text"));
                 CheckMany = Bound<CheckManyCall>(find("sdtool_check_many"));
+                CheckColumn = Bound<CheckColumnCall>(find("sdtool_check_column"));
+                CheckColumnLarge = Bound<CheckColumnLargeCall>(find("sdtool_check_column_large"));
                 ConvertMany = Bound<ConvertManyCall>(find("sdtool_convert_many"));
                 ConvertManyLarge = Bound<ConvertManyLargeCall>(find("sdtool_convert_many_large"));
+                DeriveMany = Bound<DeriveManyCall>(find("sdtool_derive_many"));
+                DeriveManyLarge = Bound<DeriveManyLargeCall>(find("sdtool_derive_many_large"));
                 TokenRead = Bound<TokenReadCall>(find("sdtool_token_read"));
                 CheckWith = Bound<CheckWithCall>(find("sdtool_check_with"));
                 Reasons = Bound<ReasonsCall>(find("sdtool_reasons"));

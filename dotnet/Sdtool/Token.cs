@@ -265,6 +265,26 @@ namespace Sdtool
             return InPieces(DataOf(descriptors));
         }
 
+        /// <summary>
+        /// The verdicts on the rows of a column, in order. A verdict on a row that is no descriptor has a fault, and
+        /// grants nothing; its number is 70 if the offsets of the row decrease or pass the end of the bytes.
+        /// </summary>
+        public IReadOnlyList<Verdict> CheckMany(Column column)
+        {
+            if (column == null)
+            {
+                throw new ArgumentNullException(nameof(column));
+            }
+            Native.Verdict[] told = column.Asked(AskRows);
+            var verdicts = new Verdict[told.Length];
+            for (int row = 0; row < told.Length; row++)
+            {
+                bool isRow = told[row].outcome.fault != Native.SDTOOL_ARGUMENT;
+                verdicts[row] = VerdictOf(told[row], isRow ? Given.Descriptor(column.GetRow(row)) : Given.Nothing);
+            }
+            return Array.AsReadOnly(verdicts);
+        }
+
         /// <summary>Why the token has each of the rights 0 to 24 or not, by its place in a mask.</summary>
         public IReadOnlyList<Reason> GetReasons(SecurityDescriptor descriptor)
         {
@@ -352,7 +372,7 @@ namespace Sdtool
                 var verdicts = new Verdict[told.Length];
                 for (int at = 0; at < told.Length; at++)
                 {
-                    verdicts[at] = VerdictOf(told[at], descriptors[at]);
+                    verdicts[at] = VerdictOf(told[at], Given.Descriptor(descriptors[at]));
                 }
                 return verdicts;
             }
@@ -379,11 +399,27 @@ namespace Sdtool
             return told;
         }
 
-        private static Verdict VerdictOf(Native.Verdict told, byte[] data)
+        private Native.Outcome AskRows(Native.Column rows, Native.Verdict* verdicts, ulong count)
+        {
+            fixed (byte* sids = token.Data, entries = token.Entries, type = objectType, self = principalSelf)
+            {
+                var asked = new Native.ColumnCheck
+                {
+                    descriptors = rows,
+                    sids = new Native.Bytes { bytes = sids, size = Answer.Size(token.Data) },
+                    entries = new Native.Bytes { bytes = entries, size = Answer.Size(token.Entries) },
+                    @object = new Native.Bytes { bytes = type, size = Answer.Size(objectType) },
+                    principalSelf = new Native.Bytes { bytes = self, size = Answer.Size(principalSelf) },
+                    request = request
+                };
+                return Loader.Calls.CheckColumn(&asked, verdicts, count);
+            }
+        }
+
+        private static Verdict VerdictOf(Native.Verdict told, Given given)
         {
             bool isKnown = told.outcome.fault == Native.SDTOOL_OK;
-            return new Verdict(isKnown && told.granted == 1, told.mask,
-                               isKnown ? null : Given.Descriptor(data).Fault(told.outcome));
+            return new Verdict(isKnown && told.granted == 1, told.mask, isKnown ? null : given.Fault(told.outcome));
         }
     }
 }

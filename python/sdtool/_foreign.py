@@ -328,14 +328,22 @@ def _verdict_of(verdict: Any) -> Any:
 def check_many(question: Any, descriptors: Iterable[Any]) -> List[Any]:
     layouts = [_read_layout("descriptors", descriptor) for descriptor in descriptors]  # each when it is taken
     count = len(layouts)
-    given = (c.Bytes * count)(*[_given(data) for data in layouts])
+    data, offsets = _joined(layouts)
     verdicts = (c.Verdict * count)()
-    (_, sids), asked = question
-    outcome = _library.sdtool_check_many(given, count, *sids, *asked, verdicts, count)
+    (_, (sids, _, entries, _)), (object_type, _, principal_self, _, request) = question
+    asked = c.LargeColumnCheck(c.LargeColumn(_given(data), offsets, count + 1), *map(_given, (
+        sids, entries, object_type, principal_self)), request)
+    outcome = _library.sdtool_check_column_large(asked, verdicts, count)
     if outcome.fault != c.OK:
         _refuse(outcome)
     return [_verdict_of(verdict) if verdict.outcome.fault == c.OK else _fault_told(verdict.outcome, data, None)
             for verdict, data in zip(verdicts, layouts)]
+
+
+def _joined(values: List[Any]) -> Tuple[bytes, Any]:
+    """The bytes of a column, and its offsets."""
+    held = array.array("Q", itertools.accumulate(map(len, values), initial=0))
+    return b"".join(values), (ctypes.c_uint64 * len(held)).from_buffer(held)
 
 
 def distinct(rows: List[Any], kind: type) -> Optional[Tuple[List[Any], List[int]]]:
@@ -349,17 +357,35 @@ def distinct(rows: List[Any], kind: type) -> Optional[Tuple[List[Any], List[int]
 
 def convert_many(kind: int, values: List[Any], domain: Optional[bytes], is_numeric: bool) -> List[Any]:
     given = [_read_text("column", value) for value in values] if kind == c.CONVERT_FROM_SDDL else values
-    count, data = len(given), b"".join(given)
-    held = array.array("Q", itertools.accumulate(map(len, given), initial=0))
-    offsets = (ctypes.c_uint64 * (count + 1)).from_buffer(held)
+
+    def ask(data: bytes, offsets: Any, count: int, begin: int, *room: Any) -> Any:
+        asked = c.LargeConversion(_given(data), offsets, count, _given(domain), begin, kind, is_numeric)
+        return _library.sdtool_convert_many_large(asked, *room)
+
+    return _column_of(given, ask, kind == c.CONVERT_TO_SDDL, domain)
+
+
+def derive_many(parents: List[bytes], creator: Optional[bytes], owner: bytes, group: bytes, kind: int,
+                mapping: int) -> List[Any]:
+    creation = c.Creation(_given(creator), _given(owner), _given(group), kind, mapping)
+
+    def ask(data: bytes, offsets: Any, count: int, begin: int, *room: Any) -> Any:
+        asked = c.LargeDerivation(c.LargeColumn(_given(data), offsets, count), creation, begin)
+        return _library.sdtool_derive_many_large(asked, *room)
+
+    return _column_of(parents, ask, False, None)
+
+
+def _column_of(given: List[Any], ask: Callable[..., Any], is_text: bool, domain: Optional[bytes]) -> List[Any]:
+    """The answers of a call to the rows of a column."""
+    data, offsets = _joined(given)
+    count = len(given)
     ends, outcomes = (ctypes.c_uint64 * (count + 1))(), (c.Outcome * count)()
     output, row = ctypes.create_string_buffer(_FIRST_SIZE + _GROWTH * len(data)), 0
     while True:
         rest = count - row
-        asked = c.LargeConversion(_given(data), _from(offsets, row), rest + 1, _given(domain), ends[row], kind,
-                                  is_numeric)
-        told = _library.sdtool_convert_many_large(asked, output, len(output), _from(ends, row), rest + 1,
-                                                  _from(outcomes, row), rest)
+        told = ask(data, _from(offsets, row), rest + 1, ends[row], output, len(output), _from(ends, row), rest + 1,
+                   _from(outcomes, row), rest)
         if told.fault != c.TOO_SMALL:
             break
         row += told.entry
@@ -369,7 +395,7 @@ def convert_many(kind: int, values: List[Any], domain: Optional[bytes], is_numer
     if told.fault != c.OK:
         _refuse(told)
     answered = ctypes.string_at(output, ends[count])
-    whole: Any = answered.decode("latin-1") if kind == c.CONVERT_TO_SDDL else answered
+    whole: Any = answered.decode("latin-1") if is_text else answered
     found: List[Any] = [whole[first:end] for first, end in zip(ends, itertools.islice(ends, 1, None))]
     faults = array.array("I", bytes(outcomes))[::ctypes.sizeof(c.Outcome) // 4]  # the first number of each
     for at, fault in enumerate(faults):

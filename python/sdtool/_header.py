@@ -96,6 +96,24 @@ class Bytes(Structure):
     _fields_ = [("bytes", c_char_p), ("size", c_size_t)]
 
 
+class Column(Structure):
+    _fields_ = [("data", Bytes), ("offsets", POINTER(c_uint32)), ("offset_count", c_size_t)]
+
+
+class LargeColumn(Structure):
+    _fields_ = [("data", Bytes), ("offsets", POINTER(c_uint64)), ("offset_count", c_size_t)]
+
+
+class ColumnCheck(Structure):
+    _fields_ = [("descriptors", Column), ("sids", Bytes), ("entries", Bytes), ("object", Bytes),
+                ("principal_self", Bytes), ("request", Request)]
+
+
+class LargeColumnCheck(Structure):
+    _fields_ = [("descriptors", LargeColumn), ("sids", Bytes), ("entries", Bytes), ("object", Bytes),
+                ("principal_self", Bytes), ("request", Request)]
+
+
 class Conversion(Structure):
     _fields_ = [("data", Bytes), ("offsets", POINTER(c_uint32)), ("offset_count", c_size_t), ("domain", Bytes),
                 ("begin", c_size_t), ("kind", c_uint32), ("options", c_uint32)]
@@ -104,6 +122,18 @@ class Conversion(Structure):
 class LargeConversion(Structure):
     _fields_ = [("data", Bytes), ("offsets", POINTER(c_uint64)), ("offset_count", c_size_t), ("domain", Bytes),
                 ("begin", c_size_t), ("kind", c_uint32), ("options", c_uint32)]
+
+
+class Creation(Structure):
+    _fields_ = [("creator", Bytes), ("owner", Bytes), ("group", Bytes), ("kind", c_uint32), ("mapping", c_uint32)]
+
+
+class Derivation(Structure):
+    _fields_ = [("parents", Column), ("creation", Creation), ("begin", c_size_t)]
+
+
+class LargeDerivation(Structure):
+    _fields_ = [("parents", LargeColumn), ("creation", Creation), ("begin", c_size_t)]
 
 
 class Reason(Structure):
@@ -174,9 +204,14 @@ CALLS: Tuple[Tuple[str, Sequence[Any], Any], ...] = (
     ("guid_to_text", (*IN, *OUT), Outcome),
     ("check_many", (POINTER(Bytes), c_size_t, *IN, *IN, *IN, *IN, POINTER(Request), POINTER(Verdict),
                     c_size_t), Outcome),
+    ("check_column", (POINTER(ColumnCheck), POINTER(Verdict), c_size_t), Outcome),
+    ("check_column_large", (POINTER(LargeColumnCheck), POINTER(Verdict), c_size_t), Outcome),
     ("convert_many", (POINTER(Conversion), *OUT, POINTER(c_uint32), c_size_t, POINTER(Outcome), c_size_t), Outcome),
     ("convert_many_large", (POINTER(LargeConversion), *OUT, POINTER(c_uint64), c_size_t, POINTER(Outcome),
                             c_size_t), Outcome),
+    ("derive_many", (POINTER(Derivation), *OUT, POINTER(c_uint32), c_size_t, POINTER(Outcome), c_size_t), Outcome),
+    ("derive_many_large", (POINTER(LargeDerivation), *OUT, POINTER(c_uint64), c_size_t, POINTER(Outcome),
+                           c_size_t), Outcome),
     ("token_read", (*IN, *IN, POINTER(c_uint32), c_size_t), Outcome),
     ("check_with", (*IN, POINTER(c_uint32), c_size_t, *IN, *IN, POINTER(Request)), Verdict),
     ("reasons", (*IN, *IN, *IN, *IN, *IN, POINTER(Asker), POINTER(Reason)), Outcome),

@@ -143,3 +143,4 @@ else:
     plain = _transport.plain
     distinct = _transport.distinct
     convert_many = _transport.convert_many
+    derive_many = _transport.derive_many

@@ -1950,6 +1950,52 @@ static PyObject *converted(const void *given, PyObject *value)
     return answer;
 }
 
+struct derivations {
+    struct state *state;
+    struct derivation common; /* the first view is that of a parent */
+    uint8_t *room;            /* SDTOOL_MOST_BYTES */
+};
+
+static PyObject *derived(const void *given, PyObject *value)
+{
+    struct derivations one = *(const struct derivations *)given;
+    struct sdtool_outcome outcome;
+    PyThreadState *others;
+    PyObject *answer;
+    if (!view_bytes(&one.common.views[0], value))
+        return NULL;
+    others = one.common.views[0].size + one.common.views[1].size > LARGE ? PyEval_SaveThread() : NULL;
+    outcome = one.state->library.derive(DERIVATION(one.common), one.room, SDTOOL_MOST_BYTES);
+    if (others != NULL)
+        PyEval_RestoreThread(others);
+    if (outcome.fault == SDTOOL_OK)
+        answer = as_bytes(one.room, outcome.length);
+    else
+        answer = plain_fault(one.state, outcome, DESCRIPTOR(one.common.views[0]));
+    view_ends(&one.common.views[0]);
+    return answer;
+}
+
+/* Parents, and what derive takes behind the parent. */
+static PyObject *derive_many(PyObject *module, PyObject *const *given, Py_ssize_t count)
+{
+    struct derivations asked = {.state = state_for(module, count, 6)};
+    PyObject *first[6], *answers = NULL;
+    if (asked.state == NULL)
+        return NULL;
+    memcpy(first, given, sizeof first);
+    first[0] = Py_None;
+    asked.room = malloc(SDTOOL_MOST_BYTES);
+    if (asked.room == NULL)
+        answers = PyErr_NoMemory();
+    else if (view_derivation(&asked.common, first))
+        answers = answers_to(given[0], derived, &asked);
+    if (asked.room != NULL)
+        derivation_ends(&asked.common);
+    free(asked.room);
+    return answers;
+}
+
 /* One of enum sdtool_conversion_kind, values, the SID of a domain or None, and whether SIDs are numbers. */
 static PyObject *convert_many(PyObject *module, PyObject *const *given, Py_ssize_t count)
 {
@@ -2132,6 +2178,7 @@ static PyMethodDef FUNCTIONS[] = {
     FAST(plain),
     FAST(distinct),
     FAST(convert_many),
+    FAST(derive_many),
     {NULL, NULL, 0, NULL},
 };
 

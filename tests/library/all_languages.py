@@ -24,7 +24,8 @@ PYTHON = preload.TOP / "python"
 REQUESTS = 4_000  # of each call, so that they are 100,000
 AT_ONCE = 2_000   # requests for which descriptors and texts are made anew
 # Neither has the version as a number. Tests of columns try Python's, and JavaScript has none.
-JOBS = [job for job in language_requests.JOBS if job not in ("version", "convert_many")]
+JOBS = [job for job in language_requests.JOBS
+        if job not in ("version", "check_column", "convert_many", "derive_many")]
 PLACE = re.compile(r"(! 20 shape 0 0 0 0) \S+ (.*), at byte .*")
 ARGUMENT = f"! {language_requests.header.ARGUMENT} "
 

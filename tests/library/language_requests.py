@@ -499,18 +499,10 @@ class Requests:
     def convert_many(self):
         library, kind, domain = self.library, self.inputs.one(CONVERSIONS), self.inputs.domain()
         of_text, numeric = kind == "from-sddl", self.flag() if kind == "to-sddl" else 0
-        rows = [self.inputs.text().encode() if of_text else self.inputs.descriptor()
-                for _ in range(self.inputs.one((0, 1, 2, 9)))]
-        data, offsets = b"".join(rows), [0, *itertools.accumulate(map(len, rows))]
-        if self.inputs.is_rare():
-            lies = (len(data) + 1, 0xffff_ffff, 0xffff_ffff_ffff_ffff, self.chance.randrange(len(data) + 1))
-            offsets[self.chance.randrange(len(offsets))] = self.inputs.one(lies)
+        data, offsets, column = self.column(
+            lambda: self.inputs.text().encode() if of_text else self.inputs.descriptor())
 
-        def answer(first, last, of):
-            """What the call for a row by itself gives."""
-            if not first <= last <= len(data):
-                raise of_argument(header.ARGUMENT_OFFSETS)
-            row = data[first:last]
+        def answer(row, of):
             if of_text:
                 return library.layout_of(row, of)
             if kind == "normalize":
@@ -521,16 +513,60 @@ class Requests:
                 raise Told(told.outcome, library.place(row, len(row))) from None
 
         def ask():
-            of, answers = library.sid_or_none(domain), []
-            for first, last in zip(offsets, offsets[1:]):
-                try:
-                    answers.append(shown(answer(first, last, of)))
-                except Told as told:
-                    answers.append(library.said(told))
-            return " | ".join(answers)
+            of = library.sid_or_none(domain)
+            return self.of_rows(data, offsets, lambda row: shown(answer(row, of)))
 
         words = [kind] + [str(numeric)] * (kind == "to-sddl")
-        return " ".join([*words, shown(domain), shown(data), struct.pack(f"<{len(offsets)}Q", *offsets).hex()]), ask
+        return " ".join([*words, shown(domain), column]), ask
+
+    def column(self, value):
+        """The bytes of a column, its offsets, which sometimes lie, and the words of both."""
+        rows = [value() for _ in range(self.inputs.one((0, 1, 2, 9)))]
+        data, offsets = b"".join(rows), [0, *itertools.accumulate(map(len, rows))]
+        if self.inputs.is_rare():
+            lies = (len(data) + 1, 0xffff_ffff, 0xffff_ffff_ffff_ffff, self.chance.randrange(len(data) + 1))
+            offsets[self.chance.randrange(len(offsets))] = self.inputs.one(lies)
+        return data, offsets, f"{shown(data)} {struct.pack(f'<{len(offsets)}Q', *offsets).hex()}"
+
+    def of_rows(self, data, offsets, answer):
+        """What the call for each row by itself gives."""
+        answers = []
+        for first, last in zip(offsets, offsets[1:]):
+            try:
+                if not first <= last <= len(data):
+                    raise of_argument(header.ARGUMENT_OFFSETS)
+                answers.append(answer(data[first:last]))
+            except Told as told:
+                answers.append(self.library.said(told))
+        return " | ".join(answers)
+
+    def check_column(self):
+        words, judge = self.question()
+        data, offsets, column = self.column(self.inputs.descriptor)
+
+        def ask():
+            asked, request = judge()
+            outcome = self.library.check_many(None, 0, *asked, request, None, 0)
+            if outcome.fault:
+                raise Told(outcome)
+            return self.of_rows(data, offsets, lambda row: self.verdict(row, asked, request))
+
+        return f"{words} {column}", ask
+
+    def derive_many(self):
+        words, given = self.creation()
+        data, offsets, column = self.column(self.inputs.descriptor)
+
+        def ask():
+            made = given()
+
+            def answer(row):
+                layout = self.library.layout(row)
+                return shown(self.library.answer(self.library.derive, layout, len(layout), *made))
+
+            return self.of_rows(data, offsets, answer)
+
+        return f"{words} {column}", ask
 
     def reasons(self):
         words, judge = self.question()
@@ -548,19 +584,28 @@ class Requests:
 
         return f"{words} {shown(data)}", ask
 
-    def derivation(self):
+    def creation(self):
         kind, mapping = self.chance.randrange(KINDS), self.chance.randrange(MAPPINGS)
         owner, group = self.inputs.sid(), self.inputs.sid()
-        creator, parent = self.inputs.one((b"", self.inputs.descriptor())), self.inputs.descriptor()
+        creator = self.inputs.one((b"", self.inputs.descriptor()))
 
         def judge():
             self.library.sid(owner)
             self.library.sid(group)
             brought = self.library.layout(creator) if creator else b""
-            layout = self.library.layout(parent)
-            return (layout, len(layout), brought, len(brought), owner, len(owner), group, len(group), kind, mapping)
+            return (brought, len(brought), owner, len(owner), group, len(group), kind, mapping)
 
-        return " ".join([str(kind), str(mapping), *map(shown, (owner, group, creator, parent))]), judge
+        return " ".join([str(kind), str(mapping), *map(shown, (owner, group, creator))]), judge
+
+    def derivation(self):
+        words, given = self.creation()
+        parent = self.inputs.descriptor()
+
+        def judge():
+            made, layout = given(), self.library.layout(parent)
+            return (layout, len(layout), *made)
+
+        return f"{words} {shown(parent)}", judge
 
     def derive(self):
         words, judge = self.derivation()
@@ -671,7 +716,8 @@ def words_of_match(match):
 
 
 JOBS = ("version bytes sddl to_sddl explain sid sid_text guid guid_text rights flags rights_text flags_text ace_text"
-        " ace parts build check check_many convert_many reasons derive origins edit order run").split()
+        " ace parts build check check_many check_column convert_many reasons derive derive_many origins edit order run"
+        ).split()
 
 
 def as_it_is(_, answer):

@@ -38,6 +38,8 @@ DEFINITIONS = {
     "sdtool_next_ace": "next", "sdtool_check_many": "AnswersMany", "sdtool_token_read": "ReadsToken",
     "sdtool_check_with": "checked_held", "sdtool_build": "built", "sdtool_run": "Runs", "sdtool_fault_text": "name_of",
     "sdtool_convert_many": "ConvertsMany", "sdtool_convert_many_large": "ConvertsMany",
+    "sdtool_check_column": "AnswersColumn", "sdtool_check_column_large": "AnswersColumn",
+    "sdtool_derive_many": "DerivesMany", "sdtool_derive_many_large": "DerivesMany",
     "sdtool_place": "place_told", "sdtool_sddl_place": "sddl_place_told",
     "sdtool_describe": "described",
     "sdtool_reasons": "explained", "sdtool_reasons_with": "explained_held", "sdtool_derive_origins": "TellsOrigins",

@@ -1,6 +1,7 @@
 mod CheckRows
 mod CountLemmas
 mod DeriveRows
+pub mod DerivedLemmas
 pub mod ManyLemmas
 mod ManyRows
 pub mod MemoryLemmas

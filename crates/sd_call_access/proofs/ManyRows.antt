@@ -22,17 +22,17 @@ abbrev denied : VerdictOutcome
 denied = record { outcome = done 0; mask = 3; granted = false }
 
 grants : (holder : Holder) (ask : Asked) (d : Bytes) → verdict_on d.bytes.now holder ask ≡ Ok (Granted 3)
-    → judged_by holder ask d ≡ granted
+    → judged_by holder ask (Ok d.bytes.now) ≡ granted
 grants holder ask d h = rw h refl
 
 denies : (holder : Holder) (ask : Asked) (d : Bytes) → verdict_on d.bytes.now holder ask ≡ Ok (Denied 3)
-    → judged_by holder ask d ≡ denied
+    → judged_by holder ask (Ok d.bytes.now) ≡ denied
 denies holder ask d h = rw h refl
 
 -- A fault of one check is told in its own verdict, with each of its fields. This one has an argument and an entry.
 keeps_each_field_of_a_fault : (holder : Holder) (ask : Asked) (d : Bytes)
     → verdict_on d.bytes.now holder ask ≡ Err (call.Argument which.Sid 7)
-    → judged_by holder ask d ≡ record {
+    → judged_by holder ask (Ok d.bytes.now) ≡ record {
       outcome = record { fault = 70; part = 0; other_part = 0; argument = 12; entry = 7; length = 0 };
       mask = 0;
       granted = false;
@@ -41,7 +41,7 @@ keeps_each_field_of_a_fault holder ask d h = rw h refl
 
 -- SDTOOL_MOST_BYTES: one byte more is too long
 too_many_bytes : (holder : Holder) (ask : Asked) (d : Bytes) → length d.bytes.now ≡ 131227
-    → judged_by holder ask d
+    → judged_by holder ask (Ok d.bytes.now)
     ≡ record {
       outcome = record { fault = 1; part = 0; other_part = 0; argument = 0; entry = 0; length = 0 };
       mask = 0;

@@ -1,5 +1,6 @@
 pub mod Checks
 pub mod Derivations
+pub mod DerivedMany
 pub mod Many
 pub mod OriginsTold
 pub mod Reasons

@@ -91,8 +91,9 @@ fn give_derived_in(input: &DerivationInput<'_>, buf: &mut SdBuf, output: &mut [u
     }
 }
 
+/// What is made, for whom, and what its generic rights mean.
 #[tactic(auto, unfolding(crate::specs::Derivations::plan_in))]
-fn plan_in(kind: u32, mapping: u32, owner: &[u8], group: &[u8]) -> Result<Plan, CallFault>
+pub(crate) fn plan_in(kind: u32, mapping: u32, owner: &[u8], group: &[u8]) -> Result<Plan, CallFault>
     ensures { result ≡ plan_in kind mapping owner.now group.now }
 {
     let target = target_in(kind)?;
@@ -117,9 +118,9 @@ fn target_in(number: u32) -> Result<Target, CallFault>
     }
 }
 
-// The descriptor that the creator brings: none where the argument is empty.
+/// The descriptor that the creator brings: none where the argument is empty.
 #[tactic(auto, unfolding(crate::specs::Derivations::creator_in))]
-fn creator_in(bytes: &[u8]) -> Result<Option<SdView<'_>>, CallFault>
+pub(crate) fn creator_in(bytes: &[u8]) -> Result<Option<SdView<'_>>, CallFault>
     ensures { result ≡ creator_in bytes.now }
 {
     if bytes.is_empty() {

@@ -4,7 +4,9 @@
 mod access;
 mod asker;
 mod bytes;
+mod column_check;
 mod derivations;
+mod derived_many;
 mod many;
 mod origins;
 mod reason;
@@ -17,8 +19,10 @@ mod with_token;
 pub use access::{check_access, check_without_token, verdict_on};
 pub use asker::{AskInput, AskerInput, asker_in, check_asker};
 pub use bytes::Bytes;
+pub use column_check::{ColumnCheck, LargeColumnCheck};
 pub use derivations::{NewObject, derive_new};
-pub use many::check_many;
+pub use derived_many::{Creation, Derivation, LargeDerivation, derive_many, derive_many_large};
+pub use many::{check_column, check_many};
 pub use origins::{MOST_DERIVED_ACES, OriginsOutcome, derive_origins};
 pub use reason::{
     ReasonTold, explain_access, explain_with_token, explain_without_token, request_of, tell_none,

@@ -74,6 +74,14 @@ func (r *reader) bytes() []byte {
 	return bytes
 }
 
+func (r *reader) column() sdtool.Column {
+	column := sdtool.Column{Data: r.bytes()}
+	for ends := r.bytes(); len(ends) > 0; ends = ends[8:] {
+		column.Offsets = append(column.Offsets, int64(binary.LittleEndian.Uint64(ends)))
+	}
+	return column
+}
+
 func (r *reader) text() string {
 	return string(r.bytes())
 }
@@ -256,6 +264,30 @@ func ofACL(acl sdtool.ACL) string {
 	return "[" + strings.Join(aces, ";") + "]"
 }
 
+func ofAnswers(answers []sdtool.Answer) string {
+	var said []string
+	for _, answer := range answers {
+		if answer.Err != nil {
+			said = append(said, ofFault(answer.Err))
+		} else {
+			said = append(said, ofVerdict(answer.Verdict))
+		}
+	}
+	return strings.Join(said, " | ")
+}
+
+func ofColumn(made sdtool.Column, faults map[int]error) string {
+	var said []string
+	for row := 0; row+1 < len(made.Offsets); row++ {
+		answer := ofBytes(made.Data[made.Offsets[row]:made.Offsets[row+1]])
+		if faults[row] != nil {
+			answer = ofFault(faults[row]) + strings.TrimPrefix(answer, "-")
+		}
+		said = append(said, answer)
+	}
+	return strings.Join(said, " | ")
+}
+
 func ofVerdict(verdict sdtool.Verdict) string {
 	return fmt.Sprintf("%d %d", ofFlag(verdict.Granted), verdict.Mask)
 }
@@ -377,37 +409,22 @@ func answered(job string, r *reader) (string, error) {
 			all[index] = r.bytes()
 		}
 		answers, err := token.Checker(request).CheckMany(all)
-		var said []string
-		for _, answer := range answers {
-			if answer.Err != nil {
-				said = append(said, ofFault(answer.Err))
-			} else {
-				said = append(said, ofVerdict(answer.Verdict))
-			}
-		}
-		return strings.Join(said, " | "), err
+		return ofAnswers(answers), err
+	case "check-column":
+		token, request, column := r.token(), r.request(), r.column()
+		answers, err := token.Checker(request).CheckColumn(column)
+		return ofAnswers(answers), err
 	case "convert-many":
 		kind, numeric := conversions[r.word()], false
 		if kind == sdtool.ToSDDL {
 			numeric = r.flag()
 		}
-		domain, column := r.sidOrNone(), sdtool.Column{Data: r.bytes()}
-		for ends := r.bytes(); len(ends) > 0; ends = ends[8:] {
-			column.Offsets = append(column.Offsets, int64(binary.LittleEndian.Uint64(ends)))
-		}
+		domain, column := r.sidOrNone(), r.column()
 		if r.fault != nil {
 			return "", nil
 		}
 		made, faults, err := column.Convert(kind, domain, numeric)
-		var said []string
-		for row := 0; row+1 < len(made.Offsets); row++ {
-			answer := ofBytes(made.Data[made.Offsets[row]:made.Offsets[row+1]])
-			if faults[row] != nil {
-				answer = ofFault(faults[row]) + strings.TrimPrefix(answer, "-")
-			}
-			said = append(said, answer)
-		}
-		return strings.Join(said, " | "), err
+		return ofColumn(made, faults), err
 	case "reasons":
 		token, request := r.token(), r.request()
 		descriptor := r.descriptor()
@@ -427,6 +444,13 @@ func answered(job string, r *reader) (string, error) {
 		}
 		descriptor, err := parent.Derive(made)
 		return ofBytes(descriptor.Bytes()), err
+	case "derive-many":
+		made, parents := r.creation(), r.column()
+		if r.fault != nil {
+			return "", nil
+		}
+		children, faults, err := parents.Derive(made)
+		return ofColumn(children, faults), err
 	case "origins":
 		made, parent := r.creation(), r.descriptor()
 		if r.fault != nil {

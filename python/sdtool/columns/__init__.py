@@ -25,7 +25,7 @@ Outcome(answer=None, number=5, name='short', offset=5)
 import hashlib
 import itertools
 import sys
-from typing import Any, Callable, Iterable, Iterator, List, Literal, NamedTuple, Optional, Tuple
+from typing import Any, Callable, Iterable, List, Literal, NamedTuple, Optional, Tuple
 
 from .. import _arguments, _library
 from .._arguments import GuidLike, sid_or_none
@@ -112,7 +112,7 @@ def derive(column: Any, owner: SidLike, group: SidLike, *, kind: Kind = "file",
     except Fault as fault:
         if brought is not None:
             raise fault.of("creator") from None
-    return _answered(column, _each(lambda value: _library.derive(value, *arguments)), "z", faults)
+    return _answered(column, _in_pieces(lambda values: _library.derive_many(values, *arguments)), "z", faults)
 
 
 def aces(column: Any, *, faults: Faults = "null") -> Any:
@@ -145,22 +145,13 @@ def _digest_of(found: Any) -> Any:
     return found if isinstance(found, Fault) else hashlib.blake2b(found, digest_size=_DIGEST_BYTES).digest()
 
 
-def _each(call: Callable[[Any], Any]) -> _Answers:
-    """What a call gives for each value."""
-    def answers(values: List[Any]) -> Iterator[Any]:
-        for value in values:
-            try:
-                yield call(value)
-            except Fault as fault:
-                yield fault.with_traceback(None)
-    return answers
+def _in_pieces(call: Callable[[List[Any]], List[Any]]) -> _Answers:
+    return lambda values: itertools.chain.from_iterable(call(values[at:at + _AT_ONCE])
+                                                        for at in range(0, len(values), _AT_ONCE))
 
 
 def _converted(kind: int, domain: Optional[bytes] = None, is_numeric: bool = False) -> _Answers:
-    def answers(values: List[Any]) -> Iterable[Any]:
-        return itertools.chain.from_iterable(_library.convert_many(kind, values[at:at + _AT_ONCE], domain, is_numeric)
-                                             for at in range(0, len(values), _AT_ONCE))
-    return answers
+    return _in_pieces(lambda values: _library.convert_many(kind, values, domain, is_numeric))
 
 
 _normalized = _converted(_NORMALIZE)

@@ -43,6 +43,12 @@ impl Words<'_> {
         (0..digits.len()).step_by(2).map(|at| u8::from_str_radix(&digits[at..at + 2], 16).unwrap()).collect()
     }
 
+    /// The bytes of a column, and its offsets.
+    fn column(&mut self) -> (Vec<u8>, Vec<u64>) {
+        let (data, offsets) = (self.bytes(), self.bytes());
+        (data, offsets.chunks_exact(8).map(|offset| u64::from_le_bytes(offset.try_into().unwrap())).collect())
+    }
+
     fn text(&mut self) -> String {
         String::from_utf8(self.bytes()).expect("this is no UTF-8")
     }
@@ -216,6 +222,20 @@ fn of_verdict(verdict: Verdict) -> String {
     format!("{} {}", verdict.granted as u8, verdict.mask)
 }
 
+fn of_verdicts(answers: &[Result<Verdict, Fault>]) -> String {
+    let one = |answer: &Result<Verdict, Fault>| answer.as_ref().map_or_else(of_fault, |it| of_verdict(*it));
+    answers.iter().map(one).collect::<Vec<_>>().join(" | ")
+}
+
+fn of_column(found: &Converted) -> String {
+    let ends = found.offsets.windows(2).map(|ends| hex(&found.data[ends[0] as usize..ends[1] as usize]));
+    let mut said: Vec<_> = ends.collect();
+    for (row, fault) in &found.faults {
+        said[*row] = format!("{}{}", of_fault(fault), said[*row].trim_start_matches('-'));
+    }
+    said.join(" | ")
+}
+
 fn of_counts(counts: &[u32]) -> String {
     counts.iter().map(u32::to_string).collect::<Vec<_>>().join(",")
 }
@@ -332,9 +352,12 @@ fn answered(job: &str, words: &mut Words) -> Answer {
         "check-many" => {
             let checker = Checker::new(&words.token()?, &words.request()?);
             let all: Vec<_> = (0..words.number()).map(|_| words.bytes()).collect();
-            let answers = checker.check_many(&all.iter().map(|bytes| &**bytes).collect::<Vec<_>>())?;
-            let one = |answer: &Result<Verdict, Fault>| answer.as_ref().map_or_else(of_fault, |it| of_verdict(*it));
-            answers.iter().map(one).collect::<Vec<_>>().join(" | ")
+            of_verdicts(&checker.check_many(&all.iter().map(|bytes| &**bytes).collect::<Vec<_>>())?)
+        }
+        "check-column" => {
+            let checker = Checker::new(&words.token()?, &words.request()?);
+            let (data, offsets) = words.column();
+            of_verdicts(&checker.check_column(&data, &offsets)?)
         }
         "convert-many" => {
             let conversion = match words.word() {
@@ -342,16 +365,8 @@ fn answered(job: &str, words: &mut Words) -> Answer {
                 "from-sddl" => Conversion::FromSddl,
                 _ => Conversion::Normalize,
             };
-            let (domain, data, offsets) = (words.sid_or_none()?, words.bytes(), words.bytes());
-            let offsets: Vec<_> =
-                offsets.chunks_exact(8).map(|offset| u64::from_le_bytes(offset.try_into().unwrap())).collect();
-            let found = convert_column(conversion, domain.as_ref(), &data, &offsets)?;
-            let ends = found.offsets.windows(2).map(|ends| hex(&found.data[ends[0] as usize..ends[1] as usize]));
-            let mut said: Vec<_> = ends.collect();
-            for (row, fault) in &found.faults {
-                said[*row] = format!("{}{}", of_fault(fault), said[*row].trim_start_matches('-'));
-            }
-            said.join(" | ")
+            let (domain, (data, offsets)) = (words.sid_or_none()?, words.column());
+            of_column(&convert_column(conversion, domain.as_ref(), &data, &offsets)?)
         }
         "reasons" => {
             let checker = Checker::new(&words.token()?, &words.request()?);
@@ -361,6 +376,10 @@ fn answered(job: &str, words: &mut Words) -> Answer {
         "derive" => {
             let made = words.creation()?;
             hex(words.descriptor()?.derive(&made)?.as_bytes())
+        }
+        "derive-many" => {
+            let (made, (data, offsets)) = (words.creation()?, words.column());
+            of_column(&derive_column(&made, &data, &offsets)?)
         }
         "origins" => {
             let made = words.creation()?;

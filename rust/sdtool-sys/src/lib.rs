@@ -262,6 +262,44 @@ pub struct sdtool_bytes {
 
 #[repr(C)]
 #[derive(Clone, Copy, Debug)]
+pub struct sdtool_column {
+    pub data: sdtool_bytes,
+    pub offsets: *const u32,
+    pub offset_count: usize,
+}
+
+#[repr(C)]
+#[derive(Clone, Copy, Debug)]
+pub struct sdtool_large_column {
+    pub data: sdtool_bytes,
+    pub offsets: *const u64,
+    pub offset_count: usize,
+}
+
+#[repr(C)]
+#[derive(Clone, Copy, Debug)]
+pub struct sdtool_column_check {
+    pub descriptors: sdtool_column,
+    pub sids: sdtool_bytes,
+    pub entries: sdtool_bytes,
+    pub object: sdtool_bytes,
+    pub principal_self: sdtool_bytes,
+    pub request: sdtool_request,
+}
+
+#[repr(C)]
+#[derive(Clone, Copy, Debug)]
+pub struct sdtool_large_column_check {
+    pub descriptors: sdtool_large_column,
+    pub sids: sdtool_bytes,
+    pub entries: sdtool_bytes,
+    pub object: sdtool_bytes,
+    pub principal_self: sdtool_bytes,
+    pub request: sdtool_request,
+}
+
+#[repr(C)]
+#[derive(Clone, Copy, Debug)]
 pub struct sdtool_conversion {
     pub data: sdtool_bytes,
     pub offsets: *const u32,
@@ -282,6 +320,32 @@ pub struct sdtool_large_conversion {
     pub begin: usize,
     pub kind: u32,
     pub options: u32,
+}
+
+#[repr(C)]
+#[derive(Clone, Copy, Debug)]
+pub struct sdtool_creation {
+    pub creator: sdtool_bytes,
+    pub owner: sdtool_bytes,
+    pub group: sdtool_bytes,
+    pub kind: u32,
+    pub mapping: u32,
+}
+
+#[repr(C)]
+#[derive(Clone, Copy, Debug)]
+pub struct sdtool_derivation {
+    pub parents: sdtool_column,
+    pub creation: sdtool_creation,
+    pub begin: usize,
+}
+
+#[repr(C)]
+#[derive(Clone, Copy, Debug)]
+pub struct sdtool_large_derivation {
+    pub parents: sdtool_large_column,
+    pub creation: sdtool_creation,
+    pub begin: usize,
 }
 
 #[repr(C)]
@@ -513,6 +577,16 @@ extern "C" {
         verdicts: *mut sdtool_verdict,
         verdict_count: usize,
     ) -> sdtool_outcome;
+    pub fn sdtool_check_column(
+        check: *const sdtool_column_check,
+        verdicts: *mut sdtool_verdict,
+        verdict_count: usize,
+    ) -> sdtool_outcome;
+    pub fn sdtool_check_column_large(
+        check: *const sdtool_large_column_check,
+        verdicts: *mut sdtool_verdict,
+        verdict_count: usize,
+    ) -> sdtool_outcome;
     pub fn sdtool_convert_many(
         conversion: *const sdtool_conversion,
         out: *mut u8,
@@ -524,6 +598,24 @@ extern "C" {
     ) -> sdtool_outcome;
     pub fn sdtool_convert_many_large(
         conversion: *const sdtool_large_conversion,
+        out: *mut u8,
+        out_size: usize,
+        out_offsets: *mut u64,
+        out_offset_count: usize,
+        outcomes: *mut sdtool_outcome,
+        outcome_count: usize,
+    ) -> sdtool_outcome;
+    pub fn sdtool_derive_many(
+        derivation: *const sdtool_derivation,
+        out: *mut u8,
+        out_size: usize,
+        out_offsets: *mut u32,
+        out_offset_count: usize,
+        outcomes: *mut sdtool_outcome,
+        outcome_count: usize,
+    ) -> sdtool_outcome;
+    pub fn sdtool_derive_many_large(
+        derivation: *const sdtool_large_derivation,
         out: *mut u8,
         out_size: usize,
         out_offsets: *mut u64,

@@ -296,68 +296,90 @@ pub(crate) fn check_many(
     asked: Question,
 ) -> Result<Vec<sys::sdtool_verdict>, Outcome> {
     let given: Vec<_> = descriptors.iter().copied().map(bytes_of).collect();
-    let mut verdicts = vec![sys::sdtool_verdict::zeros(); given.len()];
-    // SAFETY: each pointer is that of a slice that lives until the call has returned, and beside it is its length.
-    let outcome = unsafe {
-        sys::sdtool_check_many(
-            given.as_ptr(),
-            given.len(),
-            sids.as_ptr(),
-            sids.len(),
-            entries.as_ptr(),
-            entries.len(),
-            asked.object.as_ptr(),
-            asked.object.len(),
-            asked.principal_self.as_ptr(),
-            asked.principal_self.len(),
-            asked.request,
-            verdicts.as_mut_ptr(),
-            verdicts.len(),
-        )
+    let (descriptors, count) = (given.as_ptr(), given.len());
+    verdicts(count, |room| {
+        // SAFETY: each pointer is that of a slice that lives until the call has returned, and beside it is its length.
+        unsafe {
+            sys::sdtool_check_many(
+                descriptors,
+                count,
+                sids.as_ptr(),
+                sids.len(),
+                entries.as_ptr(),
+                entries.len(),
+                asked.object.as_ptr(),
+                asked.object.len(),
+                asked.principal_self.as_ptr(),
+                asked.principal_self.len(),
+                asked.request,
+                room.as_mut_ptr(),
+                room.len(),
+            )
+        }
+    })
+}
+
+pub(crate) fn check_column(
+    (data, offsets): Rows,
+    (sids, entries): (&[u8], &[u8]),
+    asked: Question,
+) -> Result<Vec<sys::sdtool_verdict>, Outcome> {
+    let check = sys::sdtool_large_column_check {
+        descriptors: column_of(data, offsets),
+        sids: bytes_of(sids),
+        entries: bytes_of(entries),
+        object: bytes_of(asked.object),
+        principal_self: bytes_of(asked.principal_self),
+        request: *asked.request,
     };
+    verdicts(offsets.len().saturating_sub(1), |room| {
+        // SAFETY: as in check_many.
+        unsafe { sys::sdtool_check_column_large(&check, room.as_mut_ptr(), room.len()) }
+    })
+}
+
+fn verdicts(
+    count: usize,
+    call: impl FnOnce(&mut [sys::sdtool_verdict]) -> Outcome,
+) -> Result<Vec<sys::sdtool_verdict>, Outcome> {
+    let mut verdicts = vec![sys::sdtool_verdict::zeros(); count];
+    let outcome = call(&mut verdicts);
     match outcome.fault {
         sys::SDTOOL_OK => Ok(verdicts),
         _ => Err(outcome),
     }
 }
 
+/// The bytes and the offsets of a column.
+pub(crate) type Rows<'a> = (&'a [u8], &'a [u64]);
+
+fn column_of(data: &[u8], offsets: &[u64]) -> sys::sdtool_large_column {
+    sys::sdtool_large_column { data: bytes_of(data), offsets: offsets.as_ptr(), offset_count: offsets.len() }
+}
+
 /// The answers to the rows of a column, their offsets, and what the library says of each row.
 pub(crate) type Answers = (Vec<u8>, Vec<u64>, Vec<Outcome>);
 
-pub(crate) fn convert_many(
-    (kind, options): (u32, u32),
-    domain: &[u8],
-    data: &[u8],
-    offsets: &[u64],
+/// Where a call writes its answers: they begin at a place of the bytes.
+struct Room<'a> {
+    begin: usize,
+    answers: &'a mut [u8],
+    ends: &'a mut [u64],
+    outcomes: &'a mut [Outcome],
+}
+
+/// The answers of a call that is asked about the rows from an offset on. It goes on where there was too little room.
+fn answers(
+    (data, offsets): Rows,
+    call: impl Fn(sys::sdtool_large_column, Room) -> Outcome,
 ) -> Result<Answers, Outcome> {
     let mut answers = vec![0; data.len() + 1024];
     let mut ends = vec![0_u64; offsets.len()];
     let mut outcomes = vec![Outcome::zeros(); offsets.len().saturating_sub(1)];
     let (mut row, mut begin) = (0, 0);
     loop {
-        let rest = &offsets[row..];
-        let asked = sys::sdtool_large_conversion {
-            data: bytes_of(data),
-            offsets: rest.as_ptr(),
-            offset_count: rest.len(),
-            domain: bytes_of(domain),
-            begin,
-            kind,
-            options,
-        };
-        let (room, told) = (&mut ends[row..], &mut outcomes[row..]);
-        // SAFETY: each pointer is that of a slice that lives until the call has returned, and beside it is its length.
-        let outcome = unsafe {
-            sys::sdtool_convert_many_large(
-                &asked,
-                answers.as_mut_ptr(),
-                answers.len(),
-                room.as_mut_ptr(),
-                room.len(),
-                told.as_mut_ptr(),
-                told.len(),
-            )
-        };
+        let room = Room { begin, answers: &mut answers, ends: &mut ends[row..], outcomes: &mut outcomes[row..] };
+        let outcome = call(column_of(data, &offsets[row..]), room);
         match outcome.fault {
             sys::SDTOOL_OK => {
                 answers.truncate(outcome.length);
@@ -371,6 +393,47 @@ pub(crate) fn convert_many(
             _ => return Err(outcome),
         }
     }
+}
+
+pub(crate) fn convert_many((kind, options): (u32, u32), domain: &[u8], rows: Rows) -> Result<Answers, Outcome> {
+    answers(rows, |column, room| {
+        let sys::sdtool_large_column { data, offsets, offset_count } = column;
+        let (domain, begin) = (bytes_of(domain), room.begin);
+        let asked = sys::sdtool_large_conversion { data, offsets, offset_count, domain, begin, kind, options };
+        // SAFETY: each pointer is that of a slice that lives until the call has returned, and beside it is its length.
+        unsafe {
+            sys::sdtool_convert_many_large(
+                &asked,
+                room.answers.as_mut_ptr(),
+                room.answers.len(),
+                room.ends.as_mut_ptr(),
+                room.ends.len(),
+                room.outcomes.as_mut_ptr(),
+                room.outcomes.len(),
+            )
+        }
+    })
+}
+
+/// The parent of the derivation is not looked at: each row is one.
+pub(crate) fn derive_many(given: &Derivation, rows: Rows) -> Result<Answers, Outcome> {
+    let (creator, owner, group) = (bytes_of(given.creator), bytes_of(given.owner), bytes_of(given.group));
+    let creation = sys::sdtool_creation { creator, owner, group, kind: given.kind, mapping: given.mapping };
+    answers(rows, |parents, room| {
+        let asked = sys::sdtool_large_derivation { parents, creation, begin: room.begin };
+        // SAFETY: as in convert_many.
+        unsafe {
+            sys::sdtool_derive_many_large(
+                &asked,
+                room.answers.as_mut_ptr(),
+                room.answers.len(),
+                room.ends.as_mut_ptr(),
+                room.ends.len(),
+                room.outcomes.as_mut_ptr(),
+                room.outcomes.len(),
+            )
+        }
+    })
 }
 
 pub(crate) const RIGHTS: usize = sys::SDTOOL_RIGHTS as usize;

@@ -1,4 +1,5 @@
 use crate::calls;
+use crate::descriptor::Creation;
 use crate::fault::Fault;
 use crate::sid::Sid;
 use sdtool_sys as sys;
@@ -15,7 +16,7 @@ pub enum Conversion {
     Normalize,
 }
 
-/// A column after a conversion, with offsets of 64 bits as Arrow has it.
+/// A column of answers, with offsets of 64 bits as Arrow has it.
 #[derive(Clone, Debug, PartialEq, Eq)]
 pub struct Converted {
     pub data: Vec<u8>,
@@ -51,16 +52,41 @@ pub fn convert_column(
         Conversion::Normalize => (sys::SDTOOL_CONVERT_NORMALIZE, 0),
     };
     let of = domain.map_or(&[][..], Sid::as_bytes);
-    let (made, ends, outcomes) = calls::convert_many((kind, options), of, data, offsets).map_err(Fault::of)?;
-    let fault = |(row, &outcome): (usize, &calls::Outcome)| match outcome.fault {
-        sys::SDTOOL_OK => None,
-        sys::SDTOOL_ARGUMENT => Some((row, Fault::of(outcome))),
-        _ => {
-            let given = &data[offsets[row] as usize..offsets[row + 1] as usize];
-            let is_text = conversion == Conversion::FromSddl;
-            Some((row, if is_text { Fault::of_sddl(outcome, given, of) } else { Fault::of_bytes(outcome, given) }))
-        }
-    };
+    let rows = (data, offsets);
+    let answers = calls::convert_many((kind, options), of, rows).map_err(Fault::of)?;
+    Ok(converted(answers, rows, |outcome, given| match conversion {
+        Conversion::FromSddl => Fault::of_sddl(outcome, given, of),
+        _ => Fault::of_bytes(outcome, given),
+    }))
+}
+
+/// The descriptor of a new object for each row of a column of parents, as by
+/// [`derive`](crate::SecurityDescriptor::derive).
+pub fn derive_column(made: &Creation, data: &[u8], offsets: &[u64]) -> Result<Converted, Fault> {
+    let answers = calls::derive_many(&made.derivation(), (data, offsets)).map_err(Fault::of)?;
+    Ok(converted(answers, (data, offsets), Fault::of_bytes))
+}
+
+fn converted(
+    (made, ends, outcomes): calls::Answers,
+    rows: calls::Rows,
+    of: impl Fn(calls::Outcome, &[u8]) -> Fault,
+) -> Converted {
+    let fault = |(row, &outcome): (usize, &calls::Outcome)| fault_of(outcome, rows, row, &of).map(|fault| (row, fault));
     let faults = outcomes.iter().enumerate().filter_map(fault).collect();
-    Ok(Converted { data: made, offsets: ends, faults })
+    Converted { data: made, offsets: ends, faults }
+}
+
+/// The fault of a row, if it has one.
+pub(crate) fn fault_of(
+    outcome: calls::Outcome,
+    (data, offsets): calls::Rows,
+    row: usize,
+    of: impl Fn(calls::Outcome, &[u8]) -> Fault,
+) -> Option<Fault> {
+    match outcome.fault {
+        sys::SDTOOL_OK => None,
+        sys::SDTOOL_ARGUMENT => Some(Fault::of(outcome)),
+        _ => Some(of(outcome, &data[offsets[row] as usize..offsets[row + 1] as usize])),
+    }
 }

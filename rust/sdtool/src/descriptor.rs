@@ -77,6 +77,21 @@ impl Creation {
     pub fn new(owner: Sid, group: Sid, kind: Kind) -> Creation {
         Creation { owner, group, kind, creator: None, mapping: Mapping::File }
     }
+
+    /// What the library gets of it, without a parent.
+    pub(crate) fn derivation(&self) -> calls::Derivation<'_> {
+        calls::Derivation {
+            parent: &[],
+            creator: self.creator.as_ref().map_or(&[], |creator| &creator.layout),
+            owner: self.owner.as_bytes(),
+            group: self.group.as_bytes(),
+            kind: match self.kind {
+                Kind::File => sys::SDTOOL_KIND_FILE,
+                Kind::Container => sys::SDTOOL_KIND_CONTAINER,
+            },
+            mapping: self.mapping.number(),
+        }
+    }
 }
 
 /// Where an ACE of a derived descriptor comes from.
@@ -212,17 +227,7 @@ impl SecurityDescriptor {
     }
 
     fn derivation<'a>(&'a self, made: &'a Creation) -> calls::Derivation<'a> {
-        calls::Derivation {
-            parent: &self.layout,
-            creator: made.creator.as_ref().map_or(&[], |creator| &creator.layout),
-            owner: made.owner.as_bytes(),
-            group: made.group.as_bytes(),
-            kind: match made.kind {
-                Kind::File => sys::SDTOOL_KIND_FILE,
-                Kind::Container => sys::SDTOOL_KIND_CONTAINER,
-            },
-            mapping: made.mapping.number(),
-        }
+        calls::Derivation { parent: &self.layout, ..made.derivation() }
     }
 
     /// It after changes, made one after the other. The fault of a change that can't be made has its number in

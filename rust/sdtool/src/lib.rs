@@ -19,7 +19,7 @@ mod token;
 
 pub use ace::{flags_from_text, flags_to_text, rights_from_text, rights_to_text, Ace, Acl};
 pub use change::{AclState, Change, Edited, Match, PutAt, Setting, Which};
-pub use column::{convert_column, Conversion, Converted};
+pub use column::{convert_column, derive_column, Conversion, Converted};
 pub use descriptor::{Creation, Kind, Order, Origin, Origins, Parts, SecurityDescriptor};
 pub use fault::{Fault, Field, Part, Place};
 pub use sdtool_sys as sys;

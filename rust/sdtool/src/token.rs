@@ -1,4 +1,5 @@
 use crate::calls::{self, Question, RIGHTS};
+use crate::column::fault_of;
 use crate::descriptor::SecurityDescriptor;
 use crate::fault::Fault;
 use crate::sid::{bytes_of, Guid, Sid};
@@ -193,6 +194,16 @@ impl Checker {
         let token = (&*self.read.sids, &*self.read.entries);
         let verdicts = calls::check_many(descriptors, token, self.question()).map_err(Fault::of)?;
         Ok(verdicts.iter().zip(descriptors).map(|(verdict, bytes)| verdict_of(verdict, bytes)).collect())
+    }
+
+    /// The same for the rows of a column. Row `I` is the bytes of `data` from `offsets[I]` up to `offsets[I + 1]`.
+    pub fn check_column(&self, data: &[u8], offsets: &[u64]) -> Result<Vec<Result<Verdict, Fault>>, Fault> {
+        let (token, rows) = ((&*self.read.sids, &*self.read.entries), (data, offsets));
+        let verdicts = calls::check_column(rows, token, self.question()).map_err(Fault::of)?;
+        let answer = |(row, verdict): (usize, &sys::sdtool_verdict)| {
+            fault_of(verdict.outcome, rows, row, Fault::of_bytes).map_or_else(|| verdict_of(verdict, &[]), Err)
+        };
+        Ok(verdicts.iter().enumerate().map(answer).collect())
     }
 
     /// Why the token has each of the 25 rights or not, whatever is wanted.

@@ -208,6 +208,9 @@ namespace Sdtool
                 case "derive":
                     return w.Derivation((parent, owner, group, kind, creator, mapping) =>
                         Hex(parent.Derive(owner, group, kind, creator, mapping).GetBinaryForm()));
+                case "derive-many":
+                    return w.Creation((owner, group, kind, creator, mapping) =>
+                        OfColumn(w.Column().Derive(owner, group, kind, creator, mapping)));
                 case "origins":
                     return w.Derivation((parent, owner, group, kind, creator, mapping) =>
                     {
@@ -227,10 +230,11 @@ namespace Sdtool
             Conversion conversion = job == "to-sddl" ? Conversion.ToSddl
                                   : job == "from-sddl" ? Conversion.FromSddl : Conversion.Normalize;
             Sid domain = w.SidOrNone();
-            byte[] data = w.Bytes(), ends = w.Bytes();
-            int[] offsets = Enumerable.Range(0, ends.Length / 8).Select(at => BitConverter.ToInt32(ends, 8 * at))
-                                      .ToArray();
-            Column made = new Column(data, offsets).Convert(conversion, domain, isNumeric);
+            return OfColumn(w.Column().Convert(conversion, domain, isNumeric));
+        }
+
+        private static string OfColumn(Column made)
+        {
             return string.Join(" | ", Enumerable.Range(0, made.Count).Select(row =>
             {
                 Exception fault;
@@ -253,6 +257,8 @@ namespace Sdtool
                     return VerdictOf(checker.Check(w.Bytes()));
                 case "check-many":
                     return string.Join(" | ", checker.CheckMany(w.Many(w.Bytes).ToArray()).Select(VerdictOf));
+                case "check-column":
+                    return string.Join(" | ", checker.CheckMany(w.Column()).Select(VerdictOf));
                 default:
                     SecurityDescriptor descriptor = w.Descriptor();
                     return string.Join(" ", checker.GetReasons(descriptor).Select(one => ReasonOf(one, descriptor)));
@@ -357,6 +363,9 @@ namespace Sdtool
         {
             return data.Length == 0 ? "-" : BitConverter.ToString(data).Replace("-", "").ToLowerInvariant();
         }
+
+        private delegate string Creating(Sid owner, Sid group, ObjectKind kind, SecurityDescriptor creator,
+                                         Mapping mapping);
 
         private delegate string Deriving(SecurityDescriptor parent, Sid owner, Sid group, ObjectKind kind,
                                          SecurityDescriptor creator, Mapping mapping);
@@ -489,14 +498,27 @@ namespace Sdtool
                 return new Checker(token, Number(), isMaximum, mapping, objectType, principal);
             }
 
-            internal string Derivation(Deriving call)
+            internal string Creation(Creating call)
             {
                 var kind = (ObjectKind)Number();
                 var mapping = (Mapping)Number();
                 Sid owner = Sid(), group = Sid();
                 byte[] data = Bytes();
                 SecurityDescriptor creator = data.Length == 0 ? null : new SecurityDescriptor(data);
-                return call(Descriptor(), owner, group, kind, creator, mapping);
+                return call(owner, group, kind, creator, mapping);
+            }
+
+            internal string Derivation(Deriving call)
+            {
+                return Creation((owner, group, kind, creator, mapping) =>
+                    call(Descriptor(), owner, group, kind, creator, mapping));
+            }
+
+            internal Column Column()
+            {
+                byte[] data = Bytes(), ends = Bytes();
+                return new Column(data, Enumerable.Range(0, ends.Length / 8)
+                                                  .Select(at => BitConverter.ToInt32(ends, 8 * at)).ToArray());
             }
 
             internal Change Change()

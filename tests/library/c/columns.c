@@ -1,8 +1,9 @@
 /*
  * columns JOB KIND DOMAIN [numeric]
  *
- * Converts the lines of standard input as the rows of a column. KIND is to_sddl, from_sddl or normalize; DOMAIN is hex
- * digits or -. Lines are hex digits, for from_sddl texts.
+ * Asks about the lines of standard input as the rows of a column. KIND is to_sddl, from_sddl, normalize, derive or
+ * check; DOMAIN is hex digits or -. Lines are hex digits, for from_sddl texts. To derive, DOMAIN is the descriptor that
+ * the creator brings, and 'numeric' makes containers.
  *
  *   print    prints the answers: bytes as hex digits, SDDL as it is, a fault as 'error NUMBER PART PART'
  *   lies     the offsets of the rows are random and often wrong
@@ -99,7 +100,17 @@ struct column {
     uint32_t *small;
     size_t rows, begin;
     uint32_t kind, options;
+    struct sdtool_creation creation;
 };
+
+/* Kinds behind those of enum sdtool_conversion_kind. */
+enum {
+    DERIVE = SDTOOL_CONVERT_NORMALIZE + 1,
+    CHECK
+};
+
+static const uint8_t everyone[] = {1, 1, 0, 0, 0, 0, 0, 1, 0, 0, 0, 0};
+static const uint8_t system_sid[] = {1, 1, 0, 0, 0, 0, 0, 5, 18, 0, 0, 0};
 
 /* What is lent to a call, each block of exactly its size, and filled with UNUSED_BYTE. */
 struct lent {
@@ -138,12 +149,31 @@ static void give_back_lent(struct lent *lent)
     release((uint8_t *)lent->outcomes, lent->outcome_count * sizeof *lent->outcomes);
 }
 
+/* Derives from a row on. */
+static struct sdtool_outcome derive(const struct column *c, size_t first, bool is_large, struct lent *lent)
+{
+    struct sdtool_bytes data = {c->data.cells, c->data.size};
+    size_t count = c->rows + 1 - first;
+
+    if (is_large) {
+        struct sdtool_large_derivation asked = {{data, c->offsets + first, count}, c->creation, c->begin};
+        return sdtool_derive_many_large(&asked, lent->out, lent->size, lent->offsets + first,
+                                        lent->offset_count - first, lent->outcomes + first,
+                                        lent->outcome_count - first);
+    }
+    struct sdtool_derivation asked = {{data, c->small + first, count}, c->creation, c->begin};
+    return sdtool_derive_many(&asked, lent->out, lent->size, lent->small + first, lent->offset_count - first,
+                              lent->outcomes + first, lent->outcome_count - first);
+}
+
 /* Converts from a row on, with offsets of 64 bits or of 32. */
 static struct sdtool_outcome convert(const struct column *c, size_t first, bool is_large, struct lent *lent)
 {
     struct sdtool_bytes data = {c->data.cells, c->data.size}, domain = {c->domain.cells, c->domain.size};
     size_t count = c->rows + 1 - first;
 
+    if (c->kind == DERIVE)
+        return derive(c, first, is_large, lent);
     if (is_large) {
         struct sdtool_large_conversion asked = {data, c->offsets + first, count, domain, c->begin, c->kind, c->options};
         return sdtool_convert_many_large(&asked, lent->out, lent->size, lent->offsets + first,
@@ -175,13 +205,29 @@ static bool is_untouched(const struct lent *lent, bool is_large, size_t offset, 
     return true;
 }
 
+static bool is_row(const struct column *c, size_t row)
+{
+    return c->offsets[row] <= c->offsets[row + 1] && c->offsets[row + 1] <= c->data.size;
+}
+
+static struct sdtool_outcome derive_one(const struct column *c, const uint8_t *parent, size_t parent_size, uint8_t *out,
+                                        size_t size)
+{
+    const struct sdtool_creation *made = &c->creation;
+
+    return sdtool_derive(parent, parent_size, made->creator.bytes, made->creator.size, made->owner.bytes,
+                         made->owner.size, made->group.bytes, made->group.size, made->kind, made->mapping, out, size);
+}
+
 /* The call for a row by itself. */
 static struct sdtool_outcome convert_one(const struct column *c, size_t row, uint8_t *out, size_t size)
 {
     uint64_t from = c->offsets[row], to = c->offsets[row + 1];
 
-    if (from > to || to > c->data.size)
+    if (!is_row(c, row))
         return (struct sdtool_outcome){.fault = SDTOOL_ARGUMENT, .argument = SDTOOL_ARGUMENT_OFFSETS};
+    if (c->kind == DERIVE)
+        return derive_one(c, c->data.cells + from, to - from, out, size);
     if (c->kind == SDTOOL_CONVERT_TO_SDDL)
         return sdtool_to_sddl(c->data.cells + from, to - from, c->domain.cells, c->domain.size,
                               c->options == SDTOOL_NUMERIC, out, size);
@@ -307,11 +353,39 @@ static void refuse(const struct column *c, size_t size, size_t offset_count, siz
     }
 }
 
+/* What all new descriptors have in common is refused in this order, the last one first. */
+static void refuse_creations(struct column *c)
+{
+    static const struct sdtool_bytes none = {everyone, 1};
+
+    c->creation.creator = none;
+    refuse(c, 0, 0, 0, SDTOOL_ARGUMENT, SDTOOL_ARGUMENT_CREATOR);
+    c->creation.group = none;
+    refuse(c, 0, 0, 0, SDTOOL_ARGUMENT, SDTOOL_ARGUMENT_GROUP);
+    c->creation.owner = none;
+    refuse(c, 0, 0, 0, SDTOOL_ARGUMENT, SDTOOL_ARGUMENT_OWNER);
+    c->creation.mapping = 3;
+    refuse(c, 0, 0, 0, SDTOOL_ARGUMENT, SDTOOL_ARGUMENT_MAPPING);
+    c->creation.kind = 2;
+    refuse(c, 0, 0, 0, SDTOOL_ARGUMENT, SDTOOL_ARGUMENT_KIND);
+}
+
+static void refuse_conversions(struct column *c)
+{
+    uint8_t none[1] = {1};
+
+    c->domain = (struct bytes){none, 1};
+    refuse(c, 0, 0, 0, SDTOOL_ARGUMENT, SDTOOL_ARGUMENT_DOMAIN);
+    c->options = 2;
+    refuse(c, 0, 0, 0, SDTOOL_ARGUMENT, SDTOOL_ARGUMENT_OPTIONS);
+    c->kind = 5;
+    refuse(c, 0, 0, 0, SDTOOL_ARGUMENT, SDTOOL_ARGUMENT_CONVERSION);
+}
+
 static void refusals(const struct column *column)
 {
     struct column c = *column;
     size_t n = c.rows;
-    uint8_t none[1] = {1};
 
     /* Without memory each other refusal comes first. */
     for (int without = 0; without < 2; without++) {
@@ -324,12 +398,7 @@ static void refusals(const struct column *column)
         c.rows = SIZE_MAX; /* no offset */
         refuse(&c, 100, 1, 1, SDTOOL_ARGUMENT, SDTOOL_ARGUMENT_OFFSETS);
         c.rows = n;
-        c.domain = (struct bytes){none, 1};
-        refuse(&c, 0, 0, 0, SDTOOL_ARGUMENT, SDTOOL_ARGUMENT_DOMAIN);
-        c.options = 2;
-        refuse(&c, 0, 0, 0, SDTOOL_ARGUMENT, SDTOOL_ARGUMENT_OPTIONS);
-        c.kind = 3;
-        refuse(&c, 0, 0, 0, SDTOOL_ARGUMENT, SDTOOL_ARGUMENT_CONVERSION);
+        (c.kind == DERIVE ? refuse_creations : refuse_conversions)(&c);
         c = *column;
     }
     if (CAN_REFUSE) {
@@ -340,12 +409,99 @@ static void refusals(const struct column *column)
     allocations = 0;
     allocated = 0;
     convert_whole(&c, true, whole_size(&c), 0);
-    expect(!CAN_REFUSE || allocated <= 131226 * (1 + (c.kind == SDTOOL_CONVERT_FROM_SDDL ? 2 * n : 0)),
+    /* The calls for single rows, of which there are two each, allocate as much. */
+    expect(!CAN_REFUSE
+               || allocated <= 131226 * (1 + (c.kind == SDTOOL_CONVERT_FROM_SDDL || c.kind == DERIVE ? 2 * n : 0)),
            "the memory of a call");
     /* A column without rows. */
     c.rows = 0;
     convert_whole(&c, false, 0, 0);
     convert_whole(&c, true, 0, 3);
+}
+
+/* Checks. */
+
+static const uint8_t entries[] = {SDTOOL_ENABLED, SDTOOL_ENABLED};
+static const struct sdtool_request request = {{SDTOOL_MAPPING_FILE, 0, 0}, 0, SDTOOL_MAXIMUM};
+
+static uint8_t sids[sizeof everyone + sizeof system_sid];
+
+static struct sdtool_outcome check(const struct column *c, bool is_large, size_t sids_size,
+                                   struct sdtool_verdict *verdicts, size_t room)
+{
+    struct sdtool_bytes data = {c->data.cells, c->data.size}, none = {NULL, 0};
+    struct sdtool_column_check small = {
+        {data, c->small, c->rows + 1}, {sids, sids_size}, {entries, 2}, none, none, request};
+    struct sdtool_large_column_check large = {
+        {data, c->offsets, c->rows + 1}, {sids, sids_size}, {entries, 2}, none, none, request};
+
+    return is_large ? sdtool_check_column_large(&large, verdicts, room) : sdtool_check_column(&small, verdicts, room);
+}
+
+static struct sdtool_verdict check_one(const struct column *c, size_t row)
+{
+    if (!is_row(c, row))
+        return (struct sdtool_verdict){.outcome = {.fault = SDTOOL_ARGUMENT, .argument = SDTOOL_ARGUMENT_OFFSETS}};
+    return sdtool_check(c->data.cells + c->offsets[row], c->offsets[row + 1] - c->offsets[row], sids, sizeof sids,
+                        entries, 2, NULL, 0, NULL, 0, &request);
+}
+
+/* Checks that tell this, with room for so many verdicts, of which the first ones are those of single calls. */
+static void check_rows(const struct column *c, size_t sids_size, size_t room, size_t answered,
+                       struct sdtool_outcome told)
+{
+    for (int is_large = 0; is_large < 2; is_large++) {
+        size_t size = room * sizeof(struct sdtool_verdict);
+        struct sdtool_verdict *verdicts = filled(size);
+        long left = allocations_left;
+        struct sdtool_outcome o = check(c, is_large, sids_size, verdicts, room);
+
+        allocations_left = left;
+        expect(are_same(&o, &told), "the outcome of checks");
+        for (size_t row = 0; row < answered; row++) {
+            struct sdtool_verdict one = check_one(c, row);
+            expect(are_same(&one.outcome, &verdicts[row].outcome) && one.mask == verdicts[row].mask
+                       && one.granted == verdicts[row].granted,
+                   "the verdict on a row is another than that of a single call");
+        }
+        for (size_t i = answered * sizeof *verdicts; i < size; i++)
+            expect(((uint8_t *)verdicts)[i] == UNUSED_BYTE, "something behind the verdicts");
+        release((uint8_t *)verdicts, size);
+    }
+}
+
+static void refuse_checks(struct column *c)
+{
+    size_t n = c->rows, all = sizeof sids;
+    struct sdtool_outcome of_sids = {.fault = SDTOOL_ARGUMENT, .argument = SDTOOL_ARGUMENT_SIDS, .entry = 1};
+    struct sdtool_outcome of_offsets = {.fault = SDTOOL_ARGUMENT, .argument = SDTOOL_ARGUMENT_OFFSETS};
+
+    /* Without memory each other refusal comes first. */
+    for (int without = 0; without < 2; without++) {
+        allocations_left = without ? 0 : -1;
+        check_rows(c, all - 1, n, 0, of_sids);
+        for (size_t room = 0; room < n; room++)
+            check_rows(c, all - 1, room, 0, (struct sdtool_outcome){.fault = SDTOOL_TOO_SMALL, .length = n});
+        c->rows = SIZE_MAX; /* no offset */
+        check_rows(c, all - 1, 1, 0, of_offsets);
+        c->rows = n;
+    }
+    for (int is_large = 0; CAN_REFUSE && is_large < 2; is_large++) {
+        struct sdtool_verdict verdict;
+        size_t rows = c->rows;
+
+        c->rows = 1;
+        allocations_left = 0;
+        struct sdtool_outcome o = check(c, is_large, all, &verdict, 1);
+        expect(is_outcome(&o, SDTOOL_NO_MEMORY, 0, 0, 0), "checks without memory");
+        c->rows = rows;
+    }
+    allocations_left = -1;
+    check_rows(c, all, n + 2, n, (struct sdtool_outcome){.length = n});
+    c->rows = 0;
+    check_rows(c, all, 0, 0, (struct sdtool_outcome){0});
+    check_rows(c, all, 1, 0, (struct sdtool_outcome){0});
+    c->rows = n;
 }
 
 /* Offsets of which many lie. What they reach beyond the data is a page that cannot be touched, with a guard. */
@@ -440,15 +596,15 @@ static struct column read_column(bool is_hex)
 
 int main(int argc, char **argv)
 {
-    static uint8_t domain[SDTOOL_MOST_SID];
-    static const char *const kinds[] = {"to_sddl", "from_sddl", "normalize"};
+    static uint8_t domain[1 << 12];
+    static const char *const kinds[] = {"to_sddl", "from_sddl", "normalize", "derive", "check"};
     uint32_t kind = 0;
 
     if (argc < 4)
         return 2;
     read_environment();
     job = argv[1];
-    while (kind < 2 && strcmp(kinds[kind], argv[2]) != 0)
+    while (kind < CHECK && strcmp(kinds[kind], argv[2]) != 0)
         kind++;
     struct column c = read_column(kind != SDTOOL_CONVERT_FROM_SDDL);
     c.kind = kind;
@@ -458,10 +614,22 @@ int main(int argc, char **argv)
             domain[c.domain.size] = (uint8_t)(16 * digit(argv[3][2 * c.domain.size])
                                               + digit(argv[3][2 * c.domain.size + 1]));
     c.domain.cells = domain;
+    c.creation = (struct sdtool_creation){{c.domain.cells, c.domain.size},
+                                          {everyone, sizeof everyone},
+                                          {system_sid, sizeof system_sid},
+                                          c.options == SDTOOL_NUMERIC ? SDTOOL_KIND_CONTAINER : SDTOOL_KIND_FILE,
+                                          SDTOOL_MAPPING_FILE};
+    memcpy(sids, everyone, sizeof everyone);
+    memcpy(sids + sizeof everyone, system_sid, sizeof system_sid);
     if (strcmp(job, "lies") == 0)
         lies(&c);
     make_small(&c);
-    if (strcmp(job, "refused") == 0) {
+    if (kind == CHECK) {
+        if (strcmp(job, "refused") == 0)
+            refuse_checks(&c);
+        else
+            check_rows(&c, sizeof sids, c.rows, c.rows, (struct sdtool_outcome){.length = c.rows});
+    } else if (strcmp(job, "refused") == 0) {
         refusals(&c);
     } else if (strcmp(job, "small") == 0) {
         small(&c, false);
