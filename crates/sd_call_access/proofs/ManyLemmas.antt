@@ -71,11 +71,12 @@ pub list_judged : (ds : List Bytes) (sids kinds object principal_self : List ℕ
     → Judges (map row_of ds) (row_judged sids kinds object principal_self request) asker old new outcome
     → Judges ds (judged sids kinds object principal_self request) asker old new outcome
 list_judged ds sids kinds object principal_self request (Ok asker) old new outcome h =
-    let n = length-map ds row_of in
-    (h.0 ∙ ap done n,
+    let n = length-map ds row_of in (
+      h.0 ∙ ap done n,
       h.1 ∙ ap (λ (vs : List VerdictOutcome). vs ++ drop (length (map row_of ds)) old)
-      (map_map (row_judged sids kinds object principal_self request) ds)
-      ∙ ap (λ (k : ℕ). map (judged sids kinds object principal_self request) ds ++ drop k old) n)
+          (map_map (row_judged sids kinds object principal_self request) ds)
+          ∙ ap (λ (k : ℕ). map (judged sids kinds object principal_self request) ds ++ drop k old) n,
+    )
 list_judged ds sids kinds object principal_self request (Err fault) old new outcome h = h
 
 pub list_count : (ds : List Bytes) → length (map row_of ds) ≡ length ds

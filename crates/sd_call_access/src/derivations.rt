@@ -93,7 +93,12 @@ fn give_derived_in(input: &DerivationInput<'_>, buf: &mut SdBuf, output: &mut [u
 
 /// What is made, for whom, and what its generic rights mean.
 #[tactic(auto, unfolding(crate::specs::Derivations::plan_in))]
-pub(crate) fn plan_in(kind: u32, mapping: u32, owner: &[u8], group: &[u8]) -> Result<Plan, CallFault>
+pub(crate) fn plan_in(
+    kind: u32,
+    mapping: u32,
+    owner: &[u8],
+    group: &[u8],
+) -> Result<Plan, CallFault>
     ensures { result ≡ plan_in kind mapping owner.now group.now }
 {
     let target = target_in(kind)?;

@@ -186,19 +186,19 @@ fn children_for<'a>(creation: &Creation<'a>, enough: bool) -> Result<Children<'a
 fn children_in<'a>(creation: &Creation<'a>) -> Result<Children<'a>, CallFault>
     ensures { result ≡ children_in creation.now }
 {
-    let plan = plan_in(creation.kind, creation.mapping, creation.owner, creation.group)?;
+    let plan = plan_in(
+        creation.kind,
+        creation.mapping,
+        creation.owner,
+        creation.group,
+    )?;
     let creator = creator_in(creation.creator)?;
     Ok(Children { creator, plan })
 }
 
 // Gives the descriptor that derives from a parent. It is built in the buffer, whatever that holds.
 #[tactic(auto, unfolding(crate::specs::DerivedMany::child_of))]
-fn give_child(
-    children: &Children<'_>,
-    parent: &[u8],
-    buf: &mut SdBuf,
-    output: &mut [u8],
-) -> Outcome
+fn give_child(children: &Children<'_>, parent: &[u8], buf: &mut SdBuf, output: &mut [u8]) -> Outcome
     ensures { Answers (child_of children.now.creator children.now.plan parent.now) output.old output.new result }
 {
     match descriptor_in(parent) {
@@ -213,7 +213,8 @@ fn give_new(
     buf: &mut SdBuf,
     output: &mut [u8],
 ) -> Outcome
-    ensures { Answers (new_layout record { parent = parent.now; creator = children.now.creator; plan = children.now.plan })
+    ensures { Answers (new_layout
+        record { parent = parent.now; creator = children.now.creator; plan = children.now.plan })
         output.old output.new result }
 {
     match derive(parent, children.creator.as_ref(), &children.plan, buf) {

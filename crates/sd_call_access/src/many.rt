@@ -13,9 +13,7 @@ use crate::access::verdict_on;
 use crate::asker::{AskerInput, asker_in, check_asker};
 use crate::bytes::Bytes;
 use crate::verdict::{VerdictOutcome, told};
-use sd_call::{
-    Argument, CallFault, Column, Outcome, done, failed, no_memory, row_at, too_small,
-};
+use sd_call::{Argument, CallFault, Column, Outcome, done, failed, no_memory, row_at, too_small};
 use sd_call_columns::offset_count;
 use sd_check::Ask;
 use sd_sink::NoMemory;

@@ -46,9 +46,9 @@ pub extern "C" fn sdtool_check_column(
     check: &ColumnCheck<'_>,
     verdicts: &mut [VerdictOutcome],
 ) -> Outcome
-    ensures { AnswersColumn (take most_small check.now.descriptors.data.now) check.now.descriptors.offsets.now check.now.sids.now
-        check.now.entries.now check.now.object.now check.now.principal_self.now check.now.request verdicts.old
-        verdicts.new result }
+    ensures { AnswersColumn (take most_small check.now.descriptors.data.now) check.now.descriptors.offsets.now
+        check.now.sids.now check.now.entries.now check.now.object.now check.now.principal_self.now check.now.request
+        verdicts.old verdicts.new result }
 {
     let ask = AskInput {
         object: check.object,

@@ -1,6 +1,6 @@
 -- The rows of a column, and the answers to them.
-use Rattle.std.proofs.Common.{◌≡◌, ◌<◌, ◌+◌, ℕ, suc, zero, List, [], ◌∷◌, length, get_or, map, Result, Ok, Err, refl, ap}
-use Rattle.std.proofs.Common.{◌∙◌, add-one, arith}
+use Rattle.std.proofs.Common.{◌≡◌, ◌<◌, ◌+◌, ℕ, suc, zero, List, [], ◌∷◌, length, get_or, map, Result, Ok, Err, refl}
+use Rattle.std.proofs.Common.{ap, ◌∙◌, add-one, arith}
 use Rattle.std.proofs.lemmas.List.{get_or-map, length-map}
 use Rattle.sd_text.specs.Chains.{and_then}
 use Rattle.sd_call.specs.Columns.{row_between, rows, rows_from}

@@ -9,8 +9,9 @@ returns-in-Ok c =
     let a = c.args in
     let v = a.derivation.now in
     all_derived (asked_large v) (lent a.out.now a.out_offsets.now a.outcomes.now)
-    (lent c.answer_rows_large.new.out c.answer_rows_large.new.out_offsets c.answer_rows_large.new.outcomes) c.answer_rows_large.result
-    c.in-Ok.deriver.children (ap (children_for v.creation) (sym c.has_room-enough.ensures) ∙ c.in-Ok.ensures.exact)
+    (lent c.answer_rows_large.new.out c.answer_rows_large.new.out_offsets c.answer_rows_large.new.outcomes)
+    c.answer_rows_large.result c.in-Ok.deriver.children
+    (ap (children_for v.creation) (sym c.has_room-enough.ensures) ∙ c.in-Ok.ensures.exact)
     (rw (← c.column.ensures.data, ← c.column.ensures.offsets) c.answer_rows_large.ensures)
 
 pub returns-in-Err : goal.returns-in-Err

@@ -10,7 +10,7 @@ write_ends-requires-clause-room g c =
     let held = c.give_rows-ending.ensures.held in
     let told = front_told _ _ _ _ _ _ _ held in
     let count = answer_count (g.A.AnswersRows.answer c.args.answerer.now) rows.column.data.now
-        (numbers rows.column.offsets) c.requires.some in
+    (numbers rows.column.offsets) c.requires.some in
     omega (arith, told.size, held.few, count, c.requires.offsets)
 
 pub write_ends-requires-clause-fits : goal.write_ends-requires-clause-fits

@@ -10,7 +10,7 @@ write_large_ends-requires-clause-room g c =
     let held = c.give_rows-ending.ensures.held in
     let told = front_told _ _ _ _ _ _ _ held in
     let count = answer_count (g.A.AnswersRows.answer c.args.answerer.now) rows.column.data.now
-        (numbers rows.column.offsets) c.requires.some in
+    (numbers rows.column.offsets) c.requires.some in
     omega (arith, told.size, held.few, count, c.requires.offsets)
 
 pub write_large_ends-requires-clause-fits : goal.write_large_ends-requires-clause-fits
@@ -25,7 +25,8 @@ returns g c =
       ending.result.count,
       record {
         holds = ending.ensures.held;
-        offsets = ends_told _ _ _ _ _ _ _ _ _ ending.ensures.held c.write_large_ends.ensures.ends c.write_large_ends.ensures.rest;
+        offsets = ends_told _ _ _ _ _ _ _ _ _ ending.ensures.held c.write_large_ends.ensures.ends
+            c.write_large_ends.ensures.rest;
         ending = ending.ensures.ending;
       },
     )
