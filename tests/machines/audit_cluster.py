@@ -210,7 +210,8 @@ def test_bytes(count, place):
 def judge_end(count, what, ended, status, *words):
     """A run that ends with a sentence, and with nothing in its output but what is whole."""
     told = ended[2].decode().splitlines()
-    count.add(ended[0] == status and told and all(word in told[-1] for word in words), f"{what}: {ended}")
+    is_all = all(line.startswith("sdtool-audit: ") for line in told)
+    count.add(ended[0] == status and told and is_all and all(word in told[-1] for word in words), f"{what}: {ended}")
 
 
 def feeding(place, address, wanted, **others):

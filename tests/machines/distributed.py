@@ -198,6 +198,11 @@ def counts_of(answers, words, data):
     return data.count(b"\n") + (data[-1:] not in (b"", b"\n")), errors
 
 
+def says_only(got):
+    """Whether each line of standard error is one of the run. Neither Dask nor Python says anything beside them."""
+    return all(line.startswith("sdtool.distributed: ") for line in got.stderr.splitlines())
+
+
 def judge_run(count, place, got, out, words, names, what, answers=None):
     """Whether status, answer files and counts are those of one program for each file."""
     statuses, rows = [], []
@@ -210,14 +215,13 @@ def judge_run(count, place, got, out, words, names, what, answers=None):
         count.add(answers.get(os.path.basename(name)) == wanted,
                   f"{what}: {name}: other answers than one program's: {got}")
     is_right = got.status == max(statuses) and got.stdout.splitlines() == rows and len(answers) == len(names)
-    count.add(is_right, f"{what}: {rows} are wanted, {sorted(answers)}: {got}")
+    count.add(is_right and says_only(got), f"{what}: {rows} are wanted, {sorted(answers)}: {got}")
 
 
 def judge_failed(count, got, out, text, done, what, status=3):
     """Whether a run failed with the text, and only what is done has an answer file."""
     is_right = got.status == status and text in got.stderr and set(answers_in(out)) == set(done)
-    count.add(is_right and "Traceback" not in got.stderr,
-              f"{what}: {text!r} is wanted, {sorted(answers_in(out))}: {got}")
+    count.add(is_right and says_only(got), f"{what}: {text!r} is wanted, {sorted(answers_in(out))}: {got}")
 
 
 def random_lines(line, maker, size):
@@ -709,9 +713,7 @@ def test_gone(count, place):
     # The client tries to connect for so long.
     child, out, _ = start_slow_run(place, address, "gone", MANY_BLOCKS, ["--wait", "60"])
     end(scheduler)
-    got = ended(child)
-    ours = [line for line in got.stderr.splitlines() if line.startswith("sdtool.distributed: ")]  # Dask tells of it too
-    judge_failed(count, got._replace(stderr="\n".join(ours)), out, "the scheduler is lost", [], "no scheduler")
+    judge_failed(count, ended(child), out, "the scheduler is lost", [], "no scheduler")
 
 
 def test_wrong_answers(count, place):

@@ -277,8 +277,8 @@ def judge(count, place, what, got, out, answered, named=(), status=None, answers
     wanted = {name: place.wanted(list(words), file) for name, file in answered.items()}
     if status is None:
         status = 3 if named else max([0, *(each[1] for each in wanted.values())])
-    is_right = (answers == {name: each[0] for name, each in wanted.items()}
-                and "Traceback" not in got.stderr + got.stdout)
+    is_right = (answers == {name: each[0] for name, each in wanted.items()} and runs.says_only(got)
+                and "Traceback" not in got.stdout)
     problems = [line for line in got.stderr.splitlines() if "has no answers" in line]
     is_named = len(problems) == len(named) and all(any(name in line for line in problems) for name in named)
     is_told = all(f"{place.folder}/{file}" in got.stdout for file in answered.values())

@@ -1,5 +1,6 @@
 """A Dask scheduler and workers for tests and measurements: processes on 127.0.0.1."""
 import contextlib
+import functools
 import importlib
 import json
 import os
@@ -8,6 +9,7 @@ import shutil
 import signal
 import subprocess
 import sys
+import threading
 import time
 
 import preload
@@ -25,6 +27,17 @@ def python_with_dask(folder):
     return preload.python_with(*PACKAGES, folder=folder)
 
 
+@functools.lru_cache(maxsize=None)
+def running_loop():
+    """A loop for all clients. Dask stops one of its own while something is under way, and Python says that behind the
+    count of a test."""
+    loop, runs = importlib.import_module("tornado.ioloop").IOLoop(make_current=False), threading.Event()
+    loop.add_callback(runs.set)
+    threading.Thread(target=loop.start, daemon=True).start()
+    runs.wait()
+    return loop
+
+
 def client_of(address, **more):
     """A client of a scheduler in this process. Its package is called as a test is."""
     path = list(sys.path)
@@ -33,7 +46,7 @@ def client_of(address, **more):
         client = importlib.import_module("distributed").Client
     finally:
         sys.path[:] = path
-    return client(address, timeout=SECONDS, **more)
+    return client(address, timeout=SECONDS, loop=running_loop(), **more)
 
 
 def wait_for(is_so, seconds=SECONDS, what="something"):
@@ -108,7 +121,8 @@ class Processes:
 
     def asked(self, address, code):
         """What a client of the scheduler prints."""
-        code = f"from distributed import Client\nclient = Client({address!r}, timeout={SECONDS})\n{code}"
+        code = (f"import os, sys\nfrom distributed import Client\nclient = Client({address!r}, timeout={SECONDS})\n{code}\n"
+                "sys.stdout.flush()\nos._exit(0)")  # Dask may say more as it ends
         return subprocess.run([self.python, "-c", code], cwd=self.folder, env=self.environment, check=True,
                               timeout=4 * SECONDS, stdin=subprocess.DEVNULL, stdout=subprocess.PIPE, text=True).stdout
 

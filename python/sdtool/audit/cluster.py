@@ -21,7 +21,7 @@ from dask.utils import parse_timedelta
 from distributed import Client, KilledWorker
 from sdtool.audit import pool
 from sdtool.audit.sources.opening import OpeningFault
-from sdtool.distributed.bounded import within
+from sdtool.distributed.bounded import running_loop, within
 from sdtool.distributed.work import modules_digest
 
 _LEAST = 16  # as if there were so many workers: what waits makes an adaptive cluster grow
@@ -63,7 +63,7 @@ class Cluster(pool.Pool):
         logging.disable()  # the run says what it ends for
         warnings.filterwarnings("ignore", "Large object")  # a block is, and Dask sends it once
         try:
-            self._client = Client(address, set_as_default=False)
+            self._client = Client(address, set_as_default=False, loop=running_loop())
         except (OSError, ValueError) as error:
             raise OpeningFault(f"--scheduler {address}: {error}") from error
         self._seen, self._looked = time.monotonic(), 0.0  # a worker, and the cluster

@@ -17,7 +17,7 @@ from dask.system import CPU_COUNT
 from distributed import CancelledError, Client
 from distributed.comm import CommClosedError
 
-from .bounded import Bounded, within
+from .bounded import Bounded, running_loop, within
 from .engine import PATIENT_SECONDS, Engine, Job
 from .inputs import Taking, opened
 from .work import MODULES, RUN, UNFINISHED, Place, Work, entries, files_of, printable, shown_url
@@ -109,9 +109,9 @@ def client_of(wanted: argparse.Namespace) -> Client:
     """A client of the scheduler, or of a cluster in this process. That one has no profiler: Python 3.11 may stop for
     good where two threads look at the frames of all, as Dask's profiler does."""
     if wanted.scheduler:
-        return Client(wanted.scheduler, timeout=wanted.wait, set_as_default=False)
+        return Client(wanted.scheduler, timeout=wanted.wait, set_as_default=False, loop=running_loop())
     with dask.config.set({"distributed.worker.profile.enabled": False}):
-        return Client(timeout=wanted.wait, set_as_default=False, n_workers=1,
+        return Client(timeout=wanted.wait, set_as_default=False, loop=running_loop(), n_workers=1,
                       threads_per_worker=max(LEAST_THREADS, CPU_COUNT), processes=False, memory_limit=0,
                       silence_logs="error", dashboard_address="127.0.0.1:0", worker_dashboard_address="127.0.0.1:0",
                       scheduler_kwargs={"worker_ttl": "1 day"})
@@ -120,11 +120,13 @@ def client_of(wanted: argparse.Namespace) -> Client:
 def drive(wanted: argparse.Namespace, work: Work, taking: Taking) -> List[Job]:
     """Answers the inputs. Each has then what came of it, or the reason why nothing did."""
     engine, client, reason = Engine(work, taking.inputs, wanted, say), None, ""
+    logs = logging.root.manager.disable
     where = wanted.scheduler or "the one in this process"
     waiting = threading.Timer(PATIENT_SECONDS, say, [f"the scheduler does not answer: {where}"])
     try:
         within(wanted.wait, f"--out: {wanted.out}", take_over, work)
         waiting.start()
+        logging.disable()  # of Dask: the run itself says what it ends for
         client = client_of(wanted)
         waiting.cancel()
         engine.run(client)
@@ -134,8 +136,6 @@ def drive(wanted: argparse.Namespace, work: Work, taking: Taking) -> List[Job]:
         reason = f"{type(error).__name__}: {error}"
     finally:
         waiting.cancel()
-        logs = logging.root.manager.disable
-        logging.disable()  # of Dask: what is on its way nobody waits for
         with contextlib.suppress(Exception):
             if client is not None:
                 client.close(timeout=CLOSE_SECONDS)

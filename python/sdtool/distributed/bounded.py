@@ -1,10 +1,12 @@
-"""Calls that end: file systems and schedulers may hang for ever."""
+"""Calls that end: file systems and schedulers may hang for ever. And the loop of Dask's clients, which does not end."""
 import concurrent.futures
 import math
 import queue
 import threading
 import time
 from typing import Any, Callable
+
+from tornado.ioloop import IOLoop
 
 MOST_HUNG = 3
 LOCAL = threading.local()
@@ -52,6 +54,16 @@ def within(seconds: float, what: str, call: Callable[..., Any], *arguments: Any,
             raise Overdue(f"{what} has taken more than {seconds:g} seconds")
         tell(taken)
     return came.result()
+
+
+def running_loop() -> Any:
+    """A loop for a client. One that Dask makes is stopped when the client is closed, also where something of it is under
+    way. Python and Dask would then tell of that on standard error, at any later moment."""
+    loop, runs = IOLoop(make_current=False), threading.Event()
+    loop.add_callback(runs.set)
+    threading.Thread(target=loop.start, daemon=True).start()
+    runs.wait()
+    return loop
 
 
 class Bounded:
