@@ -1,10 +1,11 @@
 """Compressed files: what a file is by its name and its first bytes, and all that is in it."""
 import bz2
+import io
 import lzma
 import zlib
-from typing import IO, Any, Callable, Dict, Iterator, NamedTuple, Optional, Tuple
+from typing import Any, Callable, Dict, NamedTuple, Optional, Tuple
 
-PIECE = 1 << 12  # bytes, which may become 32,000 times as long
+PIECE = 1 << 12  # bytes that are read at once: zstd may make 32,000 times as many of them
 # How files begin that nothing here reads: zip, 7z, rar, lz4, lzip, lzop, compress.
 OTHER_BEGINNINGS = (b"PK\3\4", b"PK\5\6", b"7z\xbc\xaf\x27\x1c", b"Rar!\x1a\7", b"\4\x22M\x18", b"\2\x21L\x18", b"LZIP",
                     b"\x89LZO", b"\x1f\x9d")
@@ -27,6 +28,7 @@ class Kind(NamedTuple):
     beginnings: Tuple[bytes, ...]
     open: Callable[[], Any]  # gives an object that decompresses one stream
     is_padded: bool  # whether zeros may follow a stream
+    is_bounded: bool = True  # whether it gives no more at once than it is asked for
 
 
 # How a frame of zstd without data begins, which may come first. One of lz4 does too, and what follows it is no zstd.
@@ -34,8 +36,8 @@ SKIPPED = [bytes([first, *b"\x2aM\x18"]) for first in range(0x50, 0x60)]
 KINDS: Dict[str, Kind] = {
     "gzip": Kind(".gz", (b"\x1f\x8b",), lambda: zlib.decompressobj(31), True),  # 31: with gzip's header and checksum
     "bzip2": Kind(".bz2", (b"BZh",), bz2.BZ2Decompressor, False),
-    "xz": Kind(".xz", (b"\xfd7zXZ\0",), lambda: lzma.LZMADecompressor(lzma.FORMAT_XZ), True),
-    "zstd": Kind(".zst", (b"\x28\xb5\x2f\xfd", *SKIPPED), _zstd, False),
+    "xz": Kind(".xz", (b"\xfd7zXZ\0",), lzma.LZMADecompressor, True),
+    "zstd": Kind(".zst", (b"\x28\xb5\x2f\xfd", *SKIPPED), _zstd, False, False),
 }
 
 
@@ -59,25 +61,41 @@ def name_without_suffix(name: str, kind: Optional[str]) -> str:
     return name[:-len(suffix)] if suffix and name.lower().endswith(suffix) and len(name) > len(suffix) else name
 
 
-def unpacked(raw: IO[bytes], name: str, size: int) -> Iterator[bytes]:
-    """The bytes of all streams of a file, in pieces of at least so many but for the last. It is an error if the file is
-    empty, ends within a stream, or has anything but streams and their padding."""
-    kind, data, held = KINDS[name], raw.read(PIECE), bytearray()
-    if not data:
-        raise EOFError(f"the file is empty, and so is no {name}")
-    while data:
-        stream = kind.open()
-        while not stream.eof:
-            if not data:
-                raise EOFError(f"the file ends within a stream of {name}")
-            held += stream.decompress(data)
-            if len(held) >= size:
-                yield bytes(held)
-                held.clear()
-            data = stream.unused_data if stream.eof else raw.read(PIECE)
-        data = data or raw.read(PIECE)
-        while kind.is_padded and data and not data.strip(b"\0"):
-            data = raw.read(PIECE)
-        data = data.lstrip(b"\0") if kind.is_padded else data
-    if held:
-        yield bytes(held)
+class Unpacked(io.RawIOBase):
+    """The bytes of all streams of a file, which a function reads. It is an error if the file is empty, ends within a
+    stream, or has anything but streams and their padding."""
+
+    def __init__(self, read: Callable[[int], bytes], name: str) -> None:
+        super().__init__()
+        self._read, self._name, self._kind = read, name, KINDS[name]
+        self._stream: Any = self._kind.open()
+        self._data, self._held = b"", memoryview(b"")  # of the file, and unpacked
+
+    def readable(self) -> bool:
+        return True
+
+    def readinto(self, buffer: Any) -> int:
+        while not self._held and self._stream:
+            if self._stream.eof:
+                self._go_on()
+            else:
+                self._unpack(len(buffer))
+        count = min(len(buffer), len(self._held))
+        buffer[:count], self._held = self._held[:count], self._held[count:]
+        return count
+
+    def _unpack(self, most: int) -> None:
+        self._held = memoryview(self._stream.decompress(self._data, *(most,) * self._kind.is_bounded))
+        self._data = getattr(self._stream, "unconsumed_tail", b"")  # of zlib
+        if not (self._held or self._data or self._stream.eof) and getattr(self._stream, "needs_input", True):
+            self._data = self._read(PIECE)
+            if not self._data:
+                raise EOFError(f"the file ends within a stream of {self._name}, or is empty")
+
+    def _go_on(self) -> None:
+        """Begins the next stream, behind padding, if there is one."""
+        data = self._stream.unused_data or self._read(PIECE)
+        while self._kind.is_padded and data and not data.strip(b"\0"):
+            data = self._read(PIECE)
+        self._data = data.lstrip(b"\0") if self._kind.is_padded else data
+        self._stream = self._kind.open() if data else None

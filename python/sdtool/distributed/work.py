@@ -22,7 +22,7 @@ from fsspec.spec import AbstractFileSystem
 from sdtool import _library, _runs
 
 from .bounded import Overdue, within
-from .packed import unpacked
+from .packed import Unpacked
 
 AT_ONCE = 16  # small inputs
 READ, SEEK = 4 << 20, 1 << 16  # bytes of a request, and of one behind a block, where its last line ends
@@ -240,7 +240,8 @@ class Given:
         all of a compressed file."""
         if end is None or self.size is None:
             with self.fs.open(self.path, "rb") as raw:
-                yield from unpacked(raw, str(self.compression), READ)
+                unpacked = io.BufferedReader(Unpacked(raw.read, str(self.compression)), READ)
+                yield from iter(lambda: unpacked.read(READ), b"")
             return
         at, has_begun, behind = max(0, start - 1), start == 0, min(end + SEEK, self.size)
         for first, last, size in (at, behind, 0), (behind, self.size, READ):

@@ -14,6 +14,7 @@ from typing import Any, Callable, Iterator, List, NamedTuple, Optional, Tuple, U
 from sdtool._runs import piece_of
 from sdtool.audit.sources import archives
 from sdtool.audit.sources.archives import Trouble
+from sdtool.distributed.packed import Unpacked
 
 STANDARD_INPUT = "-"
 HEAD = 1 << 16    # bytes that show what a source is
@@ -26,6 +27,7 @@ READ_FAULTS = (OSError, EOFError, zlib.error, lzma.LZMAError, zipfile.BadZipFile
 _BOMS = ((codecs.BOM_UTF8, "utf-8"), (codecs.BOM_UTF32_LE, "utf-32-le"), (codecs.BOM_UTF32_BE, "utf-32-be"),
          (codecs.BOM_UTF16_LE, "utf-16-le"), (codecs.BOM_UTF16_BE, "utf-16-be"))
 _FEW_NULS = 7  # in a text that isn't UTF-16
+_OF_XZ = b"\xfd7zXZ\0", b"\x5d\0\0\x80\0"  # also of its older form
 _MOST_LAYERS = 4  # of compression and archives
 AS_THEY_CAME = "as-they-came"  # how texts are written: what the source had of other bytes and lone surrogates
 
@@ -101,104 +103,11 @@ class Stream(NamedTuple):
 Content = Union[Stream, Trouble]
 
 
-class _Unpacked(io.RawIOBase):
-    """What compressed streams hold, one after the other. What is behind the last is a fault, and so is a stream without
-    its end."""
-
-    def __init__(self, stream: io.BufferedReader, make: Callable[[], "_Unpacker"], starts: Tuple[bytes, ...],
-                 padding: bool) -> None:
-        super().__init__()
-        self._stream, self._make, self._starts, self._padding = stream, make, starts, padding
-        self._unpacker: Optional[_Unpacker] = make()
-        self._data = b""
-
-    def readable(self) -> bool:
-        return True
-
-    def readinto(self, buffer: Any) -> int:
-        while self._unpacker is not None:
-            if self._unpacker.is_ended:
-                self._data = self._unpacker.rest
-                self._begin_next()
-                continue
-            data = self._unpacker.unpack(self._data, len(buffer))
-            self._data = b""
-            if not data and not self._unpacker.is_ended and self._unpacker.needs_more:
-                self._data = self._stream.read1(8192)
-                if not self._data:
-                    raise EOFError("the compressed data is cut")
-            if data:
-                buffer[:len(data)] = data
-                return len(data)
-        return 0
-
-    def _begin_next(self) -> None:
-        """Begins the next stream, which has to begin as the first did. Between streams may be zeros."""
-        longest = max(map(len, self._starts))
-        while len(self._data) < longest:
-            more = self._stream.read1(8192)
-            if not more:
-                break
-            self._data += more
-            if self._padding:
-                self._data = self._data.lstrip(b"\0")
-        if self._padding:
-            self._data = self._data.lstrip(b"\0")
-        if not self._data:
-            self._unpacker = None
-        elif self._data.startswith(self._starts):
-            self._unpacker = self._make()
-        else:
-            raise OSError("what is behind the compressed data is damaged, or no part of it")
-
-
-class _Unpacker:
-    """One stream of a decompressor of bz2 or lzma."""
-
-    def __init__(self, decompressor: Any) -> None:
-        self._decompressor = decompressor
-
-    def unpack(self, data: bytes, most: int) -> bytes:
-        return bytes(self._decompressor.decompress(data, most))
-
-    @property
-    def is_ended(self) -> bool:
-        return bool(self._decompressor.eof)
-
-    @property
-    def needs_more(self) -> bool:
-        return bool(self._decompressor.needs_input)
-
-    @property
-    def rest(self) -> bytes:
-        return bytes(self._decompressor.unused_data)
-
-
-class _Inflater(_Unpacker):
-    """The same of zlib."""
-
-    def unpack(self, data: bytes, most: int) -> bytes:
-        return bytes(self._decompressor.decompress(self._decompressor.unconsumed_tail + data, most))
-
-    @property
-    def needs_more(self) -> bool:
-        return not self._decompressor.unconsumed_tail
-
-
-def _bzip2() -> _Unpacker:
-    import bz2
-    return _Unpacker(bz2.BZ2Decompressor())
-
-
-def _decompressed(head: bytes, stream: io.BufferedReader) -> Optional[io.RawIOBase]:
-    """The stream below one layer of compression, or None if there is none."""
-    if head.startswith(b"\x1f\x8b"):
-        return _Unpacked(stream, lambda: _Inflater(zlib.decompressobj(31)), (b"\x1f\x8b\x08",), True)
+def _compression(head: bytes) -> Optional[str]:
+    """The kind of one layer of compression, by the first bytes."""
     if head.startswith(b"BZh") and head[4:10] == b"1AY&SY" and not head[:64].isascii():
-        return _Unpacked(stream, _bzip2, (b"BZh",), False)
-    if head.startswith((b"\xfd7zXZ\0", b"\x5d\0\0\x80\0")):
-        return _Unpacked(stream, lambda: _Unpacker(lzma.LZMADecompressor()), (b"\xfd7zXZ\0", b"\x5d\0\0"), True)
-    return None
+        return "bzip2"
+    return "gzip" if head.startswith(b"\x1f\x8b") else "xz" if head.startswith(_OF_XZ) else None
 
 
 def _begun(stream: io.BufferedReader) -> Tuple[bytes, io.BufferedReader]:
@@ -226,9 +135,9 @@ def _contents(label: str, stream: io.BufferedReader, layers: int) -> Iterator[Co
                 else:
                     yield from _contents(member.label, io.BufferedReader(Counted(member.raw), CHUNK), layers - 1)
             return
-        inner = _decompressed(head, begun)
-        if inner is not None:
-            yield from _contents(label, io.BufferedReader(inner, CHUNK), layers - 1)
+        kind = _compression(head)
+        if kind is not None:
+            yield from _contents(label, io.BufferedReader(Unpacked(begun.read1, kind), CHUNK), layers - 1)
             return
     yield Stream(label, begun, head)
 
