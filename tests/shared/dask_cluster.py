@@ -121,8 +121,8 @@ class Processes:
 
     def asked(self, address, code):
         """What a client of the scheduler prints."""
-        code = (f"import os, sys\nfrom distributed import Client\nclient = Client({address!r}, timeout={SECONDS})\n{code}\n"
-                "sys.stdout.flush()\nos._exit(0)")  # Dask may say more as it ends
+        code = (f"import os, sys\nfrom distributed import Client\nclient = Client({address!r}, timeout={SECONDS})\n"
+                f"{code}\nsys.stdout.flush()\nos._exit(0)")  # Dask may say more as it ends
         return subprocess.run([self.python, "-c", code], cwd=self.folder, env=self.environment, check=True,
                               timeout=4 * SECONDS, stdin=subprocess.DEVNULL, stdout=subprocess.PIPE, text=True).stdout
 

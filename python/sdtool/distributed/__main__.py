@@ -108,13 +108,12 @@ def remove_run(place: Place, folder: str) -> None:
 def client_of(wanted: argparse.Namespace) -> Client:
     """A client of the scheduler, or of a cluster in this process. That one has no profiler: Python 3.11 may stop for
     good where two threads look at the frames of all, as Dask's profiler does."""
-    if wanted.scheduler:
-        return Client(wanted.scheduler, timeout=wanted.wait, set_as_default=False, loop=running_loop())
+    own = {} if wanted.scheduler else {
+        "n_workers": 1, "threads_per_worker": max(LEAST_THREADS, CPU_COUNT), "processes": False, "memory_limit": 0,
+        "silence_logs": "error", "dashboard_address": "127.0.0.1:0", "worker_dashboard_address": "127.0.0.1:0",
+        "scheduler_kwargs": {"worker_ttl": "1 day"}}
     with dask.config.set({"distributed.worker.profile.enabled": False}):
-        return Client(timeout=wanted.wait, set_as_default=False, loop=running_loop(), n_workers=1,
-                      threads_per_worker=max(LEAST_THREADS, CPU_COUNT), processes=False, memory_limit=0,
-                      silence_logs="error", dashboard_address="127.0.0.1:0", worker_dashboard_address="127.0.0.1:0",
-                      scheduler_kwargs={"worker_ttl": "1 day"})
+        return Client(wanted.scheduler, timeout=wanted.wait, set_as_default=False, loop=running_loop(), **own)
 
 
 def drive(wanted: argparse.Namespace, work: Work, taking: Taking) -> List[Job]:

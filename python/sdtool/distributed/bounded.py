@@ -57,8 +57,8 @@ def within(seconds: float, what: str, call: Callable[..., Any], *arguments: Any,
 
 
 def running_loop() -> Any:
-    """A loop for a client. One that Dask makes is stopped when the client is closed, also where something of it is under
-    way. Python and Dask would then tell of that on standard error, at any later moment."""
+    """A loop for a client. One that Dask makes is stopped when the client is closed, also where something of it is
+    under way. Python and Dask would then tell of that on standard error, at any later moment."""
     loop, runs = IOLoop(make_current=False), threading.Event()
     loop.add_callback(runs.set)
     threading.Thread(target=loop.start, daemon=True).start()

@@ -350,17 +350,14 @@ class Engine:
             sent.heard_at = now if is_queued else max(sent.heard_at, self.heard_at.get(address, 0))
             if now - sent.heard_at > STUCK_SECONDS:
                 self.stuck.add(address)
-                self.send_twin(sent, address)
+                if not sent.is_twin:
+                    sent.is_twin = True
+                    self.again(*sent.open)
+                    status = self.workers.get(address, {}).get("status", "gone")
+                    self.tell(f"nothing comes of the tasks of worker {address}, which is {status}; others get them")
             elif not sent.open and not sent.is_twin:  # which stays: a stuck worker that seems to be idle would get more
                 del self.sent[key]
                 sent.future.release()
-
-    def send_twin(self, sent: Sent, address: str) -> None:
-        if not sent.is_twin:
-            sent.is_twin = True
-            self.again(*sent.open)
-            status = self.workers.get(address, {}).get("status", "gone")
-            self.tell(f"nothing comes of the tasks of worker {address}, which is {status}; others get them")
 
     def be_patient(self) -> None:
         """Says what is waited for, and ends a run that waits for too long."""

@@ -11,8 +11,8 @@ from fsspec.core import url_to_fs
 from fsspec.implementations.local import LocalFileSystem
 from fsspec.registry import known_implementations
 
-from . import packed
 from .bounded import Bounded, Overdue
+from .packed import LONGEST_BEGINNING, kind_of, name_without_suffix
 from .work import (AT_ONCE, MAGIC, OURS, STORE_KEYS, Given, Place, entries, is_same, look, plain, printable,
                    reason_of, renames, shown_url)
 
@@ -74,12 +74,8 @@ class Finder:
             elif rest and part != "**" and is_alike and (is_folder or told.get("islink")):
                 yield from self.find(path, rest)
             elif not rest and is_alike:
-                yield self.found(path, told=plain(told) if is_of_store(self.fs, told) else None)
-
-
-def is_of_store(fs: Any, told: Dict[str, Any]) -> bool:
-    """Whether a listing tells as much of a file as a look at it."""
-    return not renames(fs) and bool(STORE_KEYS & told.keys())
+                is_enough = not renames(self.fs) and STORE_KEYS & told.keys()  # so no look at it tells more
+                yield self.found(path, told=plain(told) if is_enough else None)
 
 
 def found(fs: Any, path: str, kind: str, bounded: Bounded) -> Iterator[Found]:
@@ -194,11 +190,13 @@ class Taking:
         told = one.told or look(fs, one.path)
         if told["type"] != "file":
             return "is a folder, or a link to one" if told["type"] == "directory" else "is not a regular file"
-        beginning = beginning_of(fs, one.path, told["size"])
-        kind = packed.kind_of(one.path, beginning)
+        beginning = b""
+        if told["size"] or isinstance(fs, LocalFileSystem):  # files of /proc have bytes, and no size
+            beginning = bytes(fs.cat_file(one.path, start=0, end=LONGEST_BEGINNING))[:LONGEST_BEGINNING]
+        kind = kind_of(one.path, beginning)
         if told["size"] == 0 and beginning:
             return "does not tell its size"
-        name = packed.name_without_suffix(one.name, kind)
+        name = name_without_suffix(one.name, kind)
         if f"{name}/".startswith(f"{OURS}/"):
             return "has a name that is kept for runs"
         answers = f"{self.place.root}/{name}"
@@ -223,11 +221,3 @@ class Taking:
         self.taken.update(dict.fromkeys([answers, *above], number))
         self.inputs.append(given)
         return ""
-
-
-def beginning_of(fs: Any, path: str, size: Optional[int]) -> bytes:
-    """The first bytes of a file. A local one is read though it tells of none, as those of /proc have some."""
-    if isinstance(fs, LocalFileSystem):
-        with open(path, "rb") as file:
-            return file.read(packed.LONGEST_BEGINNING)
-    return bytes(fs.cat_file(path, start=0, end=packed.LONGEST_BEGINNING))[:packed.LONGEST_BEGINNING] if size else b""

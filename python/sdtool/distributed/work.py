@@ -167,13 +167,6 @@ def seal_of(record: Record) -> str:
     return new_digest(json.dumps(record, sort_keys=True).encode()).hexdigest()
 
 
-def lines_of(record: Record) -> bytes:
-    """A record as a file has it: each block of a manifest is a line."""
-    blocks = "".join(f",\n{json.dumps(block)}" for block in record.get("blocks", ()))
-    head = json.dumps({**{key: value for key, value in record.items() if key != "blocks"}, "seal": seal_of(record)})
-    return (f'{head[:-1]}, "blocks": [{blocks[1:]}]}}\n' if "blocks" in record else head).encode()
-
-
 def total_of(blocks: List[Record]) -> Dict[str, int]:
     return {key: sum(block[key] for block in blocks) for key in ("lines", "errors", "bytes")}
 
@@ -355,10 +348,8 @@ class Place:
             return f"{there} no run wrote"
         if is_other:
             return f"{there} a run wrote {'without' if is_parts else 'with'} --parts"
-        if manifest.get("url", given.url) != given.url:
-            return f"{there} are those of {manifest['url']}"
-        is_folder = self.fs.info(given.answers)["type"] == "directory"
-        return "" if is_folder == is_parts else f"{there} is no {('file', 'folder')[is_parts]}"
+        url = manifest.get("url", given.url)
+        return "" if url == given.url else f"{there} are those of {url}"
 
     def manifest_of(self, folder: str, is_parts: bool) -> Record:
         """What a run wrote of the answers to an input; of parts that stay, whole or not."""
@@ -386,10 +377,9 @@ class Work:
         if self.is_fit:  # what is written looks whose the output is
             return
         self.require_ownership()
-        if _library.digest() != self.library:
-            raise Unfit(f"its library is not the driver's, but has the digest {_library.digest()}")
-        if MODULES != self.modules:
-            raise Unfit(f"its module is not the driver's, but has the digest {MODULES}")
+        for what, own, wanted in ("library", _library.digest(), self.library), ("module", MODULES, self.modules):
+            if own != wanted:
+                raise Unfit(f"its {what} is not the driver's, but has the digest {own}")
         try:
             probe = f"{self.mine}/{uuid.uuid4().hex}"
             self.place.fs.pipe_file(probe, b"written")
@@ -433,9 +423,13 @@ class Work:
                 fs.rm_file(unfinished)
             raise
 
-    def write_record(self, path: str, record: Record) -> None:
+    def write_record(self, path: str, given: Given, blocks: List[Record]) -> None:
+        """Writes what the answers to blocks are, each block on a line."""
+        record = {**self.basis(given), **total_of(blocks)}
+        head = json.dumps({**record, "seal": seal_of({**record, "blocks": blocks})})
+        lines = ",\n".join(map(json.dumps, blocks))
         with self.written(path) as file:
-            file.write(lines_of(record))
+            file.write(f'{head[:-1]}, "blocks": [\n{lines}]}}\n'.encode())
 
     # Tasks. Each may be done twice at once, by workers that know nothing of each other.
 
@@ -499,7 +493,7 @@ class Work:
                 if self.place.is_local:
                     file.flush()
                     os.fsync(file.fileno())
-            self.write_record(record, {**self.basis(given), **total_of(blocks), "blocks": blocks})
+            self.write_record(record, given, blocks)
         return blocks
 
     def answer(self, given: Given, index: int, start: int, end: Optional[int]) -> Record:
@@ -563,7 +557,7 @@ class Work:
             return blocks
         manifest = f"{given.folder}/{MANIFEST}"
         if self.is_parts:
-            self.write_record(manifest, {**self.basis(given), **total_of(blocks), "blocks": blocks})
+            self.write_record(manifest, given, blocks)
         else:
             self.made(given, given.answers, manifest, write)
         self.tidy(given, len(blocks))
