@@ -1,8 +1,8 @@
 """sdtool.columns over collections of Dask: series of dask.dataframe, and bags.
 
 Each function has the arguments of the one with its name in sdtool.columns, and gives a series or a bag of the answers,
-which Dask computes where and when it computes. Index, divisions and name stay. Each partition answers a distinct value
-once. Workers need sdtool.
+which Dask computes where and when it computes. Index, divisions and name stay. In each partition, values that repeat
+are answered once. Workers need sdtool.
 
     frame = frame.assign(sddl=sdtool.dask.to_sddl(frame.sd))
 """

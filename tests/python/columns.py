@@ -580,12 +580,8 @@ def test_arguments(count):
         count.add(found == alone and found != others, f"{name} {more}: {found}, and alone {alone}")
 
 
-def test_once(count):
-    """Each distinct value is answered once, in a million rows with hidden answers."""
-    choices = random.Random(5)
-    texts = [f"O:BAD:(A;;{mask:#x};;;S-1-5-21-{mask}-7)" for mask in range(1, 1001)]
-    data = [sdtool.from_sddl(text) for text in texts] + [b"damaged"]
-    picked = [choices.randrange(1001) for _ in range(1_000_000)]
+def with_taken(call, rows):
+    """What a call gives, and the values that the library converted for it."""
     taken, many = [], columns._library.convert_many
 
     def seen(kind, values, *rest):
@@ -593,14 +589,41 @@ def test_once(count):
         return many(kind, values, *rest)
 
     with unittest.mock.patch.object(columns._library, "convert_many", seen):
-        rows = [data[at] for at in picked]
-        found = columns.to_sddl(rows)
+        return call(rows), taken
+
+
+def test_once(count):
+    """Each distinct value is answered once, in a million rows with hidden answers."""
+    choices = random.Random(5)
+    texts = [f"O:BAD:(A;;{mask:#x};;;S-1-5-21-{mask}-7)" for mask in range(1, 1001)]
+    data = [sdtool.from_sddl(text) for text in texts] + [b"damaged"]
+    picked = [choices.randrange(1001) for _ in range(1_000_000)]
+    rows = [data[at] for at in picked]
+    found, taken = with_taken(columns.to_sddl, rows)
     count.add(len(taken) == len(set(taken)) == 1001, f"{len(taken)} values were answered")
     expected = [*(sdtool.to_sddl(one) for one in data[:-1]), None]
     count.add(found == [expected[at] for at in picked], "a million rows")
     if pandas:
         series = pandas.Series([data[at][:] for at in picked])
         count.add(columns.to_sddl(series).tolist() == found, "a million rows of pandas")
+
+
+def test_apart(count):
+    """Where hardly two rows are equal, each is answered. Equal ones are seen wherever they are. All get what the single
+    calls give."""
+    rows = columns.from_sddl([f"O:BAD:(A;;{mask:#x};;;S-1-5-21-{mask}-7)" for mask in range(1, 10_001)])
+    rows += [b"damaged", b"", None]
+    known = {row: outcome_of(sdtool.to_sddl, row) for row in rows}
+    for what, given, most in (("two equal pairs", [*rows, *rows[:2]], 10_004),
+                              ("equal rows far away", rows * 2, 10_002),
+                              ("equal rows one behind the other", [row for row in rows for _ in "12"], 10_002)):
+        given = [row and bytes(bytearray(row)) for row in given]
+        found, taken = with_taken(functools.partial(columns.to_sddl, faults="struct"), given)
+        compare(count, what, found, [known[row] for row in given])
+        count.add(len(taken) == most, f"{what}: {len(taken)} values were answered, not {most}")
+        texts = [outcome and outcome.answer for outcome in found]
+        expected = [outcome_of(sdtool.from_sddl, text) for text in texts]
+        compare(count, f"{what}, from SDDL", columns.from_sddl(texts, faults="struct"), expected)
 
 
 def test_room(count):
@@ -713,7 +736,8 @@ def main(count: preload.Count, arguments: preload.Given) -> None:
     if preload.is_chosen(test_rows):
         of_hex, of_sddl = python_plain.lines(min(1500, arguments.rows), choices)
         test_rows(count, of_hex, of_sddl, arguments.rows, choices)
-    for test in filter(preload.is_chosen, (test_changes, test_faults, test_arguments, test_once, test_room)):
+    for test in filter(preload.is_chosen, (test_changes, test_faults, test_arguments, test_once, test_apart,
+                                           test_room)):
         test(count)
     with tempfile.TemporaryDirectory() as folder:
         for in_folder in filter(preload.is_chosen, (test_lies, test_ends)):

@@ -7,7 +7,7 @@
 | a pandas Series | a Series with the same index and name |
 | an array or series of another library with Arrow's PyCapsule interface, or a Column | a Column |
 
-Each distinct value is answered once. Nulls stay nulls: None, what pandas takes for null, and Arrow's. A null answer
+Values that repeat are answered once. Nulls stay nulls: None, what pandas takes for null, and Arrow's. A null answer
 says that nothing is known, and neither "granted" nor "no permissions". What becomes of a row without an answer:
 
 - faults="null": it is null too
@@ -24,8 +24,10 @@ Outcome(answer=None, number=5, name='short', offset=5)
 """
 import hashlib
 import itertools
+import math
+import random
 import sys
-from typing import Any, Callable, Iterable, List, Literal, NamedTuple, Optional, Tuple
+from typing import Any, Callable, Iterable, Iterator, List, Literal, NamedTuple, Optional, Sequence, Tuple
 
 from .. import _arguments, _library
 from .._arguments import GuidLike, sid_or_none
@@ -44,8 +46,9 @@ _KIND: Tuple[Any, ...] = bytes, str  # of values: by whether they are texts
 _TO_SDDL, _FROM_SDDL, _NORMALIZE = range(3)  # enum sdtool_conversion_kind
 _AT_ONCE = 1 << 10  # values of a call, between which other threads run
 _Answers = Callable[[List[Any]], Iterable[Any]]  # to values that are not null; a Fault is one too
-_Distinct = Tuple[List[Any], List[int]]  # values, and the place of each row's, or -1 for null
-_Form = Tuple[_Distinct, Callable[[int], Any], Callable[[List[Any], List[int], Any], Any]]
+_Distinct = Tuple[List[Any], Sequence[int]]  # values, and the place of each row's, or -1 for null
+_Form = Tuple[_Distinct, Callable[[int], Any], Callable[[List[Any], Sequence[int], Any], Any]]
+_FEW, _FEW_EQUAL = 1 << 12, 2  # rows without a sample, and of a sample
 
 
 class Outcome(NamedTuple):
@@ -192,7 +195,7 @@ def _read(column: Any, is_text: bool) -> _Form:
         raise _arguments.wrong_type("column", column, "one column in memory")
     if pandas is not None and _arguments.is_a(column, pandas.Series):
         held = column.to_numpy(object)
-        found = _library.distinct(held.tolist(), _KIND[is_text])
+        found = _told_apart(held.tolist(), _KIND[is_text])
         if found is None:
             held = held.copy()
             held[pandas.isna(held)] = None
@@ -222,7 +225,7 @@ def _read(column: Any, is_text: bool) -> _Form:
 
 def _distinct(rows: List[Any], is_text: bool) -> _Distinct:
     """The distinct values of rows, by Python's own types, whatever objects of other types say of themselves."""
-    found = _library.distinct(rows, _KIND[is_text])
+    found = _told_apart(rows, _KIND[is_text])
     if found is not None:
         return found
 
@@ -236,6 +239,23 @@ def _distinct(rows: List[Any], is_text: bool) -> _Distinct:
     return _distinct([value if value is None else exact(row, value) for row, value in enumerate(rows)], is_text)
 
 
-def _objects(table: List[Any], rows: List[int]) -> Any:
+def _told_apart(rows: List[Any], kind: type) -> Optional[_Distinct]:
+    """The same, or None if a row has another type. Where hardly two rows of a sample are equal, each row is taken for a
+    value of its own, since it would take longer to tell all apart than to answer some twice."""
+    if len(rows) > _FEW:
+        # If each value came twice, eight pairs of these would be equal. Equal rows are often next to each other, so the
+        # sample has no order.
+        found = _library.distinct(random.Random(0).sample(rows, 4 * math.isqrt(len(rows))), kind)
+        if found is not None and sum(place >= 0 for place in found[1]) - len(found[0]) <= _FEW_EQUAL:
+            types, numbers = {*map(type, rows)}, itertools.count()
+            if types == {kind}:
+                return rows, range(len(rows))
+            if types == {kind, type(None)}:
+                return ([row for row in rows if row is not None],
+                        [-1 if row is None else next(numbers) for row in rows])
+    return _library.distinct(rows, kind)
+
+
+def _objects(table: List[Any], rows: Sequence[int]) -> Any:
     """The same as an array of NumPy."""
     return sys.modules["numpy"].fromiter(map(table.__getitem__, rows), object, len(rows))
