@@ -152,6 +152,9 @@ function ofKind({who}, names) {
 const ofCondition = (judged, names) => say(judged.isDeny ? words.conditionOfDeny : words.condition,
     {number: judged.numbers[0], sentence: ofFinding(judged, names)});
 
+const ofSeveralConditions = ({numbers, worst}, names, result) => say(words.severalConditions,
+    {aces: acesIn(numbers, words.ace, words.aces), sentence: sentenceOf(worst, names, result)});
+
 // What is wrong with a text that is refused, in few words, with its place.
 function ofRefused({fault, place}) {
     const meaning = valueIn(WORDS.faults, fault.number)?.[0] ?? faultInWords(fault);
@@ -179,6 +182,7 @@ const SENTENCES = {
     class: ofClass,
     kind: ofKind,
     condition: ofCondition,
+    conditions: ofSeveralConditions,
     manyPairs: () => words.manyPairs,
     manyClasses: () => words.manyClasses,
     domain: () => words.domain,
@@ -195,7 +199,7 @@ function ofGroup(judged) {
 }
 
 function ofAces({key, numbers = [], isInherited, rule, isOwner, who = []}) {
-    if (rule === "foreign-owner" || isOwner || key === "nobody" || key === "condition" || who.length > 1 ||
+    if (rule === "foreign-owner" || isOwner || key === "nobody" || key.startsWith("condition") || who.length > 1 ||
         !numbers.length) {
         return "";
     }

@@ -2,7 +2,7 @@
 // which sentences.mjs makes the words. Whether somebody gets a right is always an answer of the library.
 //
 // VERDICT is 'act', 'look', 'named', 'fine' or 'unknown', and KEY says by which case: 'noDacl', 'nullDacl', 'nobody',
-// 'finding', 'changers', 'class', 'kind', 'condition', 'manyPairs' or 'manyClasses'.
+// 'finding', 'changers', 'class', 'kind', 'condition', 'conditions', 'manyPairs' or 'manyClasses'.
 import {isHarmless} from "./abilities.mjs";
 import {grantedOf, reasonsOf, tokenOf} from "./access.mjs";
 import {aceText, guidBytes} from "./library.mjs";
@@ -12,7 +12,6 @@ import {
     everybodyClass,
     inheritedBy,
     isDirectory,
-
     isTrusted,
     mappingOf,
     maskBelow,
@@ -312,6 +311,18 @@ export function verdictOf(library, about) {
 const sameAs = (one, other) => one.verdict === other.verdict && one.key === other.key &&
     (one.verdict === "fine" || String(one.who ?? []) === String(other.who ?? []));
 
+// What else is said of the first of some verdicts: what holds for each of them, and nothing of what stands below one.
+function ofEach(verdicts) {
+    const [{reader, denied = [], excused = []}] = verdicts;
+    const isOfAll = (isIn) => verdicts.every(isIn);
+    return {
+        reader: isOfAll((one) => one.reader === reader) ? reader : null,
+        denied: denied.filter(({number}) => isOfAll((one) => one.denied?.some((other) => other.number === number))),
+        excused: excused.filter((sid) => isOfAll((one) => one.excused?.includes(sid))),
+        more: 0
+    };
+}
+
 // What holds of a mask for every kind (MS-DTYP 2.4.3), in the order of what counts most.
 function neutral({numbers = []}, model, isFull) {
     const mask = acesOf(model, numbers).reduce((all, ace) => all | ace.mask, 0);
@@ -327,51 +338,59 @@ const isFullOf = ({granted: mask = 0, kind}) => {
     return (mask & all) >>> 0 === all;
 };
 
+// That it depends on the kind, and on whom.
+const ofOpenKind = (verdicts) => ({
+    verdict: "unknown",
+    key: "kind",
+    kind: "",
+    who: [...new Set(
+        verdicts.filter(({verdict, key}) => verdict !== "fine" && key !== "nobody").flatMap(({who = []}) => who))]
+});
+
 /**
  * The verdict where nothing tells the kind: the same for all that fit, or that it depends, and on whom. ASK gives the
  * verdict about a kind.
  */
 export function verdictOfKinds(model, kinds, ask) {
     if (kinds.length * model.dacl.aces.length > MOST_ASKED) {
-        return {verdict: "unknown", key: "kind", who: []};
+        return ofOpenKind([]);
     }
     const verdicts = kinds.map(ask);
     const [first] = verdicts;
-    if (verdicts.every((one) => sameAs(one, first) && one.verdict !== "unknown")) {
-        const does = neutral(first, model, first.numbers && verdicts.every(isFullOf));
-        // What else is said holds for each of them.
-        const ofAll = (key) =>
-            (verdicts.every((one) => String(one[key] ?? "") === String(first[key] ?? "")) ? first[key] : undefined);
-        return {
-            ...first,
-            kind: "",
-            does,
-            trusted: [...new Set(verdicts.flatMap(({trusted = []}) => trusted))],
-            numbers: ofAll("numbers"),
-            reader: ofAll("reader"),
-            denied: (first.denied ?? [])
-                        .filter(({number}) =>
-                                    verdicts.every(({denied = []}) => denied.some((one) => one.number === number))),
-            excused: (first.excused ?? []).filter((sid) => verdicts.every(({excused = []}) => excused.includes(sid))),
-            more: 0
-        };
+    if (!verdicts.every((one) => sameAs(one, first) && one.verdict !== "unknown")) {
+        return ofOpenKind(verdicts);
     }
-    const who =
-        verdicts.filter(({verdict, key}) => verdict !== "fine" && key !== "nobody").flatMap((one) => one.who ?? []);
-    return {verdict: "unknown", key: "kind", kind: "", who: [...new Set(who)]};
+    return {
+        ...first,
+        kind: "",
+        does: neutral(first, model, first.numbers && verdicts.every(isFullOf)),
+        trusted: [...new Set(verdicts.flatMap(({trusted = []}) => trusted))],
+        numbers: verdicts.every(({numbers}) => String(numbers) === String(first.numbers)) ? first.numbers : [],
+        ...ofEach(verdicts)
+    };
 }
 
 /**
  * The verdict about ACEs with conditions: that of both, if they hold and if they don't. MOST and LEAST are the verdicts
- * as if each allowing one held and no denying one did, and the other way round. ACE is the first one.
+ * as if each allowing one held and no denying one did, and the other way round. ACE is the first one. If both agree,
+ * what is surely granted is told.
  */
 export function verdictOfConditions(most, least, numbers, ace) {
     if (sameAs(most, least)) {
-        return {...most, conditions: numbers};
+        const both = most.verdict === "fine" ? [most, least] : [least, most];
+        return {...both[0], conditions: numbers, ...ofEach(both)};
+    }
+    const open = {verdict: "unknown", numbers};
+    const isOfOne = most.who?.length === 1 && most.granted !== undefined;
+    const {kind} = most;
+    if (kind === "" && !isOfOne) {
+        return ofOpenKind([most, least]);
+    }
+    if (numbers.length > 1) {
+        return {...open, key: "conditions", worst: most};
     }
     const isDeny = DENIES.includes(ace.kind);
-    const {kind} = most;
     const ofAce = {kind, who: [ace.sid], granted: ace.meaning, mask: ace.meaning, reach: "here"};
-    const isOfOne = most.who?.length === 1 && most.granted !== undefined;
-    return {...(isDeny && isOfOne ? most : ofAce), verdict: "unknown", key: "condition", numbers, isDeny};
+    const isOfMost = isOfOne && (isDeny || kind === "" || most.numbers?.includes(ace.number));
+    return {...(isOfMost ? {...most, ...ofEach([most, least])} : ofAce), ...open, key: "condition", isDeny};
 }

@@ -46,6 +46,17 @@ ROWS = [
     ('O:BAG:SYD:(XA;;FA;;;BU;(Member_of {SID(BA)}))(A;;FA;;;WD)', "act", "Everyone has full control of this folder"),
     ('O:BAG:SYD:(XA;;FR;;;BU;(Member_of {SID(BA)}))(A;;FA;;;BA)', "fine",
      "Only administrators can change this folder"),
+    # What is surely granted, if both agree; that of an ACE with an object type; several conditions, and an open kind.
+    ('O:BAG:SYD:(XA;;FA;;;WD;(@User.Title=="PM"))(A;;0x1301bf;;;WD)', "act", "Everyone can modify this folder"),
+    ({"text": f'O:BAD:(ZA;;CR;{RESET};;{ACCOUNT};(@User.Title=="PM"))(A;;0xf01ff;;;BA)', "kind": "ds",
+      "isKindChosen": True, "classes": "user"}, "unknown",
+     "Depends on the condition of ACE 1: if it holds, Account 1105 can set a new password"),
+    ('O:BAG:SYD:(XA;;FR;;;BU;(@User.Title=="PM"))(XA;;FA;;;WD;(@User.Title=="PM"))(A;;FA;;;BA)', "unknown",
+     "Depends on the conditions of ACEs 1, 2. At worst: Everyone has full control of this folder"),
+    ('D:(XA;;DC;;;WD;(@User.Title=="PM"))(A;;GA;;;SY)', "unknown",
+     "Depends on what this is: Everyone may be able to change it"),
+    ('D:(XA;;GA;;;WD;(@User.Title=="PM"))(A;;GA;;;SY)', "unknown",
+     "Depends on the condition of ACE 1: if it holds, Everyone has full control"),
     ('O:BAG:SYD:(A;;FA;;;BA)S:(RA;;;;;WD;("Project",TS,0,"Windows"))', "fine",
      "Only administrators can change this folder"),
     ('O:BAG:SYD:(XA;;FA;;;WD;(@User.Title=="PM")', "unknown",
@@ -129,6 +140,10 @@ REASONS = [
      "Everyone has what Windows itself gives."),
     ("hello", "(Get-Acl PATH).Sddl"),
 ]
+# What isn't said: somebody reads, or is denied, if a condition holds alone, and no finding stands below.
+UNSAID = [('O:BAG:SYD:(XA;;FR;;;BU;(Member_of {SID(BA)}))(A;;FA;;;BA)', "can read it"),
+          ('O:BAG:SYD:(XD;;LC;;;BU;(Member_of {SID(BA)}))(A;;0x1301bf;;;AU)', "Except"),
+          (f'O:BAG:SYD:(XA;;FR;;;BU;(Member_of {{SID(BA)}}))(A;;FA;;;WD)(A;;FA;;;{ACCOUNT})', "below")]
 # Windows gives these rights, but here they are for children alone, denied, denied first, or given by another ACE.
 UNGIVEN = [*({"text": f"O:SYG:SYD:(A;OIIO;RPWPSDRCWDWO;;;AC){aces}(A;;GA;;;BA)", "kind": "printer",
               "isKindChosen": True} for aces in ("", "(A;;SWRC;;;AC)")),
@@ -253,7 +268,8 @@ def main(count: preload.Count, chosen: preload.Given) -> None:
         print(f"skipped: no Node, or no {chosen.library}")
         return
     examples = risk_rows.rows()
-    texts = (*(row[0] for row in (*ROWS, *REASONS)), *UNEXCEPTED, *UNGIVEN)
+    unsaid = [*UNSAID, *((text, "Windows itself gives") for text in UNGIVEN)]
+    texts = (*(row[0] for row in (*ROWS, *REASONS, *unsaid)), *UNEXCEPTED)
     states = [*(text if isinstance(text, dict) else {"text": text} for text in texts), *map(state_of, examples),
               *({"text": row["sddl"]} for row in examples)]
     answers = asked(chosen.library, states)
@@ -265,11 +281,11 @@ def main(count: preload.Count, chosen: preload.Given) -> None:
                   f"{text}: {got['verdict']} {got['sentence']!r}, not {verdict} {sentence!r}")
     for (text, said), got in zip(REASONS, answers[len(ROWS):]):
         count.add(said in got["reasons"], f"{text}: {got['reasons']!r} has not {said!r}")
-    for text, got in zip(UNEXCEPTED, answers[len(ROWS) + len(REASONS):]):
+    for (text, said), got in zip(unsaid, answers[len(ROWS) + len(REASONS):]):
+        count.add(said not in got["reasons"], f"{text}: {got['reasons']!r} has {said!r}")
+    for text, got in zip(UNEXCEPTED, answers[len(ROWS) + len(REASONS) + len(unsaid):]):
         is_right = got["verdict"] == "act" and "Except" not in got["reasons"]
         count.add(is_right, f"{text}: {got['verdict']}, {got['sentence']}, {got['reasons']}")
-    for text, got in zip(UNGIVEN, answers[len(ROWS) + len(REASONS) + len(UNEXCEPTED):]):
-        count.add("Windows itself gives" not in got["reasons"], f"{text}: {got['reasons']}")
     rest = answers[len(texts):]
     for row, own, bare in zip(examples, rest, rest[len(examples):]):
         judge_example(count, row, own)

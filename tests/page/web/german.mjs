@@ -90,8 +90,10 @@ export const GERMAN = {
         "Kommt auf die Bedingung von ACE {number} an. Trifft sie zu: {sentence}",
     "Depends on the condition of ACE {number}: unless it holds, {sentence}":
         "Kommt auf die Bedingung von ACE {number} an. Trifft sie nicht zu: {sentence}",
-    "{aces} a condition: the answer is the same whether it holds or not.":
-        "{aces} eine Bedingung: die Antwort ist dieselbe, ob sie zutrifft oder nicht.",
+    "Depends on the conditions of {aces}. At worst: {sentence}":
+        "Kommt auf die Bedingungen von {aces} an. Schlimmstenfalls: {sentence}",
+    "{aces} a condition: this is so whether it holds or not.":
+        "{aces} eine Bedingung: dies gilt, ob sie zutrifft oder nicht.",
     "ACE {numbers} has": "ACE {numbers} hat",
     "ACEs {numbers} have": "Die ACEs {numbers} haben",
     "Can't be read: {what}": "Nicht lesbar: {what}",

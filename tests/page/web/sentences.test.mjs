@@ -97,3 +97,34 @@ test("a condition counts where the verdict hangs on it", () => {
     assert.equal(open.verdict, "unknown");
     assert.match(said(open), /^Depends on the condition of ACE 2: if it holds, Everyone can /);
 });
+
+test("what is said of conditions holds in either case", () => {
+    const ace = {kind: "A", sid: EVERYONE, meaning: FULL, number: 1};
+    const [most, least] = [
+        finding(EVERYONE, {reader: ANN, excused: [ANN, "S-1-5-4"], denied: [{who: ANN, mask: 1, number: 1}], more: 2}),
+        finding(EVERYONE, {granted: 0x1301bf, mask: 0x10116, numbers: [2], reader: null, excused: ["S-1-5-4"]})
+    ];
+    const judged = verdictOfConditions(most, least, [1], ace);
+    assert.deepEqual([judged.verdict, said(judged)], ["act", "Everyone can modify this folder"]);
+    assert.equal(reasonsOf(judged, new Map(), {}).join(" "),
+        "That is everybody, also without logging on. By ACE 2. " +
+            "ACE 1 has a condition: this is so whether it holds or not. Interactive has what Windows itself gives.");
+    const none = {verdict: "fine", key: "changers", kind: "folder", who: [], trusted: []};
+    const open = verdictOfConditions(most, none, [1], ace);
+    assert.deepEqual([said(open), reasonsOf(open, new Map(), {})],
+        ["Depends on the condition of ACE 1: if it holds, Everyone has full control of this folder", []]);
+    const several = verdictOfConditions(most, none, [1, 4], ace);
+    assert.deepEqual([said(several), reasonsOf(several, new Map(), {})],
+        ["Depends on the conditions of ACEs 1, 4. At worst: Everyone has full control of this folder", []]);
+});
+
+test("conditions of an object whose kind is open", () => {
+    const ace = {kind: "A", sid: EVERYONE, meaning: 2, number: 1};
+    const fine = {verdict: "fine", key: "changers", kind: "", who: [], trusted: [], does: "change"};
+    const open = {verdict: "unknown", key: "kind", kind: "", who: [ANN]};
+    assert.equal(said(verdictOfConditions(open, fine, [1], ace)),
+        "Depends on what this is: Account 1105 may be able to change it");
+    const all = finding(EVERYONE, {kind: "", does: "full", numbers: []});
+    assert.equal(said(verdictOfConditions(all, open, [1], ace)),
+        "Depends on the condition of ACE 1: if it holds, Everyone has full control");
+});
