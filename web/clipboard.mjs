@@ -1,7 +1,7 @@
 // Finds descriptors in what people have in the clipboard, and says what it left out. Nothing inside a descriptor is
 // changed but line ends, folds and separators; if in doubt, everything stays, and the library refuses it.
 
-import {listingIn} from "./icacls.mjs";
+import {listingsIn} from "./icacls.mjs";
 import {hexOf} from "./library.mjs";
 import {between, decimalBytes, endOfHex, endOfPairs, endOfQuoted, without} from "./scanning.mjs";
 import {
@@ -383,8 +383,8 @@ function guessed(text) {
         return ofBase64(plain);
     }
     const found = ofSddl(/^dn:/im.test(plain) ? unfolded(plain) : plain);
-    const listing = found.length ? null : listingIn(plain);
-    return listing ? [{...listing, form: "sddl", dropped: [{what: "listing"}]}] : found;
+    return found.length ? found :
+                          listingsIn(plain).map((one) => ({...one, form: "sddl", dropped: [{what: "listing"}]}));
 }
 
 // The descriptors in a text, at least one: {name, classes, kind, form, line, dropped}. Of a text in which none is found

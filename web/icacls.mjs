@@ -81,25 +81,28 @@ function aceOf(account, groups) {
     return `(${isDeny ? "D" : "A"};${flags};0x${mask.toString(16)};;;${account})`;
 }
 
-// The SDDL of a listing of one object: {name, line}, or null if any part of it is unknown.
-export function listingIn(text) {
-    let name = "";
-    const aces = [];
-    for (const line of text.split("\n").map((whole) => whole.trim())) {
+// The SDDL of each object of a listing, {name, line}, or nothing if any part of it is unknown.
+export function listingsIn(text) {
+    const objects = [];
+    for (const whole of text.split("\n")) {
+        const line = whole.trim();
         if (LAST.test(line)) {
             continue;
         }
         const found = GROUPS.exec(line);
         const account = found && accountIn(line.slice(0, found.index));
         const ace = account && aceOf(account.sid, found[1].slice(1, -1).split(")("));
-        // A path in a later line is another object.
-        if (!ace || (aces.length && account.path)) {
-            return null;
+        // The line of an object's path isn't set in.
+        const isFirst = !objects.length || (account?.path && !/^\s/.test(whole));
+        if (!ace || (account.path && !isFirst)) {
+            return [];
         }
-        name ||= account.path;
-        aces.push(ace);
+        if (isFirst) {
+            objects.push({name: account.path, line: "D:"});
+        }
+        objects.at(-1).line += ace;
     }
-    return aces.length ? {name, line: `D:${aces.join("")}`} : null;
+    return objects;
 }
 
 // What icacls does to a list of ACEs, one operation a line, where that gives exactly another list.

@@ -2,7 +2,7 @@
 import {readToken} from "../../../web/tokens.mjs";
 import {descriptorsIn} from "../../../web/clipboard.mjs";
 import {placeOf, rangeIn} from "../../../web/faults.mjs";
-import {listingIn} from "../../../web/icacls.mjs";
+import {listingsIn} from "../../../web/icacls.mjs";
 import {kindIn} from "../../../web/kinds.mjs";
 import {namesIn} from "../../../web/name_lists.mjs";
 import {namesOfReport, visible} from "../../../web/naming.mjs";
@@ -30,7 +30,7 @@ export const READERS = {
     "descriptors of a text": (text) => descriptorsIn(text, "auto"),
     "a text as SDDL": (text) => descriptorsIn(text, "sddl"),
     "a text as hex": (text) => descriptorsIn(text, "hex"),
-    "a listing": (text) => listingIn(text),
+    "a listing": (text) => listingsIn(text),
     "the kind of an object": (text) => kindIn(text),
     "names of SIDs": (text) => namesIn(text),
     "characters that don't show": (text) => visible(text),

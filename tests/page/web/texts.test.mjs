@@ -34,6 +34,20 @@ const LAST = {
     groups: [["high", "everyone", "WD: FA", "C:\\Data", "ACE 1, set here", 2]]
 };
 
+test("icacls lists several objects, each with its ACEs", () => {
+    const users = "BUILTIN\\Users:(RX)";
+    const listed = (text) => descriptorsIn(text, "auto").map(({name, line, other}) => [name, line, other]);
+    const [first, second] = ["D:(A;OICI;0x1f01ff;;;WD)(A;;0x1200a9;;;BU)", "D:(D;;0x6;;;WD)"];
+    const one = `C:\\a b Everyone:(OI)(CI)(F)\n        ${users}\n\n`;
+    assert.deepEqual(listed(`${one}C:\\c Everyone:(DENY)(WD,AD)\n\nSuccessfully processed 2 files; Failed 0`),
+        [["C:\\a b", first, null], ["C:\\c", second, null]]);
+    // An account that nobody knows is no path.
+    for (const text of [`${one}C:\\c CORP\\Sales:(F)\n`, `C:\\a ${users}\n     Not Everyone:(F)\n`,
+             `${one}     C:\\c ${users}`]) {
+        assert.deepEqual(listed(text).map(([, , other]) => other), ["listing"], text);
+    }
+});
+
 async function read(...lines) {
     const report = new Report(lines.map((line) => (typeof line === "string" ? line : JSON.stringify(line))).join("\n"));
     await report.read(() => {});
