@@ -42,10 +42,7 @@ export function make(name, attributes = {}, ...children) {
 /** @type {<Id extends string>(id: Id) => Id extends keyof Elements ? Elements[Id] : HTMLElement} */
 export const byId = (id) => /** @type {any} */ (document.getElementById(id));
 
-// Whether a place takes what is typed or pasted itself.
-export const isField = (target) => Boolean(target.closest?.("textarea, input, select"));
-
-// Whether it is a field of a text, in which keys such as Ctrl+Z mean that text.
+// Whether a place takes what is typed or pasted itself, so that keys such as Ctrl+Z mean its text.
 export const isTyped = (target) => Boolean(target.closest?.("textarea, input[type='text']"));
 
 export function show(element, ...children) {

@@ -1,6 +1,6 @@
 // The pane of the text: the field, or in its place the text line by line, what can be done with it, and the options.
 import {unreadInWords} from "./address.mjs";
-import {box, button, byId, input, isField, labelled, make, select, show} from "./dom.mjs";
+import {box, button, byId, input, isTyped, labelled, make, select, show} from "./dom.mjs";
 import {EXAMPLES} from "./examples.mjs";
 import {rangeIn} from "./faults.mjs";
 import {isDirectory} from "./meanings.mjs";
@@ -177,7 +177,7 @@ export class InputView {
         const isAll = event.target === field && field.selectionEnd - field.selectionStart === field.value.length;
         if (isAll) {
             this.isFolded = true;
-        } else if (text && !isField(event.target)) {
+        } else if (text && !isTyped(event.target)) {
             event.preventDefault();
             this.acts.open(text, "auto");
         }

@@ -1,7 +1,7 @@
 // The page: which view is shown, and what each shows of the desk's answers.
 import {makeAsk, showAsk, showAskRights} from "./ask_view.mjs";
 import {makeCompare, showCompare} from "./compare_view.mjs";
-import {button, byId, isField, isTyped, make, show} from "./dom.mjs";
+import {button, byId, isTyped, make, show} from "./dom.mjs";
 import {EditView} from "./edit_view.mjs";
 import {Editing} from "./editing.mjs";
 import {makeInherit, showInherit} from "./inherit_view.mjs";
@@ -231,11 +231,11 @@ export class Page {
         this.refresh();
     }
 
-    // A field takes a text itself.
+    // A field takes a text itself, and a control for a file takes a file.
     drop(event) {
         const file = event.dataTransfer?.files?.[0];
         const text = event.dataTransfer?.getData("text") ?? "";
-        if (!file && isField(event.target)) {
+        if (file ? event.target.matches?.("input[type='file']") : isTyped(event.target)) {
             return;
         }
         event.preventDefault();

@@ -219,6 +219,13 @@ def test_first_line(count, page, _):
                   "const after = isTaken(document.body); await until(isIdle); "
                   "return [...before, after, byId('text').value];", "O:BAD:")
     count.add(got == [False, PROJECTS, True, "O:BAD:"], f"what is dropped: {got}")
+    # A list and a box take no text, and a control for a file takes what is dropped on it.
+    got = page.do("const told = []; for (const id of ['kind', 'common']) { pasteInto(id, `${given[0]}${id}`); "
+                  "await until(isIdle); told.push(byId('text').value); } const dataTransfer = new DataTransfer(); "
+                  "dataTransfer.items.add(new File(['x'], 'names.csv')); const isTaken = !byId('names-file')"
+                  ".dispatchEvent(new DragEvent('drop', {dataTransfer, bubbles: true, cancelable: true})); "
+                  "return [...told, isTaken, document.body.dataset.view];", "O:BAD: ")
+    count.add(got == ["O:BAD: kind", "O:BAD: common", False, "look"], f"pasted over a list, dropped on a file: {got}")
 
 
 def test_several_verdicts(count, page, _):
