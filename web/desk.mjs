@@ -107,12 +107,8 @@ function verdictOfRefused(library, given, found, domain) {
     const open = openKind(state, [most.model, least.model]);
     const verdicts =
         parts.map(({descriptor, model}) => verdictOfAny(library, descriptor, model, state, domain, open?.kinds));
-    const {numbers} = most;
-    const ace = withMeanings(library, most.model, state.kind).dacl.aces[numbers[0] - 1];
-    return {
-        kind: open ? undefined : state.kind,
-        judged: numbers.length ? verdictOfConditions(...verdicts, numbers, ace) : {...verdicts[0], conditions: []}
-    };
+    const ace = withMeanings(library, most.model, state.kind).dacl.aces[most.numbers[0] - 1];
+    return {kind: open ? undefined : state.kind, judged: verdictOfConditions(...verdicts, most.numbers, ace)};
 }
 
 // Everything that the first view shows of a text.

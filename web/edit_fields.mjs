@@ -3,7 +3,7 @@
 import {has} from "./access.mjs";
 import {box, input, labelled, make, select} from "./dom.mjs";
 import {maskText} from "./library.mjs";
-import {inheritedBy, isDirectory} from "./meanings.mjs";
+import {inheritedBy, isDirectory, tableOf} from "./meanings.mjs";
 import {guidInWords, nameOf, POLICIES, rightsInWords, rightsOf, sidNamed, whereOf} from "./naming.mjs";
 import {rightBoxes} from "./parts_view.mjs";
 import {knownGuids} from "./schema.mjs";
@@ -20,6 +20,8 @@ const TYPED = {
     D: "OD",
     AU: "OU"
 }; // with an object type
+const AUDITS = ["SA", "FA"];
+const NO_WRITE_UP = 1;
 const PLACES = ["", "OICI", "CI", "OI", "OICIIO", "CIIO", "OIIO"];
 let areBoxesOpen = false;
 
@@ -30,6 +32,18 @@ const typedKind = ({kind, object, inherited}) => {
     const plain = plainKind(kind);
     return object || inherited ? valueIn(TYPED, plain) ?? plain : plain;
 };
+
+// What becomes of an ACE with another type. Only one that audits says of what, and a label has policies as rights.
+function ofType(type, ace, kind) {
+    const was = plainKind(ace.kind);
+    const flags = ace.flags.filter((flag) => was !== "AU" || !AUDITS.includes(flag));
+    const mask = type === "ML" ? NO_WRITE_UP : tableOf(kind).mapping[0];
+    return {
+        kind: typedKind({...ace, kind: type}),
+        flags: type === "AU" ? [...flags, ...AUDITS] : flags,
+        ...((type === "ML") === (was === "ML") ? {} : {...maskChange(mask), object: null, inherited: null})
+    };
+}
 
 // The list that an ACE belongs to.
 export const listOf = ({kind}) => (KINDS.sacl.includes(plainKind(kind)) ? "sacl" : "dacl");
@@ -123,7 +137,7 @@ export function aceFields(ace, lists, {kind, names}, change) {
         make("div", {class: "row"},
             labelled(words.columns.type,
                 select("edit-kind", types.map((one) => [one, valueIn(WORDS.aceKinds, one)]), own,
-                    (value) => change((one) => ({kind: typedKind({...one, kind: value})})))),
+                    (value) => change((one) => ofType(value, one, kind)))),
             sidField("edit-sid", words.columns.who, ace.sid, names, (sid) => change(() => ({sid}))),
             own === "ML" ? null : setField(ace, kind, change), whereField(ace, kind, change)),
         make("div", {class: "row"},
@@ -132,7 +146,7 @@ export function aceFields(ace, lists, {kind, names}, change) {
                     {"aria-describedby": "edit-rights-hint"}),
                 words.maskHint),
             objectFields(ace, kind, change)),
-        own === "AU" ? ["SA", "FA"].map((flag) => flagBox(ace, flag, valueIn(WORDS.audits, flag), change)) : null,
+        own === "AU" ? AUDITS.map((flag) => flagBox(ace, flag, valueIn(WORDS.audits, flag), change)) : null,
         rightsBoxes(ace, kind, change)
     ];
 }

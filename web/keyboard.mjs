@@ -17,11 +17,14 @@ export function tie(target) {
         return;
     }
     const {ace, aces} = about.dataset;
-    const numbers = new Set((ace ?? aces).split(" ").filter(Boolean));
-    const others = ace ? document.querySelectorAll(`[data-aces~="${ace}"]`) :
-                         [.../** @type {NodeListOf<HTMLElement>} */ (document.querySelectorAll("[data-ace]"))].filter(
-                             (one) => numbers.has(one.dataset.ace));
-    if (numbers.size) {
+    const numbers = (ace ?? aces).split(" ").filter(Boolean).map(Number);
+    /** @type {NodeListOf<HTMLElement>} */
+    const lines = document.querySelectorAll("[data-ace], tr.fold[data-list='dacl']");
+    // A folded line stands for those in it.
+    const isAmong = ({dataset}) => numbers.some(
+        (number) => Number(dataset.from ?? dataset.ace) <= number && number <= Number(dataset.to ?? dataset.ace));
+    const others = ace ? document.querySelectorAll(`[data-aces~="${ace}"]`) : [...lines].filter(isAmong);
+    if (numbers.length) {
         [about, ...others].forEach((one) => one.classList.add("tied"));
     }
 }

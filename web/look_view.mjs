@@ -198,9 +198,12 @@ function plainText(warning, kind, names) {
     });
 }
 
-const warningItem = (warning, kind, names) => make("li", {class: `warning ${warning.level}`},
-    make("span", {class: "badge"}, valueIn(WORDS.warningLevels, warning.level)), " ", warningText(warning, kind, names),
-    (warning.numbers ?? []).slice(0, 8).map((number) => [" ", jumpTo(warning.list ?? "dacl", number)]));
+function warningItem(warning, kind, names) {
+    const {level, numbers = [], list = "dacl"} = warning;
+    return make("li", {class: `warning ${level}`, "data-aces": list === "dacl" ? numbers.join(" ") : null},
+        make("span", {class: "badge"}, valueIn(WORDS.warningLevels, level)), " ", warningText(warning, kind, names),
+        numbers.slice(0, 8).map((number) => [" ", jumpTo(list, number)]));
+}
 
 function warnings(result, kind, names) {
     const list = make("ul", {class: "warnings"});

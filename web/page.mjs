@@ -111,7 +111,7 @@ export class Page {
     set(name, value) {
         this.store.set(name, value);
         if (name === "kind") {
-            this.showKind(value);
+            this.showKind(this.state.kind, !value);
         }
         return this.refresh();
     }

@@ -9,6 +9,7 @@ import {say, WORDS} from "./words.mjs";
 const words = WORDS.verdict;
 const MOST_NUMBERS = 5; // ACEs in a sentence
 const MOST_PIECE = 40;  // characters of a text that is refused
+const MOST_DENIED = 2;  // ACEs that are told one by one
 const ADMINISTRATORS = /^S-1-5-32-544$|^S-1-5-21-[\d-]+-(?:500|512|518|519)$/;
 const SYSTEM = "S-1-5-18";
 const RUN = ["file", "task"]; // kinds of objects that are run
@@ -214,9 +215,15 @@ const ofConditions = ({conditions = []}) =>
     (conditions.length ? say(words.conditions, {aces: acesIn(conditions, words.conditionsOne, words.conditionsMany)}) :
                          "");
 
-const ofDenied = ({denied = [], kind}, names) =>
-    denied.slice(0, 2).map(({who, mask, number}) => say(kind ? words.except : words.exceptSome,
-                               {who: nameOf(who, names), rights: kind && someRights(kind, mask), number}));
+function ofDenied({denied = [], kind}, names) {
+    const numbers = denied.slice(MOST_DENIED).map(({number}) => number);
+    return [
+        ...denied.slice(0, MOST_DENIED)
+            .map(({who, mask, number}) => say(kind ? words.except : words.exceptSome,
+                     {who: nameOf(who, names), rights: kind && someRights(kind, mask), number})),
+        numbers.length ? say(words.exceptMore, {aces: acesIn(numbers, words.ace, words.aces)}) : ""
+    ];
+}
 
 function ofReader({reader, who = [], verdict}, names) {
     const isSaid = !reader || who.includes(reader) || verdict === "unknown";
@@ -248,6 +255,8 @@ export function reasonsOf(judged, names, result) {
         ofMore(judged),
         result?.isStandIn ? words.standIn : "",
         key === "refused" ? words.unknownWhy : "",
-        key === "none" ? say(words.use, {command: valueIn(words.texts, result.other)[1]}) : "",
+        key === "none" ? say(result.other === "posix" ? words.useSamba : words.use,
+                             {command: valueIn(words.texts, result.other)[1]}) :
+                         "",
     ].filter(Boolean);
 }

@@ -54,9 +54,9 @@ export class Store {
         this.state.isKindChosen &&= !this.hasKindOfText;
     }
 
-    // Takes a kind that is known for this text, or for all to come.
+    // Takes a kind that is known for this text, or for all to come, or none.
     takeKind(kind, isOfText) {
-        Object.assign(this.state, {kind, isKindChosen: true});
+        Object.assign(this.state, {kind: kind || freshState().kind, isKindChosen: kind !== ""});
         this.hasKindOfText = isOfText;
     }
 

@@ -26,6 +26,7 @@ const GENERIC_ALL = 0x10000000;
 const GRAVE = ["high", "medium"];
 const CLASSES = ["anyone", "logged-on", "application"]; // those of everybody, the widest first
 const MOST_ASKED = 1000;                                // ACEs times kinds
+const MOST_DENIED = 50;                                 // ACEs
 
 const isHere = (ace) => !ace.flags.includes("IO");
 const isAllowing = (ace) => ALLOWS.includes(ace.kind);
@@ -93,13 +94,18 @@ const acesOf = (model, numbers) => numbers.map((number) => model.dacl.aces[numbe
 
 const isInherited = (aces) => aces.length > 0 && aces.every((ace) => ace.flags.includes("ID"));
 
-// Whom earlier ACEs deny some of what a wider group gets.
-function deniedOf(model, {who, granted: mask, numbers}) {
+// Whom earlier ACEs deny some of what a wider group gets, and nothing else gives it.
+function deniedOf(library, descriptor, model, {who, granted: mask, numbers, kind}) {
     const last = Math.max(0, ...numbers);
     return model.dacl.aces
         .filter((ace) => DENIES.includes(ace.kind) && isHere(ace) && !ace.object && ace.sid !== who &&
                 ace.number < last && trusteeOf(ace, model) && (ace.meaning & mask) !== 0)
-        .map((ace) => ({who: ace.sid, mask: (ace.meaning & mask) >>> 0, number: ace.number}));
+        .slice(0, MOST_DENIED)
+        .map((ace) => {
+            const has = granted(library, descriptor, trusteeOf(ace, model), kind);
+            return {who: ace.sid, mask: (ace.meaning & mask & ~has) >>> 0, number: ace.number};
+        })
+        .filter((one) => one.mask !== 0);
 }
 
 // The worst of what the rules find, or why it isn't known; null if nothing grave is found.
@@ -147,7 +153,8 @@ function told(library, descriptor, model, finding, kindOfObject) {
                 exceptOf ? {exceptOf} :
                            {})
     };
-    return {...about, denied: everybodyClass(who) && !isBelow ? deniedOf(model, {...about, who}) : []};
+    const isOfGroup = everybodyClass(who) && !isBelow;
+    return {...about, denied: isOfGroup ? deniedOf(library, descriptor, model, {...about, who}) : []};
 }
 
 // Nobody gets anything: the list is empty, has no ACE that allows something here, or everyone is denied first. Of an

@@ -273,6 +273,7 @@ export const WORDS = {
             name: ["This is the name of a directory object, without its descriptor", "(Get-Acl 'AD:DN').Sddl"],
         },
         use: "This prints it in PowerShell: {command}",
+        useSamba: "This prints it on a server of Samba: {command}",
         unknownWhy: "So nothing is known of what it grants.",
         classes: {
             anyone: "That is everybody, also without logging on.",
@@ -285,6 +286,7 @@ export const WORDS = {
         byInherited: "By {aces}, inherited.",
         except: "Except that {who} may not {rights} (ACE {number}).",
         exceptSome: "Except that ACE {number} denies {who} some of it.",
+        exceptMore: "More is denied by {aces}.",
         moreFindings: "{count} more findings below.",
         oneMoreFinding: "1 more finding below.",
         reader: "{who} can read it.",

@@ -137,7 +137,7 @@ class Steps:
         flags = flags_of(place) | (FLAGS["SA"] if kind == "AU" else 0)
         ace = Ace(TYPES[kind], flags, mask, None, None, sid_of(sid))
         if kind == "AU":
-            fields.append(["SA", True])
+            fields += [["SA", True], ["FA", False]]
         is_absent = letter == "S" and self.now.sacl is None
         end = "order" if first_out_of_order(letter, self.aces(letter)) is None else "end"
         return {"act": "add", "fields": fields}, [*([Change("state", letter, state="list")] if is_absent else []),
@@ -525,6 +525,12 @@ FIELDS = [
     ("folder", "D:S:AI(AU;SAID;FA;;;WD)", "byId('edit-sacl-drop').click();", "D:S:PAI"),
     ("folder", "D:(A;;FA;;;BA)(D;;FW;;;BU)S:AI(AU;SAID;FA;;;WD)(AU;SA;FA;;;WD)", "byId('edit-sort').click();",
      "D:(D;;FW;;;BU)(A;;FA;;;BA)S:AI(AU;SA;FA;;;WD)(AU;SAID;FA;;;WD)"),
+    # What a new ACE has besides depends on its type.
+    *(("folder", "D:", "byId('edit-add').click(); for (const type of "
+       f"{types}) {{ take('edit-kind', type); await pause(50); }} take('edit-sid', '{sid}'); await pause(50); "
+       "byId('edit-put').click();", wanted) for types, sid, wanted in (
+        (["ML"], "S-1-16-4096", "D:S:(ML;OICI;NW;;;LW)"), (["AU"], "Everyone", "D:S:(AU;OICISAFA;FR;;;WD)"),
+        (["AU", "ML", "D"], "Everyone", "D:(D;OICI;FR;;;WD)"))),
 ]
 
 

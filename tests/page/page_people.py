@@ -210,8 +210,15 @@ def test_first_line(count, page, _):
     count.add(got[0] == ["Authenticated Users", "Users"] and got[1] == 1 and "ACE 3" in got[2], f"what is tied: {got}")
     got = page.do(f"document.querySelector('.trustee').{point} return each('tr.ace.tied', (row) => row.id);")
     count.add(got == ["dacl-3"], f"the ACEs of a trustee: {got}")
+    got = page.do(f"document.querySelector('.warning').{point} return each('tr.ace.tied', (row) => row.id);")
+    count.add(got == ["dacl-3"], f"the ACEs of a warning: {got}")
     got = page.do("byId('share-another').click(); return [byId('text').checkVisibility(), document.activeElement.id];")
     count.add(got == [True, "text"], f"another text: {got}")
+    usual = "(A;;FA;;;SY)(A;;FR;;;BA)(A;;FR;;;SY)"
+    got = page.do(f"{PASTE} each('.trustee').at(-1).{point} return each('.tied', (one) => one.className);",
+                  "D:" + "".join(f"(A;;{right};;;WD)" for right in ("FX", "FR") * 5) + usual)
+    count.add(got == ["trustee order-1 tied", "fold tied"], f"the folded ACEs of a trustee: {got}")
+    page.do(PASTE, PROJECTS)
     # What is dropped into a field is the field's, and what is dropped elsewhere is a new text.
     got = page.do("const dataTransfer = new DataTransfer(); dataTransfer.setData('text/plain', given[0]); "
                   "const isTaken = (place) => !place.dispatchEvent(new DragEvent('drop', {dataTransfer, bubbles: "

@@ -574,6 +574,13 @@ def test_kind_of_text(count, page, _):
                   "said('compare');")
     count.add(not got["asks"] and got["kind"] == "key" and "full control" in got["text"],
               f"two kinds, and a choice: {got}")
+    # Without a choice the text tells again.
+    page.open()
+    got = page.do("await see('O:BAG:SYD:(A;;FA;;;BA)'); put('kind', 'key'); await until(isIdle); const before = "
+                  "byId('sentence').lastChild.textContent; put('kind', ''); await until(isIdle); return [before, "
+                  "byId('sentence').lastChild.textContent, byId('kind').value];")
+    words = [f"Only administrators can change this {what}" for what in ("registry key", "folder")]
+    count.add(got == [*words, "folder"], f"a kind that is chosen, and none: {got}")
 
 
 # An ACE of a directory object, and what its GUID is called. Five GUIDs are a property and a validated write.

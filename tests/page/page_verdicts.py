@@ -130,6 +130,9 @@ REASONS = [
     ("D:\\Data O:BAG:SYD:AI(D;;LC;;;BU)(A;OICIID;0x1301bf;;;AU)", "Except that Users may not add subfolders (ACE 1)."),
     (FOLDER + f"O:BAG:SYD:(A;;0x1301bf;;;WD)(A;;FA;;;{ACCOUNT})(A;;FA;;;S-1-5-21-1-2-3-1106)",
      "2 more findings below."),
+    (FOLDER + "O:BAG:SYD:" + "".join(f"(D;;LC;;;{who})" for who in ("BU", "BG", "IU", "NU")) + "(A;;0x1301bf;;;AU)",
+     "Except that Users may not add subfolders (ACE 1). Except that Guests may not add subfolders (ACE 2). More is "
+     "denied by ACEs 3, 4."),
     (FOLDER + "O:BAG:SYD:(A;;0x1200a9;;;BU)" + BASE, "Users can read it."),
     (FOLDER + "O:DAG:DUD:(A;;FA;;;DA)", "for an unknown domain"),
     (FOLDER + "O:BAG:SY", "Unless the source left it out"),
@@ -143,7 +146,8 @@ REASONS = [
 # What isn't said: somebody reads, or is denied, if a condition holds alone, and no finding stands below.
 UNSAID = [('O:BAG:SYD:(XA;;FR;;;BU;(Member_of {SID(BA)}))(A;;FA;;;BA)', "can read it"),
           ('O:BAG:SYD:(XD;;LC;;;BU;(Member_of {SID(BA)}))(A;;0x1301bf;;;AU)', "Except"),
-          (f'O:BAG:SYD:(XA;;FR;;;BU;(Member_of {{SID(BA)}}))(A;;FA;;;WD)(A;;FA;;;{ACCOUNT})', "below")]
+          *((f'O:BAG:SYD:{front}(A;;FA;;;WD)(A;;FA;;;{ACCOUNT}){end}', "below") for front, end in (
+              ("(XA;;FR;;;BU;(Member_of {SID(BA)}))", ""), ("", 'S:(RA;;;;;WD;("Project",TS,0,"Windows"))')))]
 # Windows gives these rights, but here they are for children alone, denied, denied first, or given by another ACE.
 UNGIVEN = [*({"text": f"O:SYG:SYD:(A;OIIO;RPWPSDRCWDWO;;;AC){aces}(A;;GA;;;BA)", "kind": "printer",
               "isKindChosen": True} for aces in ("", "(A;;SWRC;;;AC)")),
@@ -152,6 +156,7 @@ UNGIVEN = [*({"text": f"O:SYG:SYD:(A;OIIO;RPWPSDRCWDWO;;;AC){aces}(A;;GA;;;BA)",
                           f"(A;;CR;;;WD)(OD;;CR;{CHANGE};;WD)"))]
 # No exception: what is denied is granted before, is denied to children alone, or isn't granted.
 UNEXCEPTED = [FOLDER + "O:BAG:SYD:(A;OICI;0x1301bf;;;AU)(D;;LC;;;BU)",
+              FOLDER + "O:BAG:SYD:(A;;LC;;;BU)(D;;LC;;;BU)(A;OICI;0x1301bf;;;AU)",
               FOLDER + "O:BAG:SYD:(D;OICIIO;LC;;;BU)(A;OICI;0x1301bf;;;AU)",
               FOLDER + "O:BAG:SYD:(D;;WO;;;BU)(A;OICI;0x1301bf;;;AU)"]
 DIRECTORY = ("ds", "template")

@@ -112,6 +112,7 @@ export const GERMAN = {
     "By {aces}, inherited.": "Durch {aces}, geerbt.",
     "Except that ACE {number} denies {who} some of it.": "ACE {number} verweigert {who} etwas davon.",
     "Except that {who} may not {rights} (ACE {number}).": "Nur {who} nicht: {rights} (ACE {number}).",
+    "More is denied by {aces}.": "Mehr verweigern {aces}.",
     "{count} more findings below.": "{count} weitere Befunde unten.",
     "1 more finding below.": "1 weiterer Befund unten.",
     "{who} can read it.": "{who} darf lesen.",

@@ -57,7 +57,8 @@ test("of each text that is no descriptor the page says what prints one", () => {
     for (const other of Object.keys(WORDS.verdict.texts)) {
         const judged = {verdict: "unknown", key: "none"};
         assert.doesNotMatch(said(judged, {other}), /[{}]|undefined/);
-        assert.match(reasonsOf(judged, new Map(), {other}).join(" "), /PowerShell: \S/);
+        const where = other === "posix" ? /Samba: samba-tool / : /PowerShell: (?!samba-tool )\S/;
+        assert.match(reasonsOf(judged, new Map(), {other}).join(" "), where);
     }
 });
 

@@ -39,6 +39,9 @@ test("a kind that came with a text is forgotten, and one from the list stays unt
     assert.deepEqual([store.state.kind, store.state.isKindChosen], ["service", true]);
     store.open("");
     assert.equal(store.state.isKindChosen, false);
+    store.set("kind", "service");
+    store.set("kind", "");
+    assert.deepEqual([store.state.kind, store.state.isKindChosen], ["folder", false]);
 });
 
 test("another text is read from its first descriptor on", () => {
