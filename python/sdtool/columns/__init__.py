@@ -27,7 +27,7 @@ import itertools
 import math
 import random
 import sys
-from typing import Any, Callable, Iterable, Iterator, List, Literal, NamedTuple, Optional, Sequence, Tuple
+from typing import Any, Callable, Iterable, List, Literal, NamedTuple, Optional, Sequence, Tuple
 
 from .. import _arguments, _library
 from .._arguments import GuidLike, sid_or_none
