@@ -27,7 +27,6 @@
 #endif
 
 #include "refusals.h"
-#include "sdtool.h"
 
 enum {
     THREADS = 8,
@@ -41,13 +40,6 @@ enum {
     ORIGIN = 8
 };
 
-struct bytes {
-    uint8_t *cells;
-    size_t size;
-    /* The size of the block, where that is another one. */
-    size_t room;
-};
-
 /* The arguments of a call. */
 struct question {
     struct bytes fields[MOST_FIELDS];
@@ -55,16 +47,8 @@ struct question {
     bool has_level;
 };
 
-static const char *job;
 static struct bytes domain;
 static bool numeric;
-static int wrong;
-
-static void complain(const char *what)
-{
-    fprintf(stderr, "%s: %s\n", job, what);
-    wrong = 1;
-}
 
 static bool is_fault(const struct sdtool_outcome *o, uint32_t fault, size_t length)
 {
@@ -413,12 +397,6 @@ static void try_sizes(const struct question *in, const struct bytes *answer)
     try_size(in, answer, answer->size + 9);
 }
 
-static bool is_same(const struct sdtool_outcome *a, const struct sdtool_outcome *b)
-{
-    return a->fault == b->fault && a->part == b->part && a->other_part == b->other_part && a->argument == b->argument
-           && a->entry == b->entry && a->length == b->length;
-}
-
 /* Memory that is refused for a token hides an answer, but no fault. The other calls allocate behind their arguments. */
 static bool hides(const struct sdtool_outcome *o)
 {
@@ -481,19 +459,21 @@ static void print(const struct bytes *answer)
             putchar('\n');
         return;
     }
-    for (size_t i = 0; i < answer->size; i++)
-        printf("%02x", answer->cells[i]);
-    putchar('\n');
+    print_hex(answer->cells, answer->size);
+}
+
+/* The size of the block for an answer. Origins may be the creator's. */
+static size_t most_of(const struct question *in)
+{
+    if (!gives_text())
+        return SDTOOL_MOST_BYTES;
+    return SDTOOL_TEXT_SIZE(in->fields[0].size) + (derives() ? SDTOOL_TEXT_SIZE(in->fields[1].size) : 0);
 }
 
 static struct bytes answer_to(const struct question *in)
 {
-    static const char *const parts[] = {"", " owner", " group", " sacl", " dacl"};
-    /* Origins may be the creator's. */
-    size_t most = !gives_text()
-                      ? SDTOOL_MOST_BYTES
-                      : SDTOOL_TEXT_SIZE(in->fields[0].size) + (derives() ? SDTOOL_TEXT_SIZE(in->fields[1].size) : 0);
-    struct bytes answer = {block(most), 0, most};
+    size_t most = most_of(in);
+    struct bytes answer = {block(most), 0};
     struct sdtool_outcome o = call(in, answer.cells, most);
 
     if (o.fault == SDTOOL_NO_MEMORY)
@@ -504,44 +484,10 @@ static struct bytes answer_to(const struct question *in)
         try_sizes(in, &answer);
         try_refusals(in, 0);
     } else {
-        if (o.length != 0 || o.part > 4 || o.other_part > 4 || (o.argument != 0) != (o.fault == SDTOOL_ARGUMENT))
-            complain("what a fault tells");
-        else if (o.fault == SDTOOL_ARGUMENT)
-            printf("error 70 %u %zu\n", (unsigned)o.argument, o.entry);
-        else
-            printf("error %u%s%s\n", (unsigned)o.fault, parts[o.part], parts[o.other_part]);
+        print_outcome(&o);
     }
     try_refusals(in, most);
     return answer;
-}
-
-static int digit(int c)
-{
-    static const char digits[] = "0123456789abcdef";
-    const char *at = c == 0 ? NULL : strchr(digits, c);
-
-    return at == NULL ? -1 : (int)(at - digits);
-}
-
-/* The bytes that hex digits spell. */
-static struct bytes spelled(const char *text, size_t length)
-{
-    struct bytes bytes = {block(length / 2), length / 2, 0};
-
-    for (size_t i = 0; i < bytes.size; i++)
-        bytes.cells[i] = (uint8_t)(16 * digit(text[2 * i]) + digit(text[2 * i + 1]));
-    seal(bytes.cells, bytes.size);
-    return bytes;
-}
-
-static struct bytes copied(const char *text, size_t length)
-{
-    struct bytes bytes = {block(length), length, 0};
-
-    if (length != 0)
-        memcpy(bytes.cells, text, length);
-    seal(bytes.cells, bytes.size);
-    return bytes;
 }
 
 /* The call that a line asks for. */
@@ -555,11 +501,11 @@ static struct question question_in(char *line, size_t length)
     if (strcmp(job, "from_sddl") == 0)
         q.fields[0] = copied(line, length);
     else if (!asks() && !derives())
-        q.fields[0] = spelled(line, length);
+        q.fields[0] = spelled(line);
     else
         for (char *word = strtok_r(line, " \n", &rest); word != NULL; word = strtok_r(NULL, " \n", &rest), at++) {
             if (at < fields)
-                q.fields[at] = strcmp(word, "-") == 0 ? spelled("", 0) : spelled(word, strlen(word));
+                q.fields[at] = spelled(word);
             else if (at < fields + MOST_NUMBERS && strcmp(word, "-") != 0)
                 q.numbers[at - fields] = (uint32_t)strtoul(word, NULL, 10);
             q.has_level = at == fields + 3 && strcmp(word, "-") != 0;
@@ -640,7 +586,7 @@ int main(int count, char **words)
         || sdtool_version_number() != SDTOOL_VERSION)
         complain("the version");
     if (count > 2 && strcmp(words[2], "-") != 0)
-        domain = spelled(words[2], strlen(words[2]));
+        domain = spelled(words[2]);
     numeric = count > 3;
     while ((got = getline(&line, &room, stdin)) > 0) {
         size_t length = (size_t)got - (line[got - 1] == '\n');
@@ -652,7 +598,7 @@ int main(int count, char **words)
             kept[kept_count++].answer = answer;
         } else {
             free_question(&in);
-            release(answer.cells, answer.room);
+            release(answer.cells, most_of(&in));
         }
     }
     for (int i = 0; i < THREADS; i++)
@@ -666,7 +612,7 @@ int main(int count, char **words)
     while (kept_count > 0) {
         kept_count--;
         free_question(&kept[kept_count].in);
-        release(kept[kept_count].answer.cells, kept[kept_count].answer.room);
+        release(kept[kept_count].answer.cells, most_of(&kept[kept_count].in));
     }
     if (domain.cells != NULL)
         release(domain.cells, domain.size);

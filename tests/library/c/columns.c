@@ -14,83 +14,17 @@
  * piece and in pieces that go on. What goes wrong is printed to standard error, and the status is then 1. memory.h says
  * what the environment asks for.
  */
-#include <inttypes.h>
 #include <stdio.h>
 #include <stdlib.h>
 #include <string.h>
 
-#include "memory.h"
-#include "sdtool.h"
-
-struct bytes {
-    uint8_t *cells;
-    size_t size;
-};
-
-static const char *job;
-static int wrong;
-static long allocations, allocations_left = -1;
-static size_t allocated;
-
-/* The linker puts these in the place of malloc and realloc of the library: see tests/library/c_library.py. */
-void *__wrap_malloc(size_t size);
-void *__wrap_realloc(void *block, size_t size);
-
-static bool refused(size_t size)
-{
-    allocations++;
-    allocated += size;
-    return allocations_left >= 0 && allocations_left-- == 0;
-}
-
-void *__wrap_malloc(size_t size)
-{
-    return refused(size) ? NULL : __real_malloc(size);
-}
-
-void *__wrap_realloc(void *block, size_t size)
-{
-    return refused(size) ? NULL : __real_realloc(block, size);
-}
-
-static void complain(const char *what)
-{
-    fprintf(stderr, "%s: %s\n", job, what);
-    wrong = 1;
-}
-
-static void expect(bool is_right, const char *what)
-{
-    if (!is_right)
-        complain(what);
-}
-
-/* Memory of the test itself. */
-static void *room_for(size_t count, size_t size)
-{
-    void *cells = calloc(count + 1, size);
-
-    if (cells == NULL)
-        abort();
-    return cells;
-}
-
-static bool are_same(const struct sdtool_outcome *a, const struct sdtool_outcome *b)
-{
-    return a->fault == b->fault && a->part == b->part && a->other_part == b->other_part && a->argument == b->argument
-           && a->entry == b->entry && a->length == b->length;
-}
+#include "refusals.h"
 
 static bool is_outcome(const struct sdtool_outcome *o, uint32_t fault, uint32_t argument, size_t entry, size_t length)
 {
     struct sdtool_outcome wanted = {.fault = fault, .argument = argument, .entry = entry, .length = length};
 
-    return are_same(o, &wanted);
-}
-
-static int digit(int c)
-{
-    return c >= 'a' ? c - 'a' + 10 : c - '0';
+    return is_same(o, &wanted);
 }
 
 /* A column, and what is asked of it. The offsets are there in both sizes. */
@@ -248,7 +182,7 @@ static void compare(const struct column *c, const struct lent *lent, bool is_lar
         struct sdtool_outcome one = convert_one(c, row, alone, sizeof alone);
         uint64_t end = offset_at(lent, is_large, row + 1);
 
-        expect(are_same(&one, &lent->outcomes[row]), "the outcome of a row is another than that of a single call");
+        expect(is_same(&one, &lent->outcomes[row]), "the outcome of a row is another than that of a single call");
         expect(end == at + one.length && (one.length == 0 || memcmp(lent->out + at, alone, one.length) == 0),
                "the answer of a row is another than that of a single call");
         at = end;
@@ -457,10 +391,10 @@ static void check_rows(const struct column *c, size_t sids_size, size_t room, si
         struct sdtool_outcome o = check(c, is_large, sids_size, verdicts, room);
 
         allocations_left = left;
-        expect(are_same(&o, &told), "the outcome of checks");
+        expect(is_same(&o, &told), "the outcome of checks");
         for (size_t row = 0; row < answered; row++) {
             struct sdtool_verdict one = check_one(c, row);
-            expect(are_same(&one.outcome, &verdicts[row].outcome) && one.mask == verdicts[row].mask
+            expect(is_same(&one.outcome, &verdicts[row].outcome) && one.mask == verdicts[row].mask
                        && one.granted == verdicts[row].granted,
                    "the verdict on a row is another than that of a single call");
         }
@@ -541,19 +475,15 @@ static void make_small(struct column *c)
 
 static void print_answers(const struct column *c)
 {
-    static const char *const parts[] = {"", " owner", " group", " sacl", " dacl"};
-
     for (size_t row = 0; row < c->rows; row++) {
         struct sdtool_outcome o = convert_one(c, row, alone, sizeof alone);
 
         if (o.fault != SDTOOL_OK)
-            printf("error %" PRIu32 "%s%s", o.fault, parts[o.part], parts[o.other_part]);
+            print_outcome(&o);
         else if (c->kind == SDTOOL_CONVERT_TO_SDDL)
-            printf("%.*s", (int)o.length, (const char *)alone);
+            printf("%.*s\n", (int)o.length, (const char *)alone);
         else
-            for (size_t i = 0; i < o.length; i++)
-                printf("%02x", alone[i]);
-        putchar('\n');
+            print_hex(alone, o.length);
     }
 }
 
@@ -574,8 +504,7 @@ static struct column read_column(bool is_hex)
         if (at + size + 1 > room && (data = realloc(data, room = 2 * (at + size) + 64)) == NULL)
             abort();
         if (is_hex)
-            for (size_t i = 0; i < size / 2; i++)
-                data[at + i] = (uint8_t)(16 * digit(line[2 * i]) + digit(line[2 * i + 1]));
+            spell(data + at, line, size / 2);
         else
             memcpy(data + at, line, size);
         if (c.rows + 2 > most && (c.offsets = realloc(c.offsets, (most *= 2) * sizeof *c.offsets)) == NULL)
@@ -596,7 +525,6 @@ static struct column read_column(bool is_hex)
 
 int main(int argc, char **argv)
 {
-    static uint8_t domain[1 << 12];
     static const char *const kinds[] = {"to_sddl", "from_sddl", "normalize", "derive", "check"};
     uint32_t kind = 0;
 
@@ -609,11 +537,7 @@ int main(int argc, char **argv)
     struct column c = read_column(kind != SDTOOL_CONVERT_FROM_SDDL);
     c.kind = kind;
     c.options = argc > 4 ? SDTOOL_NUMERIC : 0;
-    if (argv[3][0] != '-')
-        for (; c.domain.size < strlen(argv[3]) / 2; c.domain.size++)
-            domain[c.domain.size] = (uint8_t)(16 * digit(argv[3][2 * c.domain.size])
-                                              + digit(argv[3][2 * c.domain.size + 1]));
-    c.domain.cells = domain;
+    c.domain = spelled(argv[3]);
     c.creation = (struct sdtool_creation){{c.domain.cells, c.domain.size},
                                           {everyone, sizeof everyone},
                                           {system_sid, sizeof system_sid},
@@ -645,6 +569,7 @@ int main(int argc, char **argv)
         if (strcmp(job, "print") == 0)
             print_answers(&c);
     }
+    release(c.domain.cells, c.domain.size);
     release(c.data.cells, c.data.size);
     free(c.offsets);
     free(c.small);

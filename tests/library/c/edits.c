@@ -12,24 +12,16 @@
 #include <stdlib.h>
 #include <string.h>
 
-#include "sdtool.h"
-
-#include "memory.h"
+#include "inputs.h"
 
 enum {
     UNWRITTEN = 0xaaaaaaaa,
     FILLED = 0xaa
 };
 
-struct input {
-    uint8_t *cells;
-    size_t size;
-};
-
-static struct input descriptor, changes;
+static struct bytes descriptor, changes;
 static uint32_t *touched;
 static uint8_t *output;
-static int wrong;
 /* How many bytes the library has now, and had at most; its allocations, and how many more are not refused. */
 static size_t held, most_held;
 static long allocations, allocations_left = -1;
@@ -81,29 +73,9 @@ void __wrap_free(void *block)
     __real_free(block);
 }
 
-static struct input read_hex(const char *text)
-{
-    struct input input = {NULL, *text == '-' ? 0 : strspn(text, "0123456789abcdef") / 2};
-    char digits[3] = "";
-
-    input.cells = block(input.size);
-    for (size_t at = 0; at < input.size; at++) {
-        memcpy(digits, text + 2 * at, 2);
-        input.cells[at] = (uint8_t)strtoul(digits, NULL, 16);
-    }
-    seal(input.cells, input.size);
-    return input;
-}
-
 static size_t count_of(void)
 {
     return changes.size / sizeof(struct sdtool_change);
-}
-
-static void complain(const char *what)
-{
-    fprintf(stderr, "edits: %s\n", what);
-    wrong = 1;
 }
 
 static struct sdtool_outcome edit(size_t size)
@@ -120,12 +92,6 @@ static struct sdtool_outcome edit(size_t size)
     if (held != 0)
         complain("memory that is not given back");
     return o;
-}
-
-static bool is_same(const struct sdtool_outcome *one, const struct sdtool_outcome *other)
-{
-    return one->fault == other->fault && one->part == other->part && one->other_part == other->other_part
-           && one->argument == other->argument && one->entry == other->entry && one->length == other->length;
 }
 
 static bool is_unwritten(size_t size)
@@ -169,11 +135,12 @@ int main(void)
     size_t room = 0;
 
     read_environment();
+    job = "edits";
     while (getline(&line, &room, stdin) > 0) {
         if ((second = strchr(line, ' ')) == NULL)
             return 2;
-        descriptor = read_hex(line);
-        changes = read_hex(second + 1);
+        descriptor = spelled(line);
+        changes = spelled(second + 1);
         touched = (uint32_t *)block(count_of() * sizeof *touched);
         output = block(SDTOOL_MOST_BYTES);
         allocations = 0;

@@ -1,5 +1,5 @@
 /*
- * What calls.c, runs.c and objects.c lend to the library: blocks of exactly their size, and stacks.
+ * What the programs lend to the library: blocks of exactly their size, and stacks.
  *
  * On Windows the library takes no memory from malloc, so no allocation is refused there, and no process is forked.
  *

@@ -21,14 +21,12 @@
  * Each call that has an output is made again with outputs of each size that is too small. What goes wrong is printed
  * to standard error, and the status is then 1. memory.h says what the environment asks for.
  */
-#include <inttypes.h>
 #include <stdio.h>
 #include <stdlib.h>
 #include <string.h>
 #include <time.h>
 
 #include "refusals.h"
-#include "sdtool.h"
 
 enum {
     MOST_STEPS = 700,
@@ -38,101 +36,11 @@ enum {
     LONGEST_TEXT = 200
 };
 
-struct bytes {
-    uint8_t *cells;
-    size_t size;
-};
-
-static const char *job;
-static int wrong;
-
-static void complain(const char *what)
-{
-    fprintf(stderr, "%s: %s\n", job, what);
-    wrong = 1;
-}
-
-static void expect(bool is_right, const char *what)
-{
-    if (!is_right)
-        complain(what);
-}
-
-/* Memory of the test itself. */
-static void *room_for(size_t count, size_t size)
-{
-    void *cells = calloc(count + 1, size);
-
-    if (cells == NULL)
-        abort();
-    return cells;
-}
-
 static bool is_outcome(const struct sdtool_outcome *o, uint32_t fault, uint32_t part, uint32_t argument, size_t entry,
                        size_t length)
 {
     return o->fault == fault && o->part == part && o->other_part == 0 && o->argument == argument && o->entry == entry
            && o->length == length;
-}
-
-static int digit(int c)
-{
-    static const char digits[] = "0123456789abcdef";
-    const char *at = c == 0 ? NULL : strchr(digits, c);
-
-    return at == NULL ? -1 : (int)(at - digits);
-}
-
-/* The bytes that hex digits spell, where nothing can be written. */
-static struct bytes spelled(const char *text, size_t length)
-{
-    struct bytes bytes;
-
-    if (length == 1 && text[0] == '-')
-        length = 0;
-    bytes.size = length / 2;
-    bytes.cells = block(bytes.size);
-    for (size_t i = 0; i < bytes.size; i++)
-        bytes.cells[i] = (uint8_t)(16 * digit(text[2 * i]) + digit(text[2 * i + 1]));
-    seal(bytes.cells, bytes.size);
-    return bytes;
-}
-
-static struct bytes copied(const void *cells, size_t size)
-{
-    struct bytes bytes = {block(size), size};
-
-    if (size != 0)
-        memcpy(bytes.cells, cells, size);
-    seal(bytes.cells, size);
-    return bytes;
-}
-
-static void print_hex(const uint8_t *cells, size_t size)
-{
-    for (size_t i = 0; i < size; i++)
-        printf("%02x", cells[i]);
-    putchar('\n');
-}
-
-static void print_fault(uint32_t fault, uint32_t part, uint32_t other_part)
-{
-    static const char *const parts[] = {"", " owner", " group", " sacl", " dacl"};
-
-    if (part > 4 || other_part > 4)
-        complain("a part that is none");
-    else
-        printf("error %" PRIu32 "%s%s\n", fault, parts[part], parts[other_part]);
-}
-
-static void print_outcome(const struct sdtool_outcome *o)
-{
-    if (o->length != 0 || (o->argument != 0) != (o->fault == SDTOOL_ARGUMENT))
-        complain("what a fault tells");
-    if (o->fault == SDTOOL_ARGUMENT)
-        printf("error 70 %" PRIu32 " %zu\n", o->argument, o->entry);
-    else
-        print_fault(o->fault, o->part, o->other_part);
 }
 
 /* A call that has an output, and what it is made with. */
@@ -1385,7 +1293,7 @@ static void many_descriptors(void)
 static void answer_line(char **words, int count, const char *line, size_t length)
 {
     bool is_text = strcmp(job, "from_text") == 0;
-    struct bytes in = is_text ? copied(line, length) : spelled(line, length);
+    struct bytes in = is_text ? copied(line, length) : spelled(line);
     struct call call = {.in = in, .numeric = count > 3};
     struct sdtool_outcome o;
 
@@ -1396,7 +1304,7 @@ static void answer_line(char **words, int count, const char *line, size_t length
     } else if (strcmp(job, "size") == 0) {
         printf("%zu\n", sdtool_sid_size(in.cells, in.size));
     } else {
-        struct bytes domain = spelled(words[2], strlen(words[2]));
+        struct bytes domain = spelled(words[2]);
 
         call.make = is_text ? make_from_text : make_to_text;
         call.domain = domain;
@@ -1416,17 +1324,12 @@ static void answer_line(char **words, int count, const char *line, size_t length
 /* All lines of the input as descriptors, and one question for them. */
 static void answer_all(char **words)
 {
-    struct question q = {spelled(words[2], strlen(words[2])),
-                         spelled(words[3], strlen(words[3])),
-                         spelled(words[4], strlen(words[4])),
-                         spelled(words[5], strlen(words[5])),
-                         {.wanted = 0}};
+    struct question q = {spelled(words[2]), spelled(words[3]), spelled(words[4]), spelled(words[5]), {.wanted = 0}};
     unsigned long flags = strtoul(words[8], NULL, 10);
     struct sdtool_bytes *descriptors = NULL;
     size_t count = 0, room = 0;
     char *line = NULL;
     size_t line_room = 0;
-    ssize_t got;
 
     q.request = (struct sdtool_request){
         .asker = {.mapping = (uint32_t)strtoul(words[7], NULL, 10),
@@ -1437,8 +1340,8 @@ static void answer_all(char **words)
         .wanted = (uint32_t)strtoul(words[6], NULL, 10),
         .options = (flags & 1) != 0 ? SDTOOL_MAXIMUM : 0,
     };
-    while ((got = getline(&line, &line_room, stdin)) > 0) {
-        struct bytes in = spelled(line, (size_t)got - (line[got - 1] == '\n'));
+    while (getline(&line, &line_room, stdin) > 0) {
+        struct bytes in = spelled(line);
 
         if (count == room) {
             struct sdtool_bytes *more = room_for(room = 2 * room + 16, sizeof *more);

@@ -1,9 +1,9 @@
 /*
- * malloc and realloc of the library in calls.c, runs.c, objects.c and texts.c, which the linker puts in the place of
- * those of the system: see tests/library/c_library.py. They count, for the thread that calls them, and refuse one
- * allocation if that is asked for.
+ * malloc and realloc of the library, which the linker puts in the place of those of the system: see
+ * tests/library/c_library.py. They count, for the thread that calls them, and refuse one allocation if that is asked
+ * for.
  */
-#include "memory.h"
+#include "inputs.h"
 
 void *__wrap_malloc(size_t size);
 void *__wrap_realloc(void *block, size_t size);

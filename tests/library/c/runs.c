@@ -19,7 +19,6 @@
 #include <string.h>
 
 #include "refusals.h"
-#include "sdtool.h"
 
 enum {
     THREADS = 8,
@@ -28,21 +27,14 @@ enum {
     FIRST_SIZE = 1 << 16
 };
 
-struct bytes {
-    uint8_t *cells;
-    size_t size;
-    /* The size of the block, where that is another one. */
-    size_t room;
-};
-
 static struct bytes words, input, answers;
+static size_t answers_room;
 static uint8_t message[SDTOOL_MOST_MESSAGE];
 static struct sdtool_ending whole;
-static int wrong;
 
-static void complain(const char *what, size_t at)
+static void complain_at(const char *what, size_t at)
 {
-    fprintf(stderr, "runs: %s %zu\n", what, at);
+    fprintf(stderr, "%s: %s %zu\n", job, what, at);
     wrong = 1;
 }
 
@@ -88,7 +80,7 @@ static struct sdtool_ending call(uint8_t *out, size_t size, uint8_t *says, size_
     allocated = made.allocated;
     e = made.ending;
     if (e.length > size || e.message_length > says_size)
-        complain("a length beyond the size", size);
+        complain_at("a length beyond the size", size);
     return e;
 }
 
@@ -97,7 +89,7 @@ static void answer(void)
 {
     for (size_t size = FIRST_SIZE;; size *= 4) {
         answers.cells = block(size);
-        answers.room = size;
+        answers_room = size;
         whole = call(answers.cells, size, message, sizeof message);
         answers.size = whole.length;
         if (whole.length < size && whole.status != SDTOOL_STATUS_STOPPED)
@@ -120,7 +112,7 @@ static void try_messages(void)
         size_t most = size < whole.message_length ? size : whole.message_length;
 
         if (!is_whole(&e, out) || e.message_length != most || !same(says, message, most))
-            complain("a message of size", size);
+            complain_at("a message of size", size);
         release(out, answers.size + 1);
         release(says, size);
     }
@@ -139,9 +131,9 @@ static void try_refusals(void)
     e = call(out, answers.size + 1, says, sizeof says);
     most = allocations;
     if (allocated >= 2 << 20)
-        complain("allocated bytes:", allocated);
+        complain_at("allocated bytes:", allocated);
     if (!is_whole(&e, out))
-        complain("a second call", 0);
+        complain("a second call");
     for (long n = 0; n < most; n++) {
         allocations_left = n;
         e = call(out, answers.size + 1, says, sizeof says);
@@ -152,11 +144,11 @@ static void try_refusals(void)
             continue;
         if (e.status != SDTOOL_STATUS_NO_MEMORY || e.length != 0 || e.message_length != strlen(no_memory)
             || memcmp(says, no_memory, e.message_length) != 0)
-            complain("a refused allocation", (size_t)n);
+            complain_at("a refused allocation", (size_t)n);
     }
     e = call(out, answers.size + 1, says, sizeof says);
     if (!is_whole(&e, out))
-        complain("a call after refused allocations", 0);
+        complain("a call after refused allocations");
     release(out, answers.size + 1);
 }
 
@@ -168,7 +160,7 @@ static void print_sizes(void)
         struct sdtool_ending e = call(out, size, says, sizeof says);
 
         if (!same(out, answers.cells, e.length))
-            complain("another front of the answers at size", size);
+            complain_at("another front of the answers at size", size);
         printf("%zu %u %zu %.*s", size, (unsigned)e.status, e.length, (int)e.message_length, (const char *)says);
         if (e.message_length == 0)
             putchar('\n');
@@ -185,7 +177,7 @@ static void *repeat(void *unused)
         struct sdtool_ending e = call(out, answers.size + 1, says, sizeof says);
 
         if (!is_whole(&e, out) || e.message_length != whole.message_length || !same(says, message, e.message_length))
-            complain("a call in a thread", (size_t)round);
+            complain_at("a call in a thread", (size_t)round);
         release(out, answers.size + 1);
     }
     return NULL;
@@ -205,7 +197,7 @@ static void try_threads(void)
 /* The words, each with its NUL; the last without it if they are cut. */
 static struct bytes joined(int count, char **list, bool is_cut)
 {
-    struct bytes all = {NULL, 0, 0};
+    struct bytes all = {NULL, 0};
     size_t at = 0;
 
     for (int i = 0; i < count; i++)
@@ -223,7 +215,7 @@ static struct bytes joined(int count, char **list, bool is_cut)
 /* All of standard input, in a block of exactly its size. */
 static struct bytes read_all(void)
 {
-    struct bytes all = {NULL, 0, 0};
+    struct bytes all = {NULL, 0};
     char piece[FIRST_SIZE];
     size_t got;
 
@@ -247,6 +239,7 @@ int main(int count, char **list)
     const char *task = count > 1 ? list[1] : "";
 
     read_environment();
+    job = "runs";
     words = joined(count - 2, list + 2, strcmp(task, "cut") == 0);
     input = read_all();
     answer();
@@ -267,6 +260,6 @@ int main(int count, char **list)
     release(words.cells, words.size);
     if (input.cells != NULL)
         release(input.cells, input.size);
-    release(answers.cells, answers.room);
+    release(answers.cells, answers_room);
     return wrong ? WRONG : (int)whole.status;
 }

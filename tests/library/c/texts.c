@@ -10,8 +10,6 @@
 #include <stdlib.h>
 #include <string.h>
 
-#include "sdtool.h"
-
 #include "refusals.h"
 
 enum {
@@ -19,34 +17,8 @@ enum {
     OF_AN_ACE = 131226
 };
 
-struct input {
-    uint8_t *cells;
-    size_t size;
-};
-
-static struct input first, second;
-static int wrong;
+static struct bytes first, second;
 static uint32_t meant; /* by a text that is a number */
-
-static struct input read_hex(const char *text)
-{
-    struct input input = {NULL, *text == '-' ? 0 : strspn(text, "0123456789abcdef") / 2};
-    char digits[3] = "";
-
-    input.cells = block(input.size);
-    for (size_t at = 0; at < input.size; at++) {
-        memcpy(digits, text + 2 * at, 2);
-        input.cells[at] = (uint8_t)strtoul(digits, NULL, 16);
-    }
-    seal(input.cells, input.size);
-    return input;
-}
-
-static void complain(const char *call, const char *what)
-{
-    fprintf(stderr, "%s: %s\n", call, what);
-    wrong = 1;
-}
 
 /* A number of the second input, low byte first. */
 static uint32_t number(void)
@@ -92,7 +64,7 @@ static void try_refusal(const char *call, uint8_t *output, size_t size, const st
     struct sdtool_outcome o;
 
     if (allocations != 1 || allocated > OF_AN_ACE || strcmp(call, "ace_from_text") != 0)
-        complain(call, "memory that it is not to take");
+        complain("memory that it is not to take");
     if (size != 0)
         memset(output, FILLED, size);
     allocations_left = 0;
@@ -100,10 +72,10 @@ static void try_refusal(const char *call, uint8_t *output, size_t size, const st
     allocations_left = -1;
     if (o.fault != SDTOOL_NO_MEMORY || o.length != 0 || o.argument != SDTOOL_NO_ARGUMENT
         || whole->fault == SDTOOL_ARGUMENT)
-        complain(call, "a refused allocation");
+        complain("a refused allocation");
     for (size_t at = 0; at < size; at++)
         if (output[at] != FILLED)
-            complain(call, "an output without memory");
+            complain("an output without memory");
 }
 
 static void print(const struct sdtool_outcome *o, const uint8_t *output)
@@ -122,10 +94,11 @@ int main(void)
     read_environment();
     while (getline(&line, &room, stdin) > 0) {
         call = strtok(line, " ");
+        job = call;
         inputs = strtok(NULL, " ");
-        first = read_hex(inputs == NULL ? "-" : inputs);
+        first = spelled(inputs == NULL ? "" : inputs);
         inputs = strtok(NULL, " \n");
-        second = read_hex(inputs == NULL ? "-" : inputs);
+        second = spelled(inputs == NULL ? "" : inputs);
         struct sdtool_outcome o = make(call, NULL, 0);
         size_t size = o.fault == SDTOOL_TOO_SMALL ? o.length : 0;
         uint8_t *output = block(size);
