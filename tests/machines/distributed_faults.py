@@ -1388,8 +1388,6 @@ def main(count: preload.Count, wanted: preload.Given) -> None:
         os.chmod(folder, 0o755)
         python = dask_cluster.python_with_dask(folder)
         if python is None:
-            print("skipped: no Python here has dask, distributed and fsspec "
-                  "(Debian: python3-dask, python3-distributed, python3-fsspec)")
             return
 
         def run_group(name):

@@ -174,8 +174,6 @@ def main(count: preload.Count, wanted: preload.Given) -> None:
     with tempfile.TemporaryDirectory(ignore_cleanup_errors=True) as folder:
         python = dask_cluster.python_with_dask(folder)
         if python is None:
-            print("skipped: no Python here has dask, distributed and fsspec "
-                  "(Debian: python3-dask, python3-distributed, python3-fsspec)")
             return
         for test in test_tasks, test_silence, test_driver, test_machines:
             if preload.is_chosen(test):

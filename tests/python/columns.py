@@ -26,7 +26,8 @@ import unittest.mock
 import dask_cluster
 import preload
 import python_plain
-from python_plain import TOP, WITHOUT_EXTENSION, raised
+from preload import TOP, raised
+from python_module import WITHOUT_EXTENSION
 
 os.environ["PYTHONPATH"] = str(TOP / "python")
 import sdtool  # noqa: E402

@@ -19,6 +19,7 @@ import uuid
 
 import c_library
 import preload
+from preload import raised
 
 TOP = c_library.TOP
 ENVIRONMENT = {**os.environ, "SDTOOL_LIBRARY": preload.LIBRARY, "PYTHONPATH": str(TOP / "python")}
@@ -68,15 +69,6 @@ def trustees(path: str) -> Iterator[str]:
                 yield f"everyone, since the DACL is {found.dacl}"
 '''
 WRONG_CALLER = "import sdtool\nsdtool.check(b'', [], mapping='folder')\nsdtool.to_sddl('D:')\n"
-
-
-def raised(call, *arguments, **named):
-    """What a call raises, or None."""
-    try:
-        call(*arguments, **named)
-    except Exception as problem:  # each is looked at
-        return problem
-    return None
 
 
 def test_types(count):

@@ -13,7 +13,6 @@ import doctest
 import enum
 import itertools
 import os
-import pathlib
 import pickle
 import random
 import re
@@ -23,25 +22,18 @@ import threading
 import time
 import uuid
 
-WITHOUT_EXTENSION = "--without-extension"
-TOP = pathlib.Path(__file__).resolve().parents[2]
-if WITHOUT_EXTENSION in sys.argv:
-    sys.modules["sdtool._native"] = None
-else:
-    subprocess.run([sys.executable, TOP / "python/build_wheel.py", "--extension"], check=False)
+import c_library
+import compare
+import fault_places
+import preload
+import reference
+import sddl_texts
+from preload import TOP, raised
+from python_module import WITHOUT_EXTENSION
+from reference.places import place_of_bytes
 
-import c_library  # noqa: E402
-import compare  # noqa: E402
-import fault_places  # noqa: E402
-import preload  # noqa: E402
-import reference  # noqa: E402
-import sddl_texts  # noqa: E402
-from reference.places import place_of_bytes  # noqa: E402
-
-os.environ["SDTOOL_LIBRARY"] = preload.LIBRARY
-sys.path.insert(0, str(TOP / "python"))
-import sdtool  # noqa: E402
-from sdtool import (Ace, AceFlags, AceKind, Acl, Checker, Control, DirectoryMask, FileMask, KeyMask,  # noqa: E402
+import sdtool
+from sdtool import (Ace, AceFlags, AceKind, Acl, Checker, Control, DirectoryMask, FileMask, KeyMask,
                     SecurityDescriptor, Sid, Token)
 
 try:
@@ -56,15 +48,6 @@ READ = 0x120089
 DOMAIN = "S-1-5-21-1-2-3"
 REASONS = ["nothing", "label", "no-dacl", "owner", "privilege", "granted", "denied"]
 MOST_SECONDS = 600  # that a thread waits for others
-
-
-def raised(call, *arguments, **named):
-    """What a call raises, or None."""
-    try:
-        call(*arguments, **named)
-    except Exception as problem:  # each is looked at
-        return problem
-    return None
 
 
 def raise_it(problem):

@@ -7,30 +7,20 @@ All of it is tried by the module's extension, where that is built, and by ctypes
 """
 import base64
 import itertools
-import os
-import pathlib
 import random
-import subprocess
 import sys
 import threading
 import uuid
 
-WITHOUT_EXTENSION = "--without-extension"
-TOP = pathlib.Path(__file__).resolve().parents[2]
-if WITHOUT_EXTENSION in sys.argv:
-    sys.modules["sdtool._native"] = None
-else:
-    subprocess.run([sys.executable, TOP / "python/build_wheel.py", "--extension"], check=False)
+import c_library
+import preload
+import reference
+from preload import raised
+from python_module import WITHOUT_EXTENSION
 
-import c_library  # noqa: E402
-import preload  # noqa: E402
-import reference  # noqa: E402
-
-os.environ["SDTOOL_LIBRARY"] = preload.LIBRARY
-sys.path.insert(0, str(TOP / "python"))
-import sdtool  # noqa: E402
-from sdtool import Fault, PlainAce, PlainDescriptor, SecurityDescriptor, plain_descriptors  # noqa: E402
-from sdtool.audit import library  # noqa: E402
+import sdtool
+from sdtool import Fault, PlainAce, PlainDescriptor, SecurityDescriptor, plain_descriptors
+from sdtool.audit import library
 
 DOMAIN = "S-1-5-21-1-2-3"
 WORDS = {form: [b"explain", b"--from", form.encode()] for form in ("hex", "base64", "sddl")}
@@ -205,14 +195,6 @@ def test_audit(count, of_hex, of_sddl, choices):
     for domain in ("x", "DA", "S-1-5-21-" + "-".join(map(str, range(14)))):
         problem = raised(library.explained, "sddl", ["O:BA"], domain)
         count.add(isinstance(problem, library.WordsFault), f"the domain {domain}: {problem!r}")
-
-
-def raised(call, *given, **named):
-    try:
-        call(*given, **named)
-    except Exception as problem:  # each is looked at
-        return problem
-    return None
 
 
 def test_sharing(count):

@@ -24,7 +24,12 @@ NO_PROFILER = {"DASK_DISTRIBUTED__WORKER__PROFILE__ENABLED": "False"}
 
 
 def python_with_dask(folder):
-    return preload.python_with(*PACKAGES, folder=folder)
+    """A Python that has Dask; without one, it is said that the test is skipped."""
+    python = preload.python_with(*PACKAGES, folder=folder)
+    if python is None:
+        print("skipped: no Python here has dask, distributed and fsspec "
+              "(Debian: python3-dask, python3-distributed, python3-fsspec)")
+    return python
 
 
 @functools.lru_cache(maxsize=None)

@@ -10,7 +10,7 @@ import shutil
 import signal
 import subprocess
 import sys
-from typing import IO, Any, List, NamedTuple, Optional, Sequence, Union
+from typing import IO, Any, Callable, List, NamedTuple, Optional, Sequence, Union
 
 TOP = pathlib.Path(__file__).resolve().parents[2]
 FOLDERS = {path.parent for path in TOP.glob("tests/*/*.py")} - {TOP / "tests/reference"}
@@ -100,6 +100,15 @@ def let_signals_come() -> None:
     for number in signal.SIGINT, signal.SIGHUP:
         if signal.getsignal(number) == signal.SIG_IGN:
             signal.signal(number, lambda *_: None)
+
+
+def raised(call: Callable[..., Any], *arguments: Any, **named: Any) -> Optional[Exception]:
+    """What a call raises, or None."""
+    try:
+        call(*arguments, **named)
+    except Exception as problem:  # each is looked at
+        return problem
+    return None
 
 
 class Given(argparse.Namespace):
