@@ -27,6 +27,7 @@ class Directory:
         self.faults = {lost: talking.Lost("cut"), refused: talking.Refused(50, "not allowed")}
         self.gone, self.listed, self.asked = gone, [listed], []  # type: str, List[str], List[str]
         self.is_asked = self.is_empty = False
+        self.is_shown = True  # whether a base is, below which there may be nothing
 
     def ask(self, action: str, *words: Any) -> Iterator[Any]:
         """The answers, which come by one pipe: what is asked before all are read would get those that are left."""
@@ -45,12 +46,12 @@ class Directory:
             return
         base, scope, pattern, attributes, _ = words
         self.asked.append(base if scope == "base" else pattern)
-        found = [base] * (base not in (self.gone, *self.listed)) if scope == "base" else NAMES
+        found = [base] * (base not in (self.gone, *self.listed) and self.is_shown) if scope == "base" else NAMES
         of_name = re.fullmatch(r"\(distinguishedName=([^()*\0]*)\)", pattern)
         if of_name:  # by RFC 4515, section 3
             wanted = re.sub(r"\\([0-9a-f]{2})", lambda mark: chr(int(mark[1], 16)), of_name[1])
             found = [one for one in NAMES if one == wanted and one != self.gone]
-        if self.is_empty:
+        if self.is_empty and scope != "base":
             found = []
         for at in range(0, len(found), 3):
             step = f"{base if scope == 'base' else scope} {at}"
@@ -138,9 +139,14 @@ def test_refused(place: audit.Place) -> None:
     place.expect(len(read.objects), 7, "what came before")
     place.expect(["ldap://other/DC=other" in line for line in read.said], [True], "referrals")
     place.expect([line for line in read.said if f"/{BASE}" in line], [], "referrals to what is read")
-    directory = Directory()
-    directory.is_empty = True
-    place.expect(list(Read(directory).objects), [f"{BASE}: the rest"], "a server that lists nothing")
+    for query, is_shown, rest in (("", True, [f"{BASE}: the rest"]), (f"/{BASE}??one", True, []),
+                                  (f"/{BASE}??one", False, [f"{BASE}: the rest"]), (f"/{BASE}??sub?(cn=a)", True, [])):
+        directory = Directory()
+        directory.is_empty, directory.is_shown = True, is_shown
+        read = Read(directory, f"ldap://server{query}")
+        said = ["lists no such object" in line for line in read.said if "refers" not in line]
+        place.expect((list(read.objects), said), (rest, [True] * (not rest)),
+                     f"a server that lists nothing of {query!r}, and shows the base: {is_shown}")
     from sdtool.audit.live import talking
     try:
         Read(Directory(refused=f"{BASE} 0"))

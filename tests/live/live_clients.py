@@ -8,10 +8,12 @@ import os
 import pathlib
 import pty
 import resource
+import sqlite3
 import struct
 import subprocess
 import sys
 import tempfile
+import time
 from typing import Any, Dict, List, NamedTuple
 
 import audit
@@ -48,6 +50,8 @@ def opened(login):
         file.write("x")
     if PLAN.get("closed"):
         raise OSError(*PLAN["closed"])
+    if PLAN.get("waits"):
+        time.sleep(1000)
     return login
 def times():
     return os.path.getsize(BEGUN)
@@ -71,12 +75,16 @@ def privileges(session, sids):
 def names(session, sids):
     yield {}
 def root(session):
-    yield {}
+    yield PLAN.get("root", {})
 def search(session, base, scope, pattern, attributes, flags):
     may("search")
-    yield [[[base, {"tokenGroups": [PLAN["group"]]}, True]], []]
+    may(base)
+    if scope in PLAN.get("dies", ()):
+        os.abort()
+    yield [[[base, {"tokenGroups": [PLAN["group"]], "nTSecurityDescriptor": [PLAN["descriptor"]]}, True]], []]
 def shares(session):
-    yield ["share", 0]
+    for name in PLAN.get("shares", ["share"]):
+        yield [name, 0]
 def share_descriptor(session, share):
     if PLAN["share"] == "dies":
         os.abort()
@@ -136,6 +144,10 @@ def descriptor(session, path):
         print("of a library", flush=True)
     if name == "trickle":
         trickle()
+    while name == "held" and not os.path.exists(BEGUN + ".let go"):
+        time.sleep(0.05)
+    if name.startswith("large"):  # each another one
+        return PLAN["large"][:-8] + f"{int(name[5:]):08x}"
     if name in ("no sacl", "lost bytes"):
         return next(each_descriptor(session, [path], 1, without_sacl))[0]
     elif name in GONE:
@@ -181,14 +193,17 @@ class Place(NamedTuple):
     def run(self, *words: str, token: str = "WD", address: str = f"smb://{SERVER}/share",
             **plan: Any) -> audit.Ended:
         """A run that asks a client with this plan."""
+        self.planned(**plan)
+        return self.ask("can", token, "write", address, "--timeout", str(plan.get("timeout", 120)),
+                        *(words or ("--to", "jsonl")))
+
+    def planned(self, **plan: Any) -> None:
+        """Says what clients do from now on."""
         begun = self.folder / "begun"
         begun.write_text("")
         given = {"begun": str(begun), "share": EVERYTHING, "descriptor": EVERYTHING, "entries": [], "of": {}, "fd": "3",
                  "domain": DOMAIN, "group": ADMINISTRATORS, "ticket": TICKET, "gone": GONE, **plan}
-        plan_path = self.folder / "plan"
-        plan_path.write_text(json.dumps(given))
-        return self.ask("can", token, "write", address, "--timeout", str(plan.get("timeout", 120)),
-                        *(words or ("--to", "jsonl")))
+        (self.folder / "plan").write_text(json.dumps(given))
 
     def environment(self, has_client: bool = True) -> Dict[str, str]:
         return {**os.environ, "SDTOOL_LIBRARY": preload.LIBRARY, "SDTOOL_TEST_PLAN": str(self.folder / "plan"),
@@ -263,6 +278,10 @@ def test_answers(place: Place) -> None:
     for name in good:
         place.expect(got.get(f"{TOP_NAME}\\{name}"), "found", f"the name {name!r}")
     place.expect(len(ended.objects), 2 + len(strange) + len(good), "as many objects as there are")
+    shares = place.run(address=f"smb://{SERVER}", shares=[*strange, "share"])
+    unknown = [(f"\\\\{SERVER}\\{name}", "unknown") for name in strange]
+    place.expect(sorted((one["name"], one["answer"]) for one in shares.objects), sorted([*WHOLE.items(), *unknown]),
+                 "names of shares")
     of = {"large": descriptor(0x2, 3276), "cut": EVERYTHING[:-8], "none": "", "odd": "0"}
     ended = place.run(entries=[*([name, 16] for name in GONE), ["denied", 16], ["link", 0x410], *files(*of, "last")],
                       of=of)
@@ -420,6 +439,75 @@ def test_goes_on(place: Place) -> None:
         place.expect(ended.stderr.count("SACLs can't be read"), 1, f"what is said of {names}: {ended}")
 
 
+def started(place: Place, *words: str, **plan: Any) -> "subprocess.Popen[bytes]":
+    """A run with such a plan that goes on by itself."""
+    place.planned(**plan)
+    return subprocess.Popen([place.python, COMMAND, "can", "WD", "write", f"smb://{SERVER}/share", *words,
+                             "--timeout", "120"], cwd=place.folder, env=place.environment(), stdin=subprocess.DEVNULL,
+                            stdout=subprocess.DEVNULL, stderr=subprocess.PIPE)
+
+
+def is_hot(path: pathlib.Path) -> bool:
+    """Whether a database has to be mended by its journal, by SQLite's file format, section 3."""
+    journal = path.with_name(f"{path.name}-journal")
+    return journal.exists() and journal.read_bytes()[:8] == bytes.fromhex("d9d505f920a163d7")
+
+
+def test_killed(place: Place) -> None:
+    """A run that is killed goes on, wherever it was: before it was logged in, and while it writes."""
+    words = ("--into", "early.db")
+    run = started(place, *words, waits=True)
+    while not place.begun():
+        time.sleep(0.05)
+    run.kill()
+    run.communicate()
+    ended = place.run(*words, "--to", "jsonl", entries=files("a"))
+    place.expect((ended.status, answers(ended)), (1, of_names(a="found")), f"a run that was killed early: {ended}")
+    names, large = [f"large{at}" for at in range(400)], descriptor(0x2, 1800, "01020000000000050000000000000000")
+    path = place.folder / "written.db"
+    while not is_hot(path):
+        path.unlink(missing_ok=True)
+        run = started(place, "--into", path.name, entries=files(*names, "silent"), large=large)
+        while run.poll() is None and not (is_hot(path) and path.stat().st_size > 1_000_000):
+            time.sleep(0.001)
+        run.kill()
+        run.communicate()
+    kept = answers(place.ask("can", "WD", "write", path.name, "--to", "jsonl"))
+    rest = f"smb://{SERVER}/share: the rest"
+    place.expect((kept.pop(rest, ""), "database" in str(kept)), ("unknown", False), f"what was kept: {kept}")
+    ended = place.run("--into", path.name, "--to", "jsonl", entries=files(*names), large=large)
+    place.expect((ended.status, len(ended.objects)), (1, len(names) + 2), f"what went on: {ended.stderr}")
+
+
+def test_together(place: Place) -> None:
+    """One run fills a database, and who looks at it meanwhile doesn't end that."""
+    run = started(place, "--into", "one.db", entries=files("a", "held", "b"))
+    path = place.folder / "one.db"
+    while not place.begun():
+        time.sleep(0.05)
+    other = place.ask("can", "WD", "write", f"smb://{SERVER}/share", "--into", "one.db")
+    place.expect((other.status, "another run fills it" in other.stderr), (2, True), f"a second run: {other}")
+    with contextlib.closing(sqlite3.connect(path, isolation_level=None)) as database:
+        database.execute("BEGIN")
+        database.execute("SELECT count(*) FROM objects").fetchone()
+        (place.folder / "begun.let go").touch()
+        time.sleep(7)  # SQLite itself would wait for five seconds
+    said = run.communicate(timeout=audit.SECONDS)[1]
+    place.expect(run.returncode, 1, f"the first run: {said!r}")
+    place.expect(answers(place.ask("can", "WD", "write", "one.db", "--to", "jsonl")),
+                 of_names(a="found", held="found", b="found"), "what it has read")
+
+
+def test_notes(place: Place) -> None:
+    """What a run couldn't read isn't said of one that went on and could."""
+    words = ("risks", f"ldap://{SERVER}/DC=example", "--into", "notes.db")
+    plan = {"root": {"schemaNamingContext": ["CN=schema"]}}
+    for more, said in (({"refused": ["CN=schema"], "dies": ["sub"]}, True), ({}, False)):
+        place.planned(**plan, **more)
+        ended = place.ask(*words)
+        place.expect("schema can't be read" in ended.stderr, said, f"{more}: {ended}")
+
+
 def test_pace(place: Place) -> None:
     """A client that waits, for so many requests a second or for the rest of an answer, isn't taken for one that is
     lost."""
@@ -465,7 +553,7 @@ def test_many(place: Place) -> None:
 
 
 TESTS = (test_lost, test_answers, test_secrets, test_folder, test_typed, test_tokens, test_servers, test_never_opened,
-         test_goes_on, test_pace, test_sizes, test_many)
+         test_goes_on, test_killed, test_together, test_notes, test_pace, test_sizes, test_many)
 
 
 def main(count: preload.Count) -> None:

@@ -207,6 +207,15 @@ def test_nearest(place: Place) -> None:
     place.become("gus")
     ended = place.ask("risks", f"ldap:///{PLANTS}??base", "--to", "jsonl")
     place.expect([one["name"] for one in ended.objects], [PLANTS], f"ldap:///: {ended}")
+    # Who has a password and no domain has none that could be asked.
+    bare, wrong = (place.folder / name for name in ("bare.conf", "wrong"))
+    bare.write_text("[global]\n")
+    for user, said in (("gus", "says which domain"), ("gus@nowhere.test", "controller of nowhere.test")):
+        wrong.touch(0o600)
+        wrong.write_text(f"username = {user}\npassword = {PASSWORD}\n")
+        ended = place.ask("risks", "ldap:///", "--credentials", str(wrong), SMB_CONF_PATH=str(bare))
+        place.expect((ended.status, said in ended.stderr, "NAME@DOMAIN" in ended.stderr, ended.stdout),
+                     (2, True, True, ""), f"ldap:/// by {user} and a password: {ended}")
     place.environment = {**place.environment, "KRB5CCNAME": "FILE:/nowhere"}
     for address in ("ldap:///", SERVER):
         ended = place.ask("risks", address)
@@ -214,8 +223,11 @@ def test_nearest(place: Place) -> None:
 
 
 def test_refused(place: Place) -> None:
-    """What never opens is status 2, and a sentence says what helps."""
+    """What never opens is status 2, and a sentence says what helps. That there is nothing is no fault."""
     place.become("gus")
+    for query in ("??one", "??sub?(cn=nothing)"):
+        ended = place.ask("risks", f"{SERVER}/CN=open,{PLANTS}{query}")
+        place.expect((ended.status, "lists no such object" in ended.stderr), (0, True), f"nothing of {query}: {ended}")
     for address, *words in ((f"{SERVER}/CN=Nowhere,{BASE}", "there is no such object"),
                             ("ldap://nowhere.audit.test", "nowhere.audit.test isn't known"),
                             (f"{SERVER}/{BASE}?cn", "??SCOPE?FILTER"), (f"{SERVER}/{BASE}??all", "the scope"),

@@ -9,6 +9,7 @@ import json
 import os
 import pathlib
 import pty
+import pwd
 import random
 import re
 import select
@@ -21,7 +22,7 @@ import sys
 import tempfile
 import threading
 import time
-from typing import Any, Dict, Iterator, List, NamedTuple, Optional, Sequence, Set
+from typing import Any, Dict, Iterator, List, NamedTuple, Optional, Sequence, Set, Tuple
 
 import audit
 import faulty_proxy
@@ -325,6 +326,36 @@ def test_bytes(place: World) -> None:
     place.expect(done.stdout.split("\n")[-2:], [str(["Run", "Run\0", "Run\0", "\U0001f600"]), ""], "names of keys")
 
 
+def test_connections(place: World) -> None:
+    """A client has a connection to the share that it asks about, and to no other one."""
+    login = ["smb", "smb", samba_domain.HOST, "", "", "", samba_domain.ADMINISTRATOR, samba_domain.NETBIOS,
+             samba_domain.PASSWORD, 60, 0, False, False, ""]
+    done = subprocess.run([place.python, "-c", CONNECTIONS], env=place.environment(), stdout=subprocess.PIPE, text=True,
+                          input=json.dumps(login))
+    place.expect(done.stdout, "1 2 2 2\n", "connections with the service, and with one share after the other")
+
+
+def test_alone(place: World) -> None:
+    """A server of Samba that is in no domain answers otherwise than a controller: its own accounts and groups, what
+    they may really do, and names beside SIDs that are none to it."""
+    with alone(place.folder) as (user, own):
+        (place.folder / "alone.credentials").touch(0o600)
+        (place.folder / "alone.credentials").write_text(f"username = {user}\npassword = {samba_domain.PASSWORD}\n"
+                                                        "domain = ALONE\n")
+        done = subprocess.run([place.python, "-c", _OPENS, json.dumps(sys.path), ALONE, "data", "ALONE", user,
+                               samba_domain.PASSWORD, "[1]"], input=json.dumps(sorted(OF_ALONE)), text=True,
+                              stdout=subprocess.PIPE, check=True, env=place.environment())
+        real = {name: "found" if mask else "nothing" for name, mask in json.loads(done.stdout).items()}
+        words = ("--credentials", str(place.folder / "alone.credentials"))
+        ended = place.ask("can", f"ALONE\\{user}", "0x1", f"smb://{ALONE}/data", "--to", "jsonl", *words, user=None)
+        answers = {one["name"].rpartition("\\")[2]: one["answer"] for one in ended.objects}
+        place.expect({name: answers.get(name) for name in OF_ALONE}, real, f"what {user} may do: {ended.stderr}")
+        place.expect(set(real.values()), {"found", "nothing"}, "not all is one answer")
+        shown = place.ask("show", f"smb://{ALONE}/data", *words, user=None)
+        place.expect([f"Unix User\\{user} (S-1-22-1-" in shown.stdout, f"ALONE\\{user} ({own}-" in shown.stdout],
+                     [True, True], f"names of SIDs: {shown}")
+
+
 def test_faults(place: World) -> None:
     """Whatever happens on the way, each object is there with its answer, or is unknown and the status is 3."""
     def ask(server: str) -> audit.Ended:
@@ -352,6 +383,82 @@ def test_faults(place: World) -> None:
                         f"{str(ended)[-600:]}")
 
 
+# The server that is in no domain, and who may read each of its files.
+ALONE = "10.97.0.30"
+OF_ALONE = {"of user": "{own}-{number}", "of users": "{own}-513", "of others": "{own}-9999", "of everyone": "S-1-1-0",
+            "of who logs on": "S-1-5-11", "of network": "S-1-5-2", "of administrators": "S-1-5-32-544"}
+_ALONE = """[global]
+server role = standalone server
+workgroup = ALONE
+netbios name = ALONE
+interfaces = {address}
+bind interfaces only = yes
+vfs objects = acl_xattr
+acl_xattr:ignore system acls = yes
+load printers = no
+disable spoolss = yes
+log file = {folder}/log
+private dir = {folder}/private
+state directory = {folder}/state
+lock directory = {folder}/lock
+cache directory = {folder}/cache
+pid directory = {folder}/run
+ncalrpc dir = {folder}/ncalrpc
+[data]
+path = {folder}/data
+read only = no
+"""
+
+
+@contextlib.contextmanager
+def alone(top: pathlib.Path) -> Iterator[Tuple[str, str]]:
+    """Such a server, with the name of a user and the SID of its accounts. It doesn't see the domain's winbind."""
+    from samba.dcerpc import security
+    folder, user = top / "alone", "games"
+    for name in ("data", "private", "state", "lock", "cache", "run", "samba"):
+        (folder / name).mkdir(parents=True)
+    (folder / "data").chmod(0o777)
+    configuration = folder / "smb.conf"
+    configuration.write_text(_ALONE.format(folder=folder, address=ALONE))
+    subprocess.run(["ip", "address", "add", f"{ALONE}/24", "dev", "lo"], check=True)
+    # The mount is seen by what is started here.
+    started = f"mount --bind {folder}/samba /run/samba && exec \"$@\""
+    inside = ["unshare", "--mount", "sh", "-c", started, "sh"]
+    subprocess.run([*inside, "smbpasswd", "-c", str(configuration), "-s", "-a", user], check=True, text=True,
+                   input=2 * f"{samba_domain.PASSWORD}\n", stdout=subprocess.DEVNULL)
+    told = subprocess.run([*inside, "pdbedit", "-s", str(configuration), "-L", "-v", user], check=True, text=True,
+                          stdout=subprocess.PIPE).stdout
+    own, number = re.search(r"User SID: +(\S+)-(\d+)", told).groups()  # type: ignore[union-attr]
+    for name, sid in OF_ALONE.items():
+        path = folder / "data" / name
+        path.touch(0o666)
+        path.chmod(0o666)
+        sddl = f"O:S-1-22-1-{pwd.getpwnam(user).pw_uid}G:BAD:(A;;FR;;;{sid.format(own=own, number=number)})"
+        set_descriptor(path, sddl, security.dom_sid(own))
+    server = subprocess.Popen([*inside, "smbd", "--foreground", "-s", str(configuration)], start_new_session=True,
+                              stdin=subprocess.PIPE, stdout=subprocess.DEVNULL, stderr=subprocess.DEVNULL)
+    try:
+        end = time.monotonic() + audit.SECONDS
+        while server.poll() is None and time.monotonic() < end:
+            with contextlib.suppress(OSError), socket.create_connection((ALONE, 445), 1):
+                break
+            time.sleep(0.1)
+        yield user, own
+    finally:
+        server.terminate()
+        server.wait()
+
+
+CONNECTIONS = """
+import json, sys
+from sdtool.audit.live import client, smb_client
+session = smb_client.opened(client.Login(*json.loads(sys.stdin.readline())))
+found = [len(list(client._connections()))]
+for share in ("free", "tight", "odd"):
+    assert list(smb_client.entries(session, share, ""))
+    found.append(len(list(client._connections())))
+print(*found)
+"""
 # The same bytes come back if none are lost; a condition, and what else is behind a SID, is.
 BYTES = """
 import struct
@@ -640,8 +747,8 @@ def test_goes_on(place: World) -> None:
     place.expect(len(whole), WHOLE, "files, folders, the root and the share")
 
 
-TESTS = (test_seen, test_bytes, test_truth, test_shares, test_names, test_others, test_refused, test_tickets,
-         test_goes_on, test_faults)
+TESTS = (test_seen, test_bytes, test_connections, test_alone, test_truth, test_shares, test_names, test_others,
+         test_refused, test_tickets, test_goes_on, test_faults)
 BY_NAME = (test_speed,)  # which takes a machine without other work
 
 

@@ -16,7 +16,7 @@ from sdtool.audit.engine import Answered, Engine, Held, workers_of
 from sdtool.audit.findings import Rule
 from sdtool.audit.live.address import address_of, is_address
 from sdtool.audit.live.reading import Reading, Rest, reading_of
-from sdtool.audit.live.talking import SAID, Fact, known
+from sdtool.audit.live.talking import SAID, SAID_OF_OBJECTS, Fact, known
 from sdtool.audit.progress import Bar
 from sdtool.audit.protocols import Context, ListQuestion, Question
 from sdtool.audit.reports import outputs
@@ -96,12 +96,12 @@ def _gathered(common: Common, paths: Sequence[str]) -> Tuple[Common, str]:
     server has answered."""
     access = known(common.access, next(filter(is_address, paths)))
     target = common.into or files.part_of(os.path.join(tempfile.gettempdir(), "sdtool"))
-    is_new = not os.path.exists(target)
     if not common.into:
-        os.close(os.open(target, os.O_WRONLY | os.O_CREAT | os.O_EXCL, 0o600))
-    if is_new:
         stopping.unfinished.add(target)
+        os.close(os.open(target, os.O_WRONLY | os.O_CREAT | os.O_EXCL, 0o600))
     asking = cache.Asking(target, paths, access.asked)
+    if asking.is_new:
+        stopping.unfinished.add(target)
     stopping.close_early(asking.close)
     bar = Bar(paths, common.bar)
     try:
@@ -153,7 +153,7 @@ def _informed(common: Common, paths: Sequence[str], shown: Optional[Dict[str, st
     paths = [path for path in paths if path != STANDARD_INPUT and files.can_be_read_again(path)]
     told = Told(paths)
     common = common.saying(*dict.fromkeys(line for path in paths if is_database(path)
-                                          for line, _ in cache.facts(path, SAID)))
+                                          for kind in (SAID, SAID_OF_OBJECTS) for line, _ in cache.facts(path, kind)))
     if not told.paths:
         return common
     context, domains = common.context, common.domains

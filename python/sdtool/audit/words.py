@@ -246,6 +246,8 @@ def check_files(common: Common, paths: Sequence[str], read: Sequence[files.Named
     files.refuse(reads, outputs_)
     files.refuse_standard_output(reads)
     if common.into is not None and os.path.lexists(common.into):
-        if not is_asking or cache.sources_asked(common.into) != list(paths):
+        is_begun = os.path.isfile(common.into) and (  # which may have been before the first byte
+            not os.path.getsize(common.into) or cache.sources_asked(common.into) == list(paths))
+        if not is_asking or not is_begun:
             raise OpeningFault(f"--into {common.into}: the file exists; name a new one" +
                                ", or the sources of the run that has begun it" * is_asking)

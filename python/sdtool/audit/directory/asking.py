@@ -94,7 +94,7 @@ class _Account:
                 if not (is_of_domain or is_controller and of_name):
                     self._missing.append(f"it is of another domain than {server_name}, and its groups in both aren't "
                                          "known")
-                [name] = server.ask("controller", of_name or domains["name"])
+                [name] = server.ask("controller", of_name or domains["name"] or self._name.partition("@")[2])
             scheme = "ldaps" if self._address.scheme == "ldaps" else "ldap"
             with _opened("ldap", Address(scheme, name, "", "", f"{scheme}://{name}"), self._access) as directory:
                 [about] = directory.ask("root")
@@ -140,10 +140,13 @@ def names_of(path: str, known: Names, domain: str, addresses: Sequence[Address],
     unnamed = [sid for sid in dict.fromkeys((*sids_, *_sids_in(path, domain))) if not known.knows(sid)]
     found: Dict[str, str] = {}
     said: List[str] = []
-    for address in addresses if unnamed else ():
+    for address in {one.server.casefold(): one for one in addresses}.values():
+        left = [sid for sid in unnamed if sid not in found]
+        if not left:
+            break
         try:
             with _opened("tokens", address, access) as server:
-                for some in server.ask("names", [sid for sid in unnamed if sid not in found]):
+                for some in server.ask("names", left):
                     found.update(some)
         except _FAULTS as error:
             said.append(f"{address.text} couldn't be asked for names of SIDs ({error})")

@@ -16,7 +16,7 @@ _ALIVE = 1.0  # seconds between two looks at what has come
 _SLOW = 0.5  # seconds in which an answer is told
 _HEARD, _BYTES_RECEIVED = 52, 128  # where TCP_INFO has them: milliseconds since something came, and how many came
 _SET_DUMPABLE = 4
-_PORTS = {"ldap": 389, "ldaps": 636}
+PORTS = {"ldap": 389, "ldaps": 636}
 
 
 READ_CONTROL = 0x20000
@@ -25,11 +25,11 @@ _WITHOUT_SACL, _WITH_SACL = (7, READ_CONTROL), (15, READ_CONTROL | 0x01000000)
 
 
 class Refusal(Exception):
-    """The server's answer to one request is none."""
+    """The server's answer to one request is none. Where the words are why, advice says what helps."""
 
-    def __init__(self, code: int, reason: str) -> None:
+    def __init__(self, code: int, reason: str, advice: str = "") -> None:
         super().__init__(reason)
-        self.code, self.reason = code, reason
+        self.code, self.reason, self.advice = code, reason, advice
 
 
 class Login(NamedTuple):
@@ -82,7 +82,7 @@ class Login(NamedTuple):
             found.set_kerberos_state(credentials.MUST_USE_KERBEROS)
             user = found.get_principal()
             if not user:
-                raise Refusal(_NO_SESSION, "there is no ticket of Kerberos")
+                raise Refusal(_NO_SESSION, "there is no ticket of Kerberos that is still valid")
             if self.user and user != self.user:
                 raise Refusal(_NO_SESSION, f"the ticket of Kerberos is that of {user}, and was that of {self.user}")
             return found
@@ -101,7 +101,7 @@ _waits = False  # for the time of the next request
 
 
 def pace(login: Login, count: int = 1) -> None:
-    """Waits until the server may be asked so many times more, as what is opened is closed too."""
+    """Waits until the server may be asked so many times more."""
     global _next_request, _waits
     if login.requests:
         now = time.monotonic()
@@ -112,14 +112,31 @@ def pace(login: Login, count: int = 1) -> None:
         _next_request += count / login.requests
 
 
+class Paced:
+    """A connection of which each call is a request that waits for its turn."""
+
+    def __init__(self, login: Login, connection: Any) -> None:
+        self._login, self._connection = login, connection
+
+    def __getattr__(self, name: str) -> Callable[..., Any]:
+        call = getattr(self._connection, name)
+
+        def request(*words: Any, **more: Any) -> Any:
+            pace(self._login)
+            return call(*words, **more)
+        return request
+
+
+TO_CONNECT = 4  # requests
 _MOST_BYTES = 1 << 22
 
 
 def rpc(login: Login, interface: Any) -> Any:
-    """A pipe of a server to one of its services. The packets are signed, and so is what carries them."""
-    found = interface(f"ncacn_np:{login.server}[sign]", login.loadparm(), login.credentials())
+    """A pipe of a server to one of its services. The packets are sealed, and what carries them is signed."""
+    pace(login, 2 * TO_CONNECT)
+    found = interface(f"ncacn_np:{login.server}[seal]", login.loadparm(), login.credentials())
     found.request_timeout = max(1, int(login.timeout))
-    return found
+    return Paced(login, found)
 
 
 def growing(ask: Callable[[int], Any], size: int, too_small: Tuple[int, ...]) -> Any:
@@ -270,7 +287,7 @@ _TRANSPORT = frozenset((
 # those of an account or a password that may not log in, of a ticket that isn't there, and of a path that isn't:
 _LOGGED_IN = frozenset((
     0xc000006d, 0xc000006a, 0xc0000064, 0xc0000072, 0xc0000234, 0xc0000193, 0xc000006e, 0xc0000071, 0xc0000224,
-    0xc000015b, 0xc0000070, 0xc000006f, 0xc000018d, 0xc0000418))
+    0xc000015b, 0xc0000070, 0xc000006f, 0xc000018d, 0xc0000418, 0xc0000225))
 _NO_SESSION = 0xc000005f
 _NO_TICKET = frozenset((
     _NO_SESSION, 0xc000005e, 0xc00000da, 0xc0000233, 0xc0000062, 0xc000000d, 0xc00002fc, 0xc0000001, 0xc0000022,
@@ -289,6 +306,8 @@ def is_of_transport(code: int) -> bool:
 def why_closed(login: Login, error: Exception) -> Tuple[str, str, bool]:
     """Why nothing can be asked, what would help, and whether it may pass."""
     code, words = fault_of(error)
+    if isinstance(error, Refusal) and error.advice:
+        return words, error.advice, False
     if isinstance(error, ImportError):
         return f"{sys.executable}: {error}", "an address needs Samba's module: Debian's package is python3-samba", False
     if code in _LOGGED_IN:
@@ -307,13 +326,15 @@ def why_closed(login: Login, error: Exception) -> Tuple[str, str, bool]:
                        "server has to be named by its full name, not by a number"), False
     if code == _DENIED:
         return words, "ask as a user who may, with --user or --credentials", False
+    if login.scheme == "ldaps":
+        return words, "check the certificate: --ca FILE names its authorities, and its name is the server's", False
     return words, "check the server, the name of the user, and the password", is_of_transport(code)
 
 
 def _why_not_reached(login: Login) -> str:
     """Why a server isn't reached, in words that Samba doesn't have."""
     try:
-        with socket.create_connection((login.server, _PORTS.get(login.scheme, 445)), min(login.timeout / 3, 10)):
+        with socket.create_connection((login.server, PORTS.get(login.scheme, 445)), min(login.timeout / 3, 10)):
             return ""
     except socket.gaierror as error:
         return f"the name {login.server} isn't known ({error.strerror})"

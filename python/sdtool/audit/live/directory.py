@@ -147,13 +147,15 @@ class DirectorySource:
                         names.append(entry.name)
                     elif hash(entry.name) not in self._given:
                         yield from self._objects(entry)
+            if not count and self._query.pattern == _EACH:
+                is_below = self._query.scope == "one"  # where nothing may be
+                shown = [page for page, _ in _search(client, base, "base", _EACH, ["1.1"])] if is_below else []
+                reason = "" if any(shown) else "the server listed nothing, not even the base"
         except Refused as error:
             reason = error.reason
         for name in names:
             if hash(name) not in self._given:
                 yield from self._alone(client, base, name, attributes)
-        if not count and self._query.pattern == _EACH:
-            reason = reason or "the server listed nothing, not even the base"
         if reason:
             yield self._unknown(f"{base}: the rest", reason)
 
@@ -209,6 +211,8 @@ class DirectorySource:
 
     def _said(self, bases: Sequence[str]) -> Iterator[Fact]:
         """What is said of the objects as a whole."""
+        if not self._given:
+            yield Fact(SAID, f"{self._label}: the server lists no such object", "")
         read = {base.lower() for base in bases}
         elsewhere = [one for one in self._referrals
                      if unquote(one.partition("://")[2].partition("/")[2].partition("?")[0]).lower() not in read]

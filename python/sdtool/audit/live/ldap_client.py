@@ -11,7 +11,7 @@ from samba import ntstatus
 from samba.dcerpc import nbt
 from samba.net import Net
 
-from sdtool.audit.live.client import Login, Refusal, pace
+from sdtool.audit.live.client import PORTS, TO_CONNECT, Login, Refusal, pace
 
 _PAGE = 500
 _MOST = 1 << 20  # digits in one answer, but for the last value
@@ -25,6 +25,7 @@ _ANSWERS = (ldb.ERR_TIME_LIMIT_EXCEEDED, ldb.ERR_SIZE_LIMIT_EXCEEDED, ldb.ERR_ST
             ldb.ERR_ADMIN_LIMIT_EXCEEDED, ldb.ERR_UNSUPPORTED_CRITICAL_EXTENSION, ldb.ERR_INAPPROPRIATE_MATCHING,
             ldb.ERR_NO_SUCH_OBJECT, ldb.ERR_INVALID_DN_SYNTAX, ldb.ERR_INSUFFICIENT_ACCESS_RIGHTS,
             ldb.ERR_UNWILLING_TO_PERFORM, ldb.ERR_PROTOCOL_ERROR)
+_ITS_DOMAIN = "name a server (ldap://SERVER), or the user with the domain (NAME@DOMAIN), which DNS has to know"
 _NO_FILTER = "search expression"  # what is said of a filter that can't be parsed
 Entry = Tuple[str, Dict[str, List[str]]]
 
@@ -50,17 +51,20 @@ def opened(login: Login) -> Session:
     parameters, credentials = login.loadparm(), login.credentials()
     if login.scheme == "ldaps":
         if not login.password:
-            raise Refusal(0, "ldaps:// needs a password (--credentials or --user); with a ticket of Kerberos ask "
+            raise Refusal(0, "ldaps:// needs a password", "use --credentials or --user; with a ticket of Kerberos ask "
                           "ldap://, which is sealed too")
         authorities = os.path.abspath(login.ca or _SYSTEM)
         if not os.path.isfile(authorities):
-            raise Refusal(0, f"--ca {authorities}: no such file")
+            raise Refusal(0, f"{authorities}: no such file", "--ca FILE names the authorities of the certificate")
         parameters.set("tls verify peer", "ca_and_name")
         parameters.set("tls cafile", authorities)
         credentials.set_bind_dn(f"{login.domain}\\{login.user}" if login.domain else login.user)
-    address = f"{login.scheme}://{login.server or controller_of(login)}"
+    server = login.server or controller_of(login)
+    if ":" in server:  # a number of IPv6, which Samba reads with a port alone
+        server = f"[{server}]:{PORTS[login.scheme]}"
+    pace(login, TO_CONNECT)
     try:
-        return Session(login, samba.Ldb(address, lp=parameters, credentials=credentials))
+        return Session(login, samba.Ldb(f"{login.scheme}://{server}", lp=parameters, credentials=credentials))
     except ldb.LdbError as error:
         # A name of a server that isn't known is no name of an object.
         found = re.search(r"NT_STATUS_(?!OBJECT)\w+", str(error.args[1]))
@@ -71,10 +75,16 @@ def opened(login: Login) -> Session:
 
 
 def controller_of(login: Login, domain: str = "") -> str:
-    """A domain controller of a domain, or of the ticket's."""
+    """A domain controller of a domain, or of that of who asks."""
     credentials = login.credentials()
-    domain = domain or credentials.get_principal().rpartition("@")[2] or credentials.get_realm()
-    found = Net(credentials, login.loadparm()).finddc(domain=domain, flags=nbt.NBT_SERVER_LDAP | nbt.NBT_SERVER_DS)
+    of_name = login.user.partition("@")[2] or login.domain * ("." in login.domain)
+    domain = domain or of_name or credentials.get_realm() or ""
+    if not domain:
+        raise Refusal(0, "neither the name of the user nor smb.conf (realm) says which domain", _ITS_DOMAIN)
+    try:
+        found = Net(credentials, login.loadparm()).finddc(domain=domain, flags=nbt.NBT_SERVER_LDAP | nbt.NBT_SERVER_DS)
+    except RuntimeError as error:
+        raise Refusal(0, f"no domain controller of {domain} is found: {error.args[-1]}", _ITS_DOMAIN) from error
     return str(found.pdc_dns_name)
 
 

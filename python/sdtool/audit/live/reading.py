@@ -92,7 +92,7 @@ class Reading:
                     self.close()
                     self._losses += 1
                     if self._losses == _MOST_LOSSES:
-                        yield self._rest(str(error))
+                        yield self._rest(f"the server was asked {_MOST_LOSSES} times: {error}")
                         return
                     lost = self._source.skipped() if self._losses == _MOST_LOSSES - 1 else None
                     if lost is not None:
@@ -111,7 +111,7 @@ class Reading:
 
     def _rest(self, reason: str) -> Rest:
         text = self.address.text
-        return Rest(unreadable(f"{text}: the rest", text, 0, f"the server was asked {_MOST_LOSSES} times: {reason}",
+        return Rest(unreadable(f"{text}: the rest", text, 0, reason,
                                "ask again once the server answers; with --into FILE the same command goes on with it"))
 
 

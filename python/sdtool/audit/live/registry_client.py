@@ -5,7 +5,7 @@ from samba import WERRORError
 from samba.dcerpc import winreg
 
 from sdtool.audit.live.address import hive_of
-from sdtool.audit.live.client import READ_CONTROL, Login, each_descriptor, growing, pace, rpc
+from sdtool.audit.live.client import READ_CONTROL, Login, each_descriptor, growing, rpc
 
 _ENUMERATE = 0x8
 _BACKUP = 0x4  # how a key is opened for a backup
@@ -26,7 +26,6 @@ class Session:
 
     def opened(self, hive: str, path: str, mask: int) -> Any:
         """A key, for some rights."""
-        pace(self.login, 4 if path else 2)
         top = self._hives[hive](None, _ENUMERATE if path else mask)
         if not path:
             return top
@@ -63,7 +62,6 @@ def entries(session: Session, hive: str, path: str) -> Iterator[List[List[Any]]]
         name, of_class = winreg.StringBuf(), winreg.StringBuf()
 
         def ask(size: int) -> Any:
-            pace(session.login)
             name.size = of_class.size = size
             return session.pipe.EnumKey(key, number, name, of_class, None)[0]
 
@@ -94,7 +92,6 @@ def descriptors(session: Session, hive: str, paths: List[str], together: int) ->
         data = winreg.KeySecurityData()
 
         def ask(size: int) -> Any:
-            pace(session.login)
             data.size = size
             return session.pipe.GetKeySecurity(key, asked, data)
 

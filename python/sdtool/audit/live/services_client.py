@@ -5,7 +5,7 @@ from typing import Any, Callable, Dict, Iterator, List
 
 from samba.dcerpc import svcctl
 
-from sdtool.audit.live.client import Login, Refusal, each_descriptor, fault_of, growing, is_of_transport, pace, rpc
+from sdtool.audit.live.client import Login, Refusal, each_descriptor, fault_of, growing, is_of_transport, rpc
 
 _ENUMERATE, _CONNECT, _QUERY_CONFIG = 0x4, 0x1, 0x1  # of the manager, and of a service
 _ALL_KINDS, _ALL_STATES = 0x30 | 0x0f, 3  # of services, drivers among them
@@ -21,13 +21,11 @@ class Session:
         self.pipe = rpc(login, svcctl.svcctl)
 
     def manager(self, mask: int) -> Any:
-        pace(self.login, 2)
         return self.pipe.OpenSCManagerW(f"\\\\{self.login.server}", None, mask)
 
     def service(self, name: str, mask: int) -> Any:
         manager = self.manager(_CONNECT)
         try:
-            pace(self.login, 2)
             return self.pipe.OpenServiceW(manager, name, mask)
         finally:
             self.pipe.CloseServiceHandle(manager)
@@ -46,7 +44,6 @@ def entries(session: Session, top: str, path: str) -> Iterator[List[List[Any]]]:
     manager, resume = session.manager(_CONNECT | _ENUMERATE), 0
 
     def ask(size: int) -> Any:
-        pace(session.login)
         return session.pipe.EnumServicesStatusW(manager, _ALL_KINDS, _ALL_STATES, size, resume)
 
     while True:
@@ -75,7 +72,6 @@ def _names(data: bytes, count: int) -> List[str]:
 def _runs(session: Session, name: str) -> List[str]:
     """What a service runs and as whom, or why that isn't known."""
     def ask(size: int) -> Any:
-        pace(session.login)
         return session.pipe.QueryServiceConfigW(handle, size)[0]
 
     try:
@@ -98,7 +94,6 @@ def descriptors(session: Session, top: str, paths: List[str], together: int) -> 
         handle = session.service(path, mask) if path else session.manager(mask)
 
         def ask(size: int) -> Any:
-            pace(session.login)
             return session.pipe.QueryServiceObjectSecurity(handle, asked, size)
 
         try:

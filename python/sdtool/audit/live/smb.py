@@ -4,7 +4,7 @@ from typing import Callable, Iterator
 from sdtool.audit.live.access import Access
 from sdtool.audit.live.address import Address
 from sdtool.audit.live.talking import Client, Refused, bytes_of, value_of
-from sdtool.audit.live.walking import NO_BYTES, Entry, Walk
+from sdtool.audit.live.walking import NO_BYTES, Entry, Walk, no_name_of
 from sdtool.audit.sources.items import Item, bytes_item
 from sdtool.audit.sources.places import Through
 
@@ -43,7 +43,10 @@ class SmbSource(Walk):
             return
         self.end_work()
         for name, kind in reversed(found):
-            self._add_share(name, kind)
+            if self.no_name.search(name):
+                yield self.unread(f"\\\\{self.address.server}\\{name}", *no_name_of(name), "share")
+            else:
+                self._add_share(name, kind)
 
     def _add_share(self, share: str, kind: int) -> None:
         """The share itself, and then what is in it."""

@@ -8,7 +8,8 @@ from samba.dcerpc import srvsvc
 from samba.ndr import ndr_pack
 from samba.samba3 import libsmb_samba_internal as libsmb
 
-from sdtool.audit.live.client import Login, Refusal, each_descriptor, fault_of, pace, rpc, silence
+from sdtool.audit.live.client import (TO_CONNECT, Login, Paced, Refusal, each_descriptor, fault_of, pace, rpc,
+                                      silence)
 
 _READ_ATTRIBUTES = 0x80
 _EVERY_SHARING, _OPEN = 7, 1
@@ -22,30 +23,29 @@ _UNIX = 0x800  # of what a server says that it is
 
 
 class Session:
-    """A server to which this process is logged in, with a connection for each share that was asked about."""
+    """A server to which this process is logged in, with a connection to the share that was asked about last."""
 
     def __init__(self, login: Login) -> None:
         self.login = login
         self._credentials = login.credentials()
         self._files = login.loadparm_of_files()
-        self._shares: Dict[str, Any] = {}
+        self._name, self._share = "", None  # type: str, Any
         self._service: Any = None
 
     def share(self, name: str, is_new: bool = False) -> Any:
-        """The connection to a share."""
-        if is_new or name not in self._shares:
-            self._shares.pop(name, None)
-            pace(self.login, 4)
+        """The connection to a share. That to another one is closed, since nobody asks about it any more."""
+        if is_new or name != self._name:
+            self._name, self._share = "", None
+            pace(self.login, TO_CONNECT)
             found = libsmb.Conn(self.login.server, name, lp=self._files, creds=self._credentials)
             found.settimeout(int(self.login.timeout * 900))  # so that it can say itself that there was no answer
-            self._shares[name] = found
-        return self._shares[name]
+            self._name, self._share = name, Paced(self.login, found)
+        return self._share
 
     def service(self) -> Any:
         """The service that knows of shares."""
         if self._service is None:
             self._service = rpc(self.login, srvsvc.srvsvc)
-        pace(self.login)
         return self._service
 
 
@@ -70,7 +70,6 @@ def opened(login: Login) -> Session:
 def _handle(session: Session, share: Any, path: str, mask: int, options: int = 0) -> int:
     """Opens what is there, and never what it leads to."""
     options |= _REPARSE_POINT | (_BACKUP_INTENT if session.login.backup else 0)
-    pace(session.login, 3)
     handle: int = share.create(Name=path, DesiredAccess=mask, ShareAccess=_EVERY_SHARING, CreateDisposition=_OPEN,
                                CreateOptions=options)
     return handle
@@ -112,7 +111,7 @@ def entries(session: Session, share: str, path: str) -> Iterator[List[Any]]:
     found: List[Dict[str, Any]] = []
     is_cut = False
     for _ in range(2):
-        pace(session.login, 3)
+        pace(session.login, 2)  # a folder is opened and closed too
         connection = session.share(share, is_cut)
         try:
             found = connection.list(path, "*", libsmb.FILE_ATTRIBUTE_ALL_MASK)

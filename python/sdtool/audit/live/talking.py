@@ -36,12 +36,13 @@ class Fact(NamedTuple):
     value: str
 
 
-SAID = "said"  # a kind of facts, whose keys are sentences
+# Kinds of facts whose keys are sentences. What is said of objects holds as long as they are kept.
+SAID, SAID_OF_OBJECTS = "said", "said of objects"
 
 
 def no_sacls(label: str) -> Fact:
     """What is said where descriptors came without the SACLs that were asked for."""
-    return Fact(SAID, f"{label}: SACLs can't be read, which takes the privilege to manage auditing "
+    return Fact(SAID_OF_OBJECTS, f"{label}: SACLs can't be read, which takes the privilege to manage auditing "
                 "(SeSecurityPrivilege)", "")
 
 

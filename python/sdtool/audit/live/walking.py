@@ -19,6 +19,11 @@ NO_BYTES = "the server answers with an empty descriptor"
 _AGAIN = "the client ends each time that it asks for it"
 
 
+def no_name_of(name: str) -> Tuple[str, str]:
+    """Why an object that is listed isn't asked for, and what helps."""
+    return f"the server lists {name!r}, which is no name", "look at the server"
+
+
 class Folder(NamedTuple):
     """A folder of a share or of a hive, by its path there."""
 
@@ -146,7 +151,7 @@ class Walk:
         for name, attributes in found:
             entry = Entry(folder, name, bool(attributes & _FOLDER))
             if self.no_name.search(name):
-                yield self._unknown(entry, f"the server lists {name!r}, which is no name", "look at the server")
+                yield self._unknown(entry, *no_name_of(name))
                 continue
             self._asked.append(entry)
             if attributes & _REPARSE_POINT:

@@ -11,7 +11,7 @@ from typing import Any, Callable, Dict, Iterable, Iterator, List, NamedTuple, Op
 from sdtool.audit import files, stopping
 from sdtool.audit.engine import Answered, Engine
 from sdtool.audit.findings import Answer, unknown, unread
-from sdtool.audit.live.talking import SAID
+from sdtool.audit.live.talking import SAID_OF_OBJECTS
 from sdtool.audit.sources.items import UNREADABLE, Item, unreadable
 from sdtool.audit.sources.opening import OpeningFault
 from sdtool.audit.store.scratch import restored, stored
@@ -34,6 +34,7 @@ CREATE TABLE facts(source NOT NULL, kind TEXT NOT NULL, key NOT NULL, value NOT 
 CREATE INDEX objects_name ON objects(name, source);
 """
 _BEGIN = "BEGIN IMMEDIATE"  # so that no other run can write in between
+_WAITS = 3_600_000  # milliseconds for others who read what is kept so far
 _ASKED = "asked"  # a kind of facts
 _BATCH = 10_000
 _MOST_KNOWN = 500_000  # descriptors whose numbers are kept in memory
@@ -123,29 +124,34 @@ class Asking(_Writer):
     another run that asks the same sources in the same way goes on with it."""
 
     def __init__(self, path: str, paths: Sequence[str], asked: str) -> None:
-        is_new = not os.path.exists(path) or not os.path.getsize(path)
         try:
-            super().__init__(path, _SCHEMA + _ASKING if is_new else "")
-            if is_new:
+            super().__init__(path, "")
+            self._database.execute(f"PRAGMA busy_timeout = {_WAITS}")
+            self.is_new = not self._database.execute("SELECT 1 FROM sqlite_master").fetchone()
+            if self.is_new:  # what another run needs to go on with it is kept before a server is asked
+                for statement in (_SCHEMA + _ASKING).split(";"):
+                    self._database.execute(statement)
                 self._database.executemany("INSERT INTO asking VALUES (NULL, ?, 0, NULL)",
                                            ((stored(one),) for one in paths))
                 self.add_fact("", _ASKED, "", asked)
+                self.keep()
             [(before,)] = self._database.execute("SELECT value FROM facts WHERE kind = ?", (_ASKED,))
             if before != asked:
                 raise OpeningFault(f"--into {path}: the run that has begun it asked {before}, and this one {asked}: "
                                    "ask as it did, or name a new file")
             self._go_on()
         except sqlite3.Error as error:
-            raise OpeningFault(f"--into {path}: {error}") from error
-        self._path = path
+            reason = "another run fills it" if "locked" in str(error) else error
+            raise OpeningFault(f"--into {path}: {reason}") from error
 
     def _go_on(self) -> None:
-        """Takes up what is in the file. What couldn't be read is asked for again, and what was said of the rest
-        holds."""
+        """Takes up what is in the file. What couldn't be read is asked for again, and what was said of the objects that
+        stay holds."""
         query = self._database.execute
         waits = "source IN (SELECT sources.id FROM sources JOIN asking ON source = sources.name WHERE NOT is_whole)"
         query(f"DELETE FROM objects WHERE reason IS NOT NULL AND {waits}")
-        query("DELETE FROM facts WHERE kind != ? AND source IN (SELECT source FROM asking WHERE NOT is_whole)", (SAID,))
+        query("DELETE FROM facts WHERE kind != ? AND source IN (SELECT source FROM asking WHERE NOT is_whole)",
+              (SAID_OF_OBJECTS,))
         query("UPDATE asking SET reason = NULL")
         self._sources = {restored(name): number for number, name in query("SELECT id, name FROM sources")}
         self._objects, = query("SELECT count(*) FROM objects").fetchone()
@@ -289,7 +295,14 @@ def _about(database: sqlite3.Connection, path: str) -> About:
 
 
 def _opened(path: str) -> sqlite3.Connection:
-    return sqlite3.connect(f"file:{_quoted(path)}?mode=ro", uri=True, isolation_level=None)
+    if os.path.exists(f"{path}-journal"):  # of a run that was killed, whose last changes are undone
+        with contextlib.suppress(sqlite3.Error), contextlib.closing(_connected(path, "rw")) as database:
+            database.execute("SELECT 1 FROM sqlite_master")
+    return _connected(path, "ro")
+
+
+def _connected(path: str, mode: str) -> sqlite3.Connection:
+    return sqlite3.connect(f"file:{_quoted(path)}?mode={mode}", uri=True, isolation_level=None)
 
 
 def _quoted(path: str) -> str:
@@ -319,8 +332,8 @@ def require_whole(path: str) -> None:
         pass
     if sources_asked(path):
         raise OpeningFault(f"{path}: the run that makes it hasn't ended")
-    if last is None or last.form == UNREADABLE and last.name.startswith(f"{path}: the rest"):
-        raise OpeningFault(f"{path}: {last.text if last else 'no objects'}")
+    if last is not None and last.form == UNREADABLE and last.name.startswith(f"{path}: the rest"):
+        raise OpeningFault(f"{path}: {last.text}")
 
 
 def _unread(database: sqlite3.Connection, path: str) -> Iterator[Item]:
@@ -351,7 +364,7 @@ def items(path: str) -> Iterator[Item]:
         database.close()
     if count != about.objects:
         yield _lost(path, count, f"the database has {count:,} of its {about.objects:,} objects")
-    elif not count:
+    elif not count and not sources_of(path):  # a server may say that there are none
         yield unreadable(path, path, 0, "the database has no objects", _ADVICE)
 
 
