@@ -217,7 +217,12 @@ def test_first_line(count, page, _):
     usual = "(A;;FA;;;SY)(A;;FR;;;BA)(A;;FR;;;SY)"
     got = page.do(f"{PASTE} each('.trustee').at(-1).{point} return each('.tied', (one) => one.className);",
                   "D:" + "".join(f"(A;;{right};;;WD)" for right in ("FX", "FR") * 5) + usual)
-    count.add(got == ["trustee order-1 tied", "fold tied"], f"the folded ACEs of a trustee: {got}")
+    count.add(got == ["trustee order-2 tied", "fold tied"], f"the folded ACEs of a trustee: {got}")
+    # A long text scrolls in its own box alone.
+    got = page.do(f"{PASTE} return ['lines', 'input'].map((id) => byId(id).scrollHeight > byId(id).clientHeight);",
+                  "O:BAD:" + "".join(f"(A;;{right};;;S-1-5-21-1-2-3-{number})" for number, right in
+                                     zip(range(1100, 1140), ("FX", "FR") * 20)))
+    count.add(got == [True, False], f"whether the text and its column scroll: {got}")
     page.do(PASTE, PROJECTS)
     # What is dropped into a field is the field's, and what is dropped elsewhere is a new text.
     got = page.do("const dataTransfer = new DataTransfer(); dataTransfer.setData('text/plain', given[0]); "
