@@ -190,9 +190,7 @@ class Taking:
         told = one.told or look(fs, one.path)
         if told["type"] != "file":
             return "is a folder, or a link to one" if told["type"] == "directory" else "is not a regular file"
-        beginning = b""
-        if told["size"] or isinstance(fs, LocalFileSystem):  # files of /proc have bytes, and no size
-            beginning = bytes(fs.cat_file(one.path, start=0, end=LONGEST_BEGINNING))[:LONGEST_BEGINNING]
+        beginning = beginning_of(fs, one.path, told["size"])
         kind = kind_of(one.path, beginning)
         if told["size"] == 0 and beginning:
             return "does not tell its size"
@@ -221,3 +219,11 @@ class Taking:
         self.taken.update(dict.fromkeys([answers, *above], number))
         self.inputs.append(given)
         return ""
+
+
+def beginning_of(fs: Any, path: str, size: Optional[int]) -> bytes:
+    """The first bytes of a file. A local one is read though it tells of none, as those of /proc have some."""
+    if isinstance(fs, LocalFileSystem):
+        with open(path, "rb") as file:
+            return file.read(LONGEST_BEGINNING)
+    return bytes(fs.cat_file(path, start=0, end=LONGEST_BEGINNING))[:LONGEST_BEGINNING] if size else b""
