@@ -349,7 +349,10 @@ class Place:
         if is_other:
             return f"{there} a run wrote {'without' if is_parts else 'with'} --parts"
         url = manifest.get("url", given.url)
-        return "" if url == given.url else f"{there} are those of {url}"
+        if url != given.url:
+            return f"{there} are those of {url}"
+        is_folder = self.fs.info(given.answers)["type"] == "directory"
+        return "" if is_folder == is_parts else f"{there} is no {('file', 'folder')[is_parts]}"
 
     def manifest_of(self, folder: str, is_parts: bool) -> Record:
         """What a run wrote of the answers to an input; of parts that stay, whole or not."""
