@@ -208,12 +208,14 @@ def test_nearest(place: Place) -> None:
     ended = place.ask("risks", f"ldap:///{PLANTS}??base", "--to", "jsonl")
     place.expect([one["name"] for one in ended.objects], [PLANTS], f"ldap:///: {ended}")
     # Who has a password and no domain has none that could be asked.
-    bare, wrong = (place.folder / name for name in ("bare.conf", "wrong"))
+    bare, realms, wrong = (place.folder / name for name in ("bare.conf", "krb5.conf", "wrong"))
     bare.write_text("[global]\n")
+    realms.write_text("[libdefaults]\n")
     for user, said in (("gus", "says which domain"), ("gus@nowhere.test", "controller of nowhere.test")):
         wrong.touch(0o600)
         wrong.write_text(f"username = {user}\npassword = {PASSWORD}\n")
-        ended = place.ask("risks", "ldap:///", "--credentials", str(wrong), SMB_CONF_PATH=str(bare))
+        ended = place.ask("risks", "ldap:///", "--credentials", str(wrong), SMB_CONF_PATH=str(bare),
+                          KRB5_CONFIG=str(realms))
         place.expect((ended.status, said in ended.stderr, "NAME@DOMAIN" in ended.stderr, ended.stdout),
                      (2, True, True, ""), f"ldap:/// by {user} and a password: {ended}")
     place.environment = {**place.environment, "KRB5CCNAME": "FILE:/nowhere"}

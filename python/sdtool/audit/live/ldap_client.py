@@ -80,7 +80,7 @@ def controller_of(login: Login, domain: str = "") -> str:
     of_name = login.user.partition("@")[2] or login.domain * ("." in login.domain)
     domain = domain or of_name or credentials.get_realm() or ""
     if not domain:
-        raise Refusal(0, "neither the name of the user nor smb.conf (realm) says which domain", _ITS_DOMAIN)
+        raise Refusal(0, "neither the name of the user nor smb.conf or krb5.conf says which domain", _ITS_DOMAIN)
     try:
         found = Net(credentials, login.loadparm()).finddc(domain=domain, flags=nbt.NBT_SERVER_LDAP | nbt.NBT_SERVER_DS)
     except RuntimeError as error:
