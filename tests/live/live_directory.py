@@ -215,7 +215,7 @@ def test_nearest(place: Place) -> None:
         wrong.touch(0o600)
         wrong.write_text(f"username = {user}\npassword = {PASSWORD}\n")
         ended = place.ask("risks", "ldap:///", "--credentials", str(wrong), SMB_CONF_PATH=str(bare),
-                          KRB5_CONFIG=str(realms))
+                          KRB5_CONFIG=str(realms), KRB5CCNAME="FILE:/nowhere")
         place.expect((ended.status, said in ended.stderr, "NAME@DOMAIN" in ended.stderr, ended.stdout),
                      (2, True, True, ""), f"ldap:/// by {user} and a password: {ended}")
     place.environment = {**place.environment, "KRB5CCNAME": "FILE:/nowhere"}
