@@ -79,7 +79,8 @@ def main(count: preload.Count, arguments: preload.Given) -> None:
                 runners.test(["lies", kind, *of_call], rows, None)
             test_short(runners, kind, lines, choices)
         test_derivations(count, arguments, runners, choices)
-        lines = with_empty("normalize", *[rows_of("normalize", arguments.lines // 4, choices)] * 2, choices)[0]
+        lines = rows_of("normalize", arguments.lines // 4, choices)
+        lines, _ = with_empty("normalize", lines, lines, choices)
         for job in ("whole", "lies"):
             runners.test([job, "check", "-"], lines, None)
         runners.test(["refused", "check", "-"], choices.sample(lines, OF_SMALL), None)
