@@ -34,6 +34,7 @@ PLAN = json.load(open(os.environ["SDTOOL_TEST_PLAN"]))
 BEGUN = PLAN["begun"]
 GONE = PLAN["gone"]
 PACED = []
+LISTED = []
 def trickle():
     """A byte comes now and then, as of an answer that takes long."""
     server = socket.create_server(("127.0.0.1", 0))
@@ -98,12 +99,13 @@ def is_folder(session, share, path):
 def entries(session, share, path):
     if path.endswith("denied"):
         raise OSError(0xc0000022, "Access is denied")
-    if path in GONE:
-        raise OSError(GONE[path], "The folder isn't there.")
+    if path in GONE or path.startswith("unseen"):
+        raise OSError(GONE.get(path, 0xc0000034), "The folder isn't there.")
     if PLAN.get("deep"):
         yield [["d", 16]]
         return
-    found = PLAN["entries"] if not path else []
+    found = [one for one in PLAN["entries"] if not path and (one[0] not in GONE or not LISTED)]
+    LISTED.append(path)
     if PLAN.get("many") and not path:
         for at in range(0, PLAN["many"], 500):
             yield [[f"name {one:030}", 32] for one in range(at, at + 500)]
@@ -146,12 +148,12 @@ def descriptor(session, path):
         trickle()
     while name == "held" and not os.path.exists(BEGUN + ".let go"):
         time.sleep(0.05)
-    if name.startswith("large"):  # each another one
+    if "large" in PLAN and name.startswith("large"):  # each another one
         return PLAN["large"][:-8] + f"{int(name[5:]):08x}"
     if name in ("no sacl", "lost bytes"):
         return next(each_descriptor(session, [path], 1, without_sacl))[0]
-    elif name in GONE:
-        return [GONE[name], "The object isn't there."]
+    elif name in GONE or name.startswith("unseen"):
+        return [GONE.get(name, 0xc0000034), "The object isn't there."]
     elif name == "denied":
         return [0xc0000022, "Access is denied"]
     else:
@@ -283,14 +285,16 @@ def test_answers(place: Place) -> None:
     place.expect(sorted((one["name"], one["answer"]) for one in shares.objects), sorted([*WHOLE.items(), *unknown]),
                  "names of shares")
     of = {"large": descriptor(0x2, 3276), "cut": EVERYTHING[:-8], "none": "", "odd": "0"}
-    ended = place.run(entries=[*([name, 16] for name in GONE), ["denied", 16], ["link", 0x410], *files(*of, "last")],
-                      of=of)
+    unseen = ["unseen", "unseen folder", "unseen folder\\*"]
+    ended = place.run(entries=[*([name, 16] for name in GONE), ["denied", 16], ["link", 0x410], [unseen[1], 16],
+                               *files(unseen[0], *of, "last")], of=of)
     got = answers(ended)
     rest = {name: got.get(f"{TOP_NAME}\\{name}") for name in of}
     place.expect(rest, {"large": "found", "cut": "unknown", "none": "unknown", "odd": "unknown"}, "descriptors")
     place.expect(got.get(f"{TOP_NAME}\\last"), "found", "what comes behind them")
     place.expect({name: answer for name, answer in got.items() if answer == "gone" or "gone" in name},
                  {f"{TOP_NAME}\\{name}": "gone" for name in GONE}, "what goes between list and question")
+    place.expect([got.get(f"{TOP_NAME}\\{name}") for name in unseen], ["unknown"] * 3, "what is listed and not found")
     top = answers(place.run(gone={"": GONE["gone"]}))
     place.expect(top, {TOP_NAME: "found", TOP_NAME + "\\": "unknown"}, "a root that isn't there")
     place.expect((got.get(f"{TOP_NAME}\\denied"), got.get(f"{TOP_NAME}\\denied\\*")), ("unknown", "unknown"),

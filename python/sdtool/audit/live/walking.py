@@ -142,8 +142,9 @@ class Walk:
                     found.append((value_of(str, name), value_of(int, mask)))
                     self.note(name, more)
         except Refused as error:
+            is_gone = error.code in _NOT_FOUND and not self._is_listed(client, folder.top, folder.path)
             work = self.end_work()
-            if error.code not in _NOT_FOUND:
+            if not is_gone:
                 yield work.instead(error.reason, "ask as a user who may list it, or name it as a source")
             return
         self.end_work()
@@ -162,6 +163,29 @@ class Walk:
         for one in reversed(below):
             self._add_folder(one)
 
+    def _is_listed(self, client: Client, top: str, path: str) -> bool:
+        """Whether the server lists an object that it doesn't find: it is there, under a name that it doesn't take or
+        behind too many links."""
+        folder, _, name = path.rpartition("\\")
+        is_listed = False
+        try:
+            for part in client.ask("entries", top, folder) if path else ():
+                is_listed = name in [value_of(str, one[0]) for one in value_of(list, part)] or is_listed
+        except Refused as error:
+            return error.code not in _NOT_FOUND
+        return is_listed
+
+    def _seek(self, client: Client, entry: Entry, reason: str) -> Iterator[Item]:
+        """Looks whether an object that isn't found is gone."""
+        is_listed = self._is_listed(client, entry.folder.top, entry.path)
+        self.end_work()
+        yield self._unknown(entry, f"the server lists it, and says: {reason}", _MAY_READ) if is_listed else \
+            self._unknown(entry, GONE, "")
+
+    def _add_sought(self, entry: Entry, reason: str) -> None:
+        self.add_work(lambda client: self._seek(client, entry, reason),
+                      lambda why, advice: self._unknown(entry, why, advice))
+
     def _read(self, client: Client) -> Iterator[Union[Item, Fact]]:
         """Asks for descriptors of the entries that come next."""
         entries = [self._asked[at] for at in range(min(_ASKED, len(self._asked)))]
@@ -174,7 +198,9 @@ class Walk:
             if at < len(wanted) and entry is wanted[at]:
                 item, at = self._item(entry, next(answers, None)), at + 1
             self._asked.popleft()
-            if item is not None:
+            if isinstance(item, str):
+                self._add_sought(entry, item)
+            elif item is not None:
                 yield item
             if self._lacks_sacls and not lacked_sacls:
                 yield no_sacls(self.address.text)
@@ -182,7 +208,8 @@ class Walk:
             raise Lost("the client answers what wasn't asked")
         self._together = _ANSWERED
 
-    def _item(self, entry: Entry, answer: Any) -> Item:
+    def _item(self, entry: Entry, answer: Any) -> Union[Item, str]:
+        """The object that an answer gives, or why the server doesn't find it."""
         if isinstance(answer, list) and len(answer) == 1:
             self._lacks_sacls, [answer] = True, answer
         if isinstance(answer, str):
@@ -191,6 +218,6 @@ class Walk:
                               self.kind_of(entry), entry.is_folder, self.place()) if data else \
                 self._unknown(entry, NO_BYTES, _MAY_READ)
         code, reason = value_of(list, answer) if len(value_of(list, answer)) == 2 else (None, None)
-        if value_of(int, code) in _NOT_FOUND and entry.folder.path_of(entry.name):
-            return self._unknown(entry, GONE, "")
+        if value_of(int, code) in _NOT_FOUND and entry.path:
+            return value_of(str, reason)
         return self._unknown(entry, value_of(str, reason), _MAY_READ)
