@@ -136,7 +136,8 @@ internal static class Objects
         Refuses<ArgumentNullException>("no list of offsets", () => new Column(data, null));
         Refuses<ArgumentFaultException>("no offset", () => new Column(data, new int[0]).Convert(Conversion.Normalize));
         Refuses<ArgumentFaultException>("a conversion", () => column.Convert((Conversion)3));
-        Refuses<ArgumentFaultException>("no offset", () => new Column(data, new int[0]).Derive(new Sid("BA"), new Sid("SY")));
+        Refuses<ArgumentFaultException>("no offset",
+                                        () => new Column(data, new int[0]).Derive(new Sid("BA"), new Sid("SY")));
         Refuses<ArgumentNullException>("no owner", () => made.Derive(null, new Sid("SY")));
         Refuses<ArgumentFaultException>("a kind", () => made.Derive(new Sid("BA"), new Sid("SY"), (ObjectKind)2));
         Refuses<ArgumentNullException>("no column", () => new Checker(Token.Of("BU"), 1).CheckMany((Column)null));
